@@ -33,7 +33,7 @@ bench:
 # How many calls a second a server on a socket answers, for several numbers of connections and of frames that are written at once,
 # in a new folder, and what those who wait cost: it proves the programs first.
 load:
-	.ci/bin machipcd load
+	.ci/bin machipcd load_client
 	@demo/load
 	@demo/waiting
 

@@ -3,8 +3,8 @@
 
 use crate::Fault;
 use crate::context::{Context, Folder, hundredths, per_second};
-use crate::lines::{Line, Maker, Step, make_steps, steps_of};
-use crate::makers::{Core, STORE, make_checkpoint, open_core, work_all};
+use crate::lines::{CostStep, Line, Maker, make_steps, steps_of};
+use crate::makers::{CostCore, STORE, make_checkpoint, open_core, work_all};
 use crate::messages::send_line;
 use crate::plain::{PAIR, Plain};
 use crate::watched::{Watch, Watched};
@@ -23,9 +23,9 @@ const TURNS: u32 = 14;
 /// measured.
 #[derive(Drop)]
 struct Kind {
-    steps: Vec<Step>,
-    before: Vec<Step>,
-    behind: Vec<Step>,
+    steps: Vec<CostStep>,
+    before: Vec<CostStep>,
+    behind: Vec<CostStep>,
 }
 
 /// Names are allocated in two spaces, since one has at most 4,096; they go with their space.
@@ -87,7 +87,7 @@ fn kind_of(
 }
 
 /// Makes `count` calls, in turn, and returns the last one's ticket.
-fn submit_all<C: Core>(core: &mut C, steps: &[Step], count: u64) -> Result<u64, Fault> {
+fn submit_all<C: CostCore>(core: &mut C, steps: &[CostStep], count: u64) -> Result<u64, Fault> {
     let mut last = 0;
     for index in 0..count {
         let Some(step) = steps.get((index % 2) as usize) else {
@@ -102,7 +102,7 @@ fn submit_all<C: Core>(core: &mut C, steps: &[Step], count: u64) -> Result<u64, 
 }
 
 /// Asks for `count` replies up to a ticket's, each of which has to be of a call that was done.
-fn answer_all<C: Core>(core: &mut C, last: u64, count: u64) -> Result<(), Fault> {
+fn answer_all<C: CostCore>(core: &mut C, last: u64, count: u64) -> Result<(), Fault> {
     let behind = last.saturating_add(1);
     for ticket in behind.saturating_sub(count)..behind {
         if !core.answer(ticket, true) {
@@ -113,10 +113,10 @@ fn answer_all<C: Core>(core: &mut C, last: u64, count: u64) -> Result<(), Fault>
 }
 
 /// Makes `count` calls and stores them as one batch. Returns how long that takes, and how long just the storing takes.
-fn time_batch<C: Core>(
+fn time_batch<C: CostCore>(
     context: &Context<'_>,
     core: &mut C,
-    steps: &[Step],
+    steps: &[CostStep],
     count: u64,
 ) -> Result<(u64, u64), Fault> {
     let start = context.nanos();
@@ -129,10 +129,10 @@ fn time_batch<C: Core>(
 }
 
 /// Makes batches. Returns how long they take, and how long just their storing takes.
-fn time_batches<C: Core>(
+fn time_batches<C: CostCore>(
     context: &Context<'_>,
     core: &mut C,
-    steps: &[Step],
+    steps: &[CostStep],
     size: (u64, u64),
 ) -> Result<(u64, u64), Fault> {
     let (mut whole, mut stored) = (0u64, 0u64);
@@ -147,10 +147,10 @@ fn time_batches<C: Core>(
 /// Makes as many calls as such batches have, and a plain write where each batch would be stored, which is stored after
 /// that. Returns how long the writes take: what comes before a write counts too, so a batch's storing and these writes
 /// come after the same.
-fn time_instead<C: Core>(
+fn time_instead<C: CostCore>(
     context: &Context<'_>,
     core: &mut C,
-    steps: &[Step],
+    steps: &[CostStep],
     size: (u64, u64),
     plain: &mut Plain,
     bytes: u64,
@@ -166,7 +166,7 @@ fn time_instead<C: Core>(
 }
 
 /// One turn, whose times count if they are shorter: batches, plain writes of this many bytes, and pairs of syncs.
-fn time_turn<C: Core + Maker>(
+fn time_turn<C: CostCore + Maker>(
     context: &Context<'_>,
     core: &mut C,
     kind: &Kind,
@@ -190,13 +190,13 @@ fn time_turn<C: Core + Maker>(
 }
 
 /// Removes what a turn made, and its records, of which a journal holds at most 65,536.
-fn end_turn<C: Core + Maker>(core: &mut C, kind: &Kind) -> Result<(), Fault> {
+fn end_turn<C: CostCore + Maker>(core: &mut C, kind: &Kind) -> Result<(), Fault> {
     make_steps(core, &kind.behind)?;
     make_checkpoint(core)
 }
 
 /// The shortest times of all turns.
-fn time_turns<C: Core + Maker>(
+fn time_turns<C: CostCore + Maker>(
     context: &Context<'_>,
     core: &mut C,
     kind: &Kind,
@@ -213,7 +213,7 @@ fn time_turns<C: Core + Maker>(
 }
 
 /// How many bytes a batch of this size adds to the segment.
-fn bytes_of<C: Core + Maker>(
+fn bytes_of<C: CostCore + Maker>(
     context: &Context<'_>,
     core: &mut C,
     watch: &Watch,
@@ -249,7 +249,7 @@ fn print_times(context: &Context<'_>, label: &str, size: (u64, u64), bytes: u64,
 }
 
 /// Measures batches of a kind and a size: how many bytes each has, and the shortest times.
-fn measure<C: Core + Maker>(
+fn measure<C: CostCore + Maker>(
     context: &Context<'_>,
     core: &mut C,
     watch: &Watch,

@@ -62,7 +62,7 @@ impl<'a> Context<'a> {
     /// A figure of this process in kilobytes, as the system gives it after a label; 0 if it doesn't.
     pub(crate) fn memory(&self, label: &str) -> u64 {
         match fs::read_to_string(self.rt, "/proc/self/status") {
-            Ok(status) => figure_behind(status.as_str(), label),
+            Ok(status) => figure_after(status.as_str(), label),
             Err(_) => 0,
         }
     }
@@ -104,8 +104,8 @@ impl<'a> Folder for Context<'a> {
 }
 
 /// The number after the label that a line begins with; 0 if there is none.
-fn figure_behind(text: &str, label: &str) -> u64 {
-    for line in text.lines() {
+fn figure_after(encoding: &str, label: &str) -> u64 {
+    for line in encoding.lines() {
         if let Some(rest) = line.strip_prefix(label) {
             return first_number(rest);
         }

@@ -2,13 +2,13 @@
 
 use crate::Fault;
 use crate::context::Context;
-use crate::turns::{Machine, Placed, Row, print_row};
+use crate::turns::{CostLine, Machine, Placed, print_row};
 use crate::ways::{CLIENT, HERE, NEXT};
 
 /// The calls that are measured.
-static ROWS: [Row<'static>; 10] = [
+static ROWS: [CostLine<'static>; 10] = [
     // A new port, and its end.
-    Row {
+    CostLine {
         label: "",
         parts: &[
             ("allocate", HERE, "allocate receive", 0, 10),
@@ -18,7 +18,7 @@ static ROWS: [Row<'static>; 10] = [
         is_done: true,
     },
     // One more send right under a name, and one less.
-    Row {
+    CostLine {
         label: "",
         parts: &[
             (
@@ -34,7 +34,7 @@ static ROWS: [Row<'static>; 10] = [
         is_done: true,
     },
     // A send-once right under a new name, and its end, for which a notice is sent.
-    Row {
+    CostLine {
         label: "",
         parts: &[
             (
@@ -62,7 +62,7 @@ static ROWS: [Row<'static>; 10] = [
         rounds: 100,
         is_done: true,
     },
-    Row {
+    CostLine {
         label: "",
         parts: &[
             ("space_create", HERE, "space_create 0x100 make_send", 0, 1),
@@ -72,7 +72,7 @@ static ROWS: [Row<'static>; 10] = [
         rounds: 500,
         is_done: true,
     },
-    Row {
+    CostLine {
         label: "",
         parts: &[
             (
@@ -87,7 +87,7 @@ static ROWS: [Row<'static>; 10] = [
         rounds: 200,
         is_done: true,
     },
-    Row {
+    CostLine {
         label: "",
         parts: &[
             ("", HERE, "allocate receive", 0, 1),
@@ -104,7 +104,7 @@ static ROWS: [Row<'static>; 10] = [
         is_done: true,
     },
     // Calls that undo what was done, or change nothing.
-    Row {
+    CostLine {
         label: "",
         parts: &[
             ("mod_refs, one more", HERE, "mod_refs 0x100 send 1", 0, 10),
@@ -149,7 +149,7 @@ static ROWS: [Row<'static>; 10] = [
         rounds: 100,
         is_done: true,
     },
-    Row {
+    CostLine {
         label: "",
         parts: &[
             ("refused allocate", HERE, "allocate 9", 0, 10),
@@ -214,14 +214,14 @@ static ROWS: [Row<'static>; 10] = [
         is_done: false,
     },
     // This grows with the names.
-    Row {
+    CostLine {
         label: "",
         parts: &[("names of the space", HERE, "names", 0, 1)],
         rounds: 20,
         is_done: true,
     },
     // A row of its own, since a walk over 4,096 names leaves little else in the processor's cache.
-    Row {
+    CostLine {
         label: "",
         parts: &[("names of 2 names", CLIENT, "names", 0, 10)],
         rounds: 100,

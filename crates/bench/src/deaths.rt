@@ -2,7 +2,7 @@
 
 use crate::Fault;
 use crate::context::Context;
-use crate::turns::{Machine, Placed, Row, print_row};
+use crate::turns::{CostLine, Machine, Placed, print_row};
 use crate::ways::HERE;
 
 /// Deaths that are measured: how many holders there are, each a name with a send-once right; for how many of these a
@@ -43,7 +43,7 @@ fn print_death<M: Machine>(
         ("", HERE, "destroy #", 0x3000, holders),
         ("", HERE, "destroy 0x301", 0, 1),
     ];
-    let row = Row {
+    let row = CostLine {
         label: "",
         parts: &parts,
         rounds,

@@ -3,7 +3,7 @@
 use crate::Fault;
 use crate::context::Context;
 use crate::lines::Maker;
-use crate::makers::{Core, ROLL, Work, open_core, work_all};
+use crate::makers::{CostCore, ROLL, Work, open_core, work_all};
 use crate::openings::shortest_opening;
 use crate::states::{LEAST, Shape, make_state};
 use disk::{Disk, Slot};
@@ -93,7 +93,7 @@ const LONGEST: Parts = Parts {
 };
 
 /// How long work takes, which has to be done.
-fn time_work<C: Core>(context: &Context<'_>, core: &mut C, work: Work) -> Result<u64, Fault> {
+fn time_work<C: CostCore>(context: &Context<'_>, core: &mut C, work: Work) -> Result<u64, Fault> {
     let start = context.nanos();
     if !core.work(work) {
         return Err(Fault::Store);
@@ -102,7 +102,7 @@ fn time_work<C: Core>(context: &Context<'_>, core: &mut C, work: Work) -> Result
 }
 
 /// Writes the image's pieces: how many they are, and how long the slowest one takes.
-fn time_pieces<C: Core>(context: &Context<'_>, core: &mut C) -> (u64, u64) {
+fn time_pieces<C: CostCore>(context: &Context<'_>, core: &mut C) -> (u64, u64) {
     let (mut pieces, mut slowest) = (0u64, 0u64);
     for _ in 0..u64::MAX {
         let start = context.nanos();
@@ -116,7 +116,7 @@ fn time_pieces<C: Core>(context: &Context<'_>, core: &mut C) -> (u64, u64) {
 }
 
 /// Makes a whole checkpoint, whose times count if they are shorter.
-fn time_checkpoint<C: Core>(
+fn time_checkpoint<C: CostCore>(
     context: &Context<'_>,
     core: &mut C,
     least: Parts,
@@ -137,7 +137,7 @@ fn time_checkpoint<C: Core>(
 }
 
 /// Makes a state and its checkpoints, and returns the shortest time of each part.
-fn time_parts<C: Core + Maker>(
+fn time_parts<C: CostCore + Maker>(
     context: &Context<'_>,
     core: &mut C,
     shape: Shape,

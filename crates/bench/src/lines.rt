@@ -17,7 +17,7 @@ pub(crate) trait Maker {
 
 /// A call of a task of a space.
 #[derive(Drop)]
-pub(crate) struct Step {
+pub(crate) struct CostStep {
     pub(crate) space: u32,
     pub(crate) call: Call,
 }
@@ -35,7 +35,7 @@ pub(crate) fn call_of(alloc: Global, line: &str, number: u32) -> Result<Call, Fa
         return read_line(alloc, line);
     };
     match format!(in alloc; "{front}{number}{behind}") {
-        Ok(text) => read_line(alloc, text.as_str()),
+        Ok(encoding) => read_line(alloc, encoding.as_str()),
         Err(_) => Err(Fault::Memory),
     }
 }
@@ -62,9 +62,9 @@ pub(crate) fn make_line<M: Maker>(
     maker: &mut M,
     line: Line<'_>,
 ) -> Result<(), Fault> {
-    let (space, text, first, count) = line;
+    let (space, encoding, first, count) = line;
     for number in first..first.saturating_add(count) {
-        make_once(alloc, maker, space, text, number)?;
+        make_once(alloc, maker, space, encoding, number)?;
     }
     Ok(())
 }
@@ -82,11 +82,11 @@ pub(crate) fn make_lines<M: Maker>(
 }
 
 /// Adds the calls of a line.
-fn push_steps(alloc: Global, steps: &mut Vec<Step>, line: Line<'_>) -> Result<(), Fault> {
-    let (space, text, first, count) = line;
+fn push_steps(alloc: Global, steps: &mut Vec<CostStep>, line: Line<'_>) -> Result<(), Fault> {
+    let (space, encoding, first, count) = line;
     for number in first..first.saturating_add(count) {
-        let call = call_of(alloc, text, number)?;
-        if steps.push(Step { space, call }).is_err() {
+        let call = call_of(alloc, encoding, number)?;
+        if steps.push(CostStep { space, call }).is_err() {
             return Err(Fault::Memory);
         }
     }
@@ -94,7 +94,7 @@ fn push_steps(alloc: Global, steps: &mut Vec<Step>, line: Line<'_>) -> Result<()
 }
 
 /// The calls of lines.
-pub(crate) fn steps_of(alloc: Global, lines: &[Line<'_>]) -> Result<Vec<Step>, Fault> {
+pub(crate) fn steps_of(alloc: Global, lines: &[Line<'_>]) -> Result<Vec<CostStep>, Fault> {
     let mut steps = Vec::new(alloc);
     for line in lines {
         push_steps(alloc, &mut steps, *line)?;
@@ -103,7 +103,7 @@ pub(crate) fn steps_of(alloc: Global, lines: &[Line<'_>]) -> Result<Vec<Step>, F
 }
 
 /// Makes calls, each of which has to be done.
-pub(crate) fn make_steps<M: Maker>(maker: &mut M, steps: &[Step]) -> Result<(), Fault> {
+pub(crate) fn make_steps<M: Maker>(maker: &mut M, steps: &[CostStep]) -> Result<(), Fault> {
     for step in steps {
         if !maker.make(step.space, &step.call, true) {
             return Err(Fault::Call);

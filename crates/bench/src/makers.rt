@@ -39,7 +39,7 @@ pub(crate) enum Work {
 }
 
 /// A core that stores calls.
-pub(crate) trait Core {
+pub(crate) trait CostCore {
     /// Makes a call, and returns its ticket; `None` if it wasn't made.
     fn submit_call(&mut self, space: u32, call: &Call) -> Option<u64>;
 
@@ -66,7 +66,7 @@ fn event_of(work: Work) -> Event {
     }
 }
 
-impl<D: Disk> Core for System<D> {
+impl<D: Disk> CostCore for System<D> {
     fn submit_call(&mut self, space: u32, call: &Call) -> Option<u64> {
         self.submit(space, call).ok()
     }
@@ -106,7 +106,7 @@ static BEGIN: [Work; 5] = [
 static END: [Work; 2] = [Work::Finish, Work::Durable];
 
 /// Does pieces of work, each of which has to be done.
-pub(crate) fn work_all<C: Core>(core: &mut C, works: &[Work]) -> Result<(), Fault> {
+pub(crate) fn work_all<C: CostCore>(core: &mut C, works: &[Work]) -> Result<(), Fault> {
     for work in works {
         if !core.work(*work) {
             return Err(Fault::Store);
@@ -116,7 +116,7 @@ pub(crate) fn work_all<C: Core>(core: &mut C, works: &[Work]) -> Result<(), Faul
 }
 
 /// Makes a whole checkpoint.
-pub(crate) fn make_checkpoint<C: Core>(core: &mut C) -> Result<(), Fault> {
+pub(crate) fn make_checkpoint<C: CostCore>(core: &mut C) -> Result<(), Fault> {
     work_all(core, &BEGIN)?;
     for _ in 0..u64::MAX {
         if !core.work(Work::Piece) {
@@ -127,7 +127,7 @@ pub(crate) fn make_checkpoint<C: Core>(core: &mut C) -> Result<(), Fault> {
 }
 
 /// Makes a call. If the epoch log is full, a checkpoint is made before.
-fn submit<C: Core>(core: &mut C, space: u32, call: &Call) -> Result<u64, Fault> {
+fn submit<C: CostCore>(core: &mut C, space: u32, call: &Call) -> Result<u64, Fault> {
     if let Some(ticket) = core.submit_call(space, call) {
         return Ok(ticket);
     }
@@ -137,7 +137,7 @@ fn submit<C: Core>(core: &mut C, space: u32, call: &Call) -> Result<u64, Fault> 
 
 /// Makes a call that has a record, stores it and asks for its reply. Returns whether it was done, or refused if that is
 /// expected.
-fn make_stored<C: Core>(core: &mut C, space: u32, call: &Call, is_done: bool) -> bool {
+fn make_stored<C: CostCore>(core: &mut C, space: u32, call: &Call, is_done: bool) -> bool {
     let Ok(ticket) = submit(core, space, call) else {
         return false;
     };

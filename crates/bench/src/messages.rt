@@ -2,7 +2,7 @@
 
 use crate::Fault;
 use crate::context::Context;
-use crate::turns::{Machine, Placed, Row, print_row};
+use crate::turns::{CostLine, Machine, Placed, print_row};
 use crate::ways::{CLIENT, HERE};
 use std::alloc::{AllocError, Global};
 
@@ -21,8 +21,8 @@ static MESSAGES: [(&str, u32, u32, u64); 8] = [
 
 /// Messages of 24 bytes to the port at which messages wait in one of the ways; and a request with a right for the
 /// reply, its receive, the reply, and its receive.
-static SMALL: [Row<'static>; 2] = [
-    Row {
+static SMALL: [CostLine<'static>; 2] = [
+    CostLine {
         label: "24 bytes, where messages wait",
         parts: &[
             ("", HERE, "send make_send_once 0x10b id 7", 0, 1),
@@ -31,7 +31,7 @@ static SMALL: [Row<'static>; 2] = [
         rounds: 500,
         is_done: true,
     },
-    Row {
+    CostLine {
         label: "a request, its receipt, the reply, its receipt",
         parts: &[
             (
@@ -108,7 +108,7 @@ fn print_message<M: Machine>(
         ("", HERE, line, 0, 5),
         ("", HERE, "receive 0x100 limit 8192", 0, 5),
     ];
-    let row = Row {
+    let row = CostLine {
         label,
         parts: &parts,
         rounds,

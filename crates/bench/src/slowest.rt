@@ -143,13 +143,13 @@ fn time_rounds<C: Caller>(
     idle: &mut Both,
     under_way: &mut Both,
 ) -> Result<(), Fault> {
-    let mut is_behind_step = false;
+    let mut is_after_step = false;
     for _ in 0..MOST_CALLS {
         let round = time_round(context, caller, watch)?;
-        if is_behind_step && !round.is_step {
+        if is_after_step && !round.is_step {
             return Ok(());
         }
-        if is_behind_step {
+        if is_after_step {
             under_way.calls.add(round.call);
         } else {
             idle.calls.add(round.call);
@@ -159,7 +159,7 @@ fn time_rounds<C: Caller>(
         } else {
             idle.rests.add(round.rest);
         }
-        is_behind_step = round.is_step;
+        is_after_step = round.is_step;
     }
     Err(Fault::Store)
 }

@@ -69,7 +69,7 @@ const NOTHING: Most = Most {
 };
 
 /// The bytes after a reply with code 0.
-fn behind_done(replies: &[u8]) -> Option<&[u8]> {
+fn after_done(replies: &[u8]) -> Option<&[u8]> {
     let (length, reply) = take_word(replies)?;
     let (_, results) = take_word(reply)?;
     let (code, _) = take_word(results)?;
@@ -83,7 +83,7 @@ fn behind_done(replies: &[u8]) -> Option<&[u8]> {
 fn are_done(replies: &[u8], count: u64) -> bool {
     let mut rest = replies;
     for _ in 0..count {
-        match behind_done(rest) {
+        match after_done(rest) {
             Some(behind) => rest = behind,
             None => return false,
         }

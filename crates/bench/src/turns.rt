@@ -2,8 +2,8 @@
 
 use crate::Fault;
 use crate::context::{Context, hundredths};
-use crate::lines::{Maker, Step, steps_of};
-use crate::ways::{ALL_WAYS, Beside, NEXT, WAYS};
+use crate::lines::{CostStep, Maker, steps_of};
+use crate::ways::{ALL_WAYS, Alongside, NEXT, WAYS};
 use std::alloc::Global;
 
 /// How many parts a row has at most.
@@ -19,7 +19,7 @@ pub(crate) type Part<'a> = (&'a str, u32, &'a str, u32, u32);
 /// Parts that together leave the state as it was: what they are together, or nothing if that isn't printed; how many
 /// times they are made in a turn, and whether they are done or refused.
 #[derive(Clone, Copy)]
-pub(crate) struct Row<'a> {
+pub(crate) struct CostLine<'a> {
     pub(crate) label: &'a str,
     pub(crate) parts: &'a [Part<'a>],
     pub(crate) rounds: u64,
@@ -42,12 +42,12 @@ pub(crate) struct Placed<M> {
 /// The nanoseconds of the parts of a row.
 type Nanos = [u64; MOST_PARTS];
 
-fn place<M: Machine + Drop>(alloc: Global, beside: Beside) -> Result<Placed<M>, Fault> {
+fn place<M: Machine + Drop>(alloc: Global, alongside: Alongside) -> Result<Placed<M>, Fault> {
     let Some(mut machine) = M::opened(alloc) else {
         return Err(Fault::Memory);
     };
-    beside.make(alloc, &mut machine)?;
-    let next_space = beside.next_space();
+    alongside.make(alloc, &mut machine)?;
+    let next_space = alongside.next_space();
     Ok(Placed {
         machine,
         next_space,
@@ -60,8 +60,8 @@ pub(crate) fn place_all<M: Machine + Drop>(
     most_names: u32,
 ) -> Result<Vec<Placed<M>>, Fault> {
     let mut machines = Vec::new(alloc);
-    for beside in &ALL_WAYS {
-        let placed = place(alloc, beside.with_names(most_names))?;
+    for alongside in &ALL_WAYS {
+        let placed = place(alloc, alongside.with_names(most_names))?;
         if machines.push(placed).is_err() {
             return Err(Fault::Memory);
         }
@@ -70,7 +70,7 @@ pub(crate) fn place_all<M: Machine + Drop>(
 }
 
 /// The calls of each part.
-fn parts_of(alloc: Global, row: &Row<'_>) -> Result<Vec<Vec<Step>>, Fault> {
+fn parts_of(alloc: Global, row: &CostLine<'_>) -> Result<Vec<Vec<CostStep>>, Fault> {
     let mut parts = Vec::new(alloc);
     for (_, space, line, first, count) in row.parts {
         let steps = steps_of(alloc, &[(*space, *line, *first, *count)])?;
@@ -85,7 +85,7 @@ fn parts_of(alloc: Global, row: &Row<'_>) -> Result<Vec<Vec<Step>>, Fault> {
 fn time_steps<M: Machine>(
     context: &Context<'_>,
     placed: &mut Placed<M>,
-    steps: &[Step],
+    steps: &[CostStep],
     is_done: bool,
 ) -> Result<u64, Fault> {
     let start = context.nanos();
@@ -106,7 +106,7 @@ fn time_steps<M: Machine>(
 fn time_round<M: Machine>(
     context: &Context<'_>,
     placed: &mut Placed<M>,
-    parts: &[Vec<Step>],
+    parts: &[Vec<CostStep>],
     is_done: bool,
     sums: &mut Nanos,
 ) -> Result<(), Fault> {
@@ -121,8 +121,8 @@ fn time_round<M: Machine>(
 fn time_turn<M: Machine>(
     context: &Context<'_>,
     placed: &mut Placed<M>,
-    parts: &[Vec<Step>],
-    row: &Row<'_>,
+    parts: &[Vec<CostStep>],
+    row: &CostLine<'_>,
 ) -> Result<Nanos, Fault> {
     let mut sums = [0; MOST_PARTS];
     for _ in 0..row.rounds {
@@ -142,8 +142,8 @@ fn lower(least: &mut Nanos, nanos: &Nanos) {
 fn time_ways<M: Machine>(
     context: &Context<'_>,
     machines: &mut [Placed<M>],
-    parts: &[Vec<Step>],
-    row: &Row<'_>,
+    parts: &[Vec<CostStep>],
+    row: &CostLine<'_>,
     least: &mut [Nanos; WAYS],
 ) -> Result<(), Fault> {
     for (placed, shortest) in machines.iter_mut().zip(least.iter_mut()) {
@@ -157,7 +157,7 @@ fn time_ways<M: Machine>(
 fn time_row<M: Machine>(
     context: &Context<'_>,
     machines: &mut [Placed<M>],
-    row: &Row<'_>,
+    row: &CostLine<'_>,
 ) -> Result<[Nanos; WAYS], Fault> {
     let parts = parts_of(context.alloc, row)?;
     let mut least = [[u64::MAX; MOST_PARTS]; WAYS];
@@ -205,7 +205,7 @@ fn print_times(context: &Context<'_>, label: &str, count: u64, times: &[u64; WAY
 pub(crate) fn print_row<M: Machine>(
     context: &Context<'_>,
     machines: &mut [Placed<M>],
-    row: &Row<'_>,
+    row: &CostLine<'_>,
     count: u64,
 ) -> Result<(), Fault> {
     let least = time_row(context, machines, row)?;

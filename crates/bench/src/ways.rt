@@ -32,14 +32,14 @@ static BASE: [Line<'static>; 8] = [
 /// What is made in addition: more spaces, with a send right each to the port 0x100; ports in each of the first four of
 /// them; dead names in the space of the calls; and messages in the queue of the port 0x10b.
 #[derive(Clone, Copy)]
-pub(crate) struct Beside {
+pub(crate) struct Alongside {
     spaces: u32,
     ports: u32,
     names: u32,
     messages: u32,
 }
 
-const LITTLE: Beside = Beside {
+const LITTLE: Alongside = Alongside {
     spaces: 0,
     ports: 0,
     names: 0,
@@ -48,36 +48,36 @@ const LITTLE: Beside = Beside {
 
 /// The ways: the small state, 16,000 ports, 4,096 names but for ten, 255 spaces, which leaves room for one, and 1,000
 /// messages.
-pub(crate) static ALL_WAYS: [Beside; WAYS] = [
+pub(crate) static ALL_WAYS: [Alongside; WAYS] = [
     LITTLE,
-    Beside {
+    Alongside {
         spaces: 4,
         ports: 4_000,
         ..LITTLE
     },
-    Beside {
+    Alongside {
         names: 4_073,
         ..LITTLE
     },
-    Beside {
+    Alongside {
         spaces: 253,
         ..LITTLE
     },
-    Beside {
+    Alongside {
         messages: 1_000,
         ..LITTLE
     },
 ];
 
-impl Beside {
+impl Alongside {
     /// The number of the space that is made next.
     pub(crate) fn next_space(&self) -> u32 {
         self.spaces.saturating_add(3)
     }
 
     /// The same with at most this many names.
-    pub(crate) fn with_names(self, most: u32) -> Beside {
-        Beside {
+    pub(crate) fn with_names(self, most: u32) -> Alongside {
+        Alongside {
             names: self.names.min(most),
             ..self
         }

@@ -4,8 +4,8 @@ use Rattle.codes.specs.declared.call_number.TheConstants.{MACH_MSG}
 use Rattle.codes.specs.declared.kern_return.KernReturn.TheVariants.{Success, InvalidArgument}
 use Rattle.ipc_model.specs.declared.call.Call.{Call}
 use Rattle.ipc_model.specs.calls.Step.{number_of_call}
-use Rattle.ipc_laws.specs.TextReading.{number-fits}
-use Rattle.ipc_model.specs.texts.Texts.{call_text, arguments_text}
+use Rattle.ipc_laws.specs.EncodingReading.{number-fits}
+use Rattle.ipc_model.specs.encodings.Encodings.{call_encoding, arguments_encoding}
 use Rattle.words.specs.WordLaws.{same_word}
 use Rattle.words.specs.Words.{word}
 use Rattle.calls.specs.declared.request.CallFault.{CallFault}
@@ -30,7 +30,7 @@ never_one : (c : Call) (m : MachMsg) → request.One c ≡ asked m → ⊥
 never_one c m = of_asked (λ r. request.One c ≡ r → ⊥) m (λ e. cc) (λ e. cc) (λ e. cc)
 
 front_of : (content arguments : List ℕ) (q : Request) → content ≡ word MACH_MSG ++ arguments → AsksMachMsg arguments q → Asks content q
-front_of content arguments (request.One c) is (m, fits, spelled, e) = absurd (never_one c m e)
+front_of content arguments (request.One c) is (m, fits, encoded, e) = absurd (never_one c m e)
 front_of content arguments (request.Message m) is asks = (arguments, is, asks)
 front_of content arguments (request.Answered code) is asks = (arguments, is, asks)
 
@@ -39,16 +39,16 @@ pub asks_in_front : (content arguments : List ℕ) (r : Result Request CallFault
 asks_in_front content arguments (Ok q) is asks = front_of content arguments q is asks
 asks_in_front content arguments (Err e) is asks = tt
 
-not_one : (content arguments : List ℕ) (c : Call) → content ≡ word MACH_MSG ++ arguments → number_of_call c ≢ MACH_MSG → content ≡ call_text c → ⊥
-unfolding call_text
-not_one content arguments c is other text = other (same_word (number_of_call c) MACH_MSG (arguments_text c) arguments (number-fits c) (omega arith) (sym text ∙ is))
+not_one : (content arguments : List ℕ) (c : Call) → content ≡ word MACH_MSG ++ arguments → number_of_call c ≢ MACH_MSG → content ≡ call_encoding c → ⊥
+unfolding call_encoding
+not_one content arguments c is other encoding = other (same_word (number_of_call c) MACH_MSG (arguments_encoding c) arguments (number-fits c) (omega arith) (sym encoding ∙ is))
 
 behind : (arguments others : List ℕ) (q : Request) → word MACH_MSG ++ arguments ≡ word MACH_MSG ++ others → AsksMachMsg others q → AsksMachMsg arguments q
 behind arguments others q same asks = let e : others ≡ arguments = ap (λ (l : List ℕ). drop 4 l) (sym same) in subst (λ (l : List ℕ). AsksMachMsg l q) e asks
 
 -- and what its frame asks for, they ask for
-pub asks_behind : (content arguments : List ℕ) (r : Result Request CallFault) → content ≡ word MACH_MSG ++ arguments
+pub asks_after : (content arguments : List ℕ) (r : Result Request CallFault) → content ≡ word MACH_MSG ++ arguments
     → ((q : Request) → AsksMachMsg arguments q → (r ≡ Ok q) ⊎ (r ≡ Err NoMemory)) → (q : Request) → Asks content q → (r ≡ Ok q) ⊎ (r ≡ Err NoMemory)
-asks_behind content arguments r is only (request.One c) (other, fits, text) = absurd (not_one content arguments c is other text)
-asks_behind content arguments r is only (request.Message m) (others, text, asks) = only (request.Message m) (behind arguments others (request.Message m) (sym is ∙ text) asks)
-asks_behind content arguments r is only (request.Answered code) (others, text, asks) = only (request.Answered code) (behind arguments others (request.Answered code) (sym is ∙ text) asks)
+asks_after content arguments r is only (request.One c) (other, fits, encoding) = absurd (not_one content arguments c is other encoding)
+asks_after content arguments r is only (request.Message m) (others, encoding, asks) = only (request.Message m) (behind arguments others (request.Message m) (sym is ∙ encoding) asks)
+asks_after content arguments r is only (request.Answered code) (others, encoding, asks) = only (request.Answered code) (behind arguments others (request.Answered code) (sym is ∙ encoding) asks)

@@ -4,4 +4,4 @@ mod Masks
 mod Messages
 mod Options
 mod Replies
-mod Spelled
+mod Encoded

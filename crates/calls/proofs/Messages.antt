@@ -7,8 +7,8 @@ use Rattle.codes.specs.declared.call_number.TheConstants.{MACH_MSG}
 use Rattle.ipc_model.specs.declared.call.Call.{Call}
 use Rattle.ipc_model.specs.declared.call.Call.TheVariants as call
 use Rattle.ipc_model.specs.calls.Step.{number_of_call}
-use Rattle.ipc_model.specs.texts.Texts.{arguments_text, receive_option, number_of_bool, IsKeptCall}
-use Rattle.ipc_model.specs.messages.Kept.{kept_message}
+use Rattle.ipc_model.specs.encodings.Encodings.{arguments_encoding, receive_option, number_of_bool, IsCanonicalCall}
+use Rattle.ipc_model.specs.messages.Kept.{canonical_message}
 use Rattle.words.specs.Words.{AreBytes, word}
 use Rattle.calls.proofs.Masks.{at_drop}
 
@@ -28,14 +28,14 @@ pub other_bytes : (xs ys : List ℕ) (differ : Bool) → differ ≡ not (pointwi
 other_bytes xs ys differ is some same = false_of_not (pointwise eqb xs ys) (sym is ∙ some) ((slice_eq-Decides Decides-eqb xs ys (pointwise eqb xs ys) refl).1 same)
 
 -- what follows bytes is bytes
-pub bytes_behind : (bytes behind : List ℕ) (n : ℕ) → AreBytes bytes → drop n bytes ≡ behind → AreBytes behind
-bytes_behind bytes behind n are is i =
+pub bytes_after : (bytes behind : List ℕ) (n : ℕ) → AreBytes bytes → drop n bytes ≡ behind → AreBytes behind
+bytes_after bytes behind n are is i =
     subst (λ (l : List ℕ). slice_index l i < 256) is (subst (λ (k : ℕ). k < 256) (sym (at_drop n bytes i)) (are (n + i)))
 
 -- after the option of a receive comes a receive
 pub only_receipt : (large : Bool) (words : List ℕ) (r : Option Call)
     → ((limit name : ℕ) (waited : Bool) → limit < 2 ^ 32 → name < 2 ^ 32 → words ≡ word limit ++ (word name ++ word (number_of_bool waited)) → r ≡ Some (call.Receive limit large name waited))
-    → (c : Call) → IsKeptCall c → number_of_call c ≡ MACH_MSG → word (receive_option large) ++ words ≡ arguments_text c → r ≡ Some c
+    → (c : Call) → IsCanonicalCall c → number_of_call c ≡ MACH_MSG → word (receive_option large) ++ words ≡ arguments_encoding c → r ≡ Some c
 only_receipt true words r only (call.Send message) fits number is = absurd cc
 only_receipt false words r only (call.Send message) fits number is = absurd cc
 only_receipt true words r only (call.Receive limit true name waited) fits number is = only limit name waited fits.fits.0 fits.fits.1 (ap (λ (l : List ℕ). drop 4 l) is)
@@ -49,6 +49,6 @@ message_of : Call → List ℕ
 message_of (call.Send message) = message
 message_of c = []
 
-pub kept_same : (message : List ℕ) → IsKeptCall (call.Send message) → kept_message message ≡ message
+pub kept_same : (message : List ℕ) → IsCanonicalCall (call.Send message) → canonical_message message ≡ message
 unfolding message_of
 kept_same message is = ap message_of is.kept

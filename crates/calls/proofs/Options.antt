@@ -6,12 +6,12 @@ use Rattle.codes.specs.MessageOptions.{option_rows}
 use Rattle.ipc_model.specs.declared.call.Call.{Call}
 use Rattle.ipc_model.specs.declared.call.Call.TheVariants as call
 use Rattle.ipc_model.specs.calls.Step.{number_of_call}
-use Rattle.ipc_model.specs.texts.Texts.{arguments_text}
+use Rattle.ipc_model.specs.encodings.Encodings.{arguments_encoding}
 use Rattle.words.specs.WordLaws.{same_word}
 use Rattle.words.specs.Words.{word}
 
 -- each of them is known
-pub known_option : (option : ℕ) (words : List ℕ) (c : Call) → option < 2 ^ 32 → number_of_call c ≡ MACH_MSG → word option ++ words ≡ arguments_text c
+pub known_option : (option : ℕ) (words : List ℕ) (c : Call) → option < 2 ^ 32 → number_of_call c ≡ MACH_MSG → word option ++ words ≡ arguments_encoding c
     → bit_and option (known_bits option_rows) ≡ option
 unfolding known_from
 known_option option words (call.Send message) fits number is =

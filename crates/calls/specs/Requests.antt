@@ -5,7 +5,7 @@ use Rattle.codes.specs.declared.kern_return.KernReturn.TheVariants.{Success, Inv
 use Rattle.ipc_model.specs.declared.call.Call.{Call}
 use Rattle.ipc_model.specs.declared.call.Call.TheVariants as call
 use Rattle.ipc_model.specs.calls.Step.{number_of_call}
-use Rattle.ipc_model.specs.texts.Texts.{call_text, FitsCall}
+use Rattle.ipc_model.specs.encodings.Encodings.{call_encoding, FitsCall}
 use Rattle.words.specs.Words.{AreBytes, word}
 use Rattle.calls.specs.declared.request.MessageRequest.{MessageRequest}
 use Rattle.calls.specs.declared.request.Request.{Request}
@@ -83,7 +83,7 @@ AsksMachMsg arguments asks = (m : MachMsg) × FitsMachMsg m × (arguments ≡ ma
 
 -- A frame of this content asks for this.
 abbrev pub Asks : List ℕ → Request → Type 0
-Asks content (request.One c) = (number_of_call c ≢ MACH_MSG) × FitsCall c × (content ≡ call_text c)
+Asks content (request.One c) = (number_of_call c ≢ MACH_MSG) × FitsCall c × (content ≡ call_encoding c)
 Asks content asks = (arguments : List ℕ) × (content ≡ word MACH_MSG ++ arguments) × AsksMachMsg arguments asks
 
 -- the arguments of a mach_msg that sends

@@ -4,5 +4,5 @@ use Rattle.ipc_model.specs.declared.call.NamedType.{NamedType}
 use Rattle.words.specs.Words.{word}
 
 -- the encoding of names with their type bits
-abbrev pub names_text : List NamedType → List ℕ
-names_text names = flat_map (λ (n : NamedType). word n.name ++ word n.bits) names
+abbrev pub names_encoding : List NamedType → List ℕ
+names_encoding names = flat_map (λ (n : NamedType). word n.name ++ word n.bits) names

@@ -1,7 +1,7 @@
 ghost use Rattle.std.specs.Prelude.{◌≡◌, ◌≢◌, ◌++◌, IfSome, IfNone, Some, []};
 ghost use Rattle.ipc_model.specs.declared.call.Call.{Call};
 ghost use Rattle.ipc_model.specs.calls.Step.{number_of_call};
-ghost use Rattle.ipc_model.specs.texts.Texts.{arguments_text, FitsCall, IsKeptCall};
+ghost use Rattle.ipc_model.specs.encodings.Encodings.{arguments_encoding, FitsCall, IsCanonicalCall};
 ghost use Rattle.words.specs.Words.{word};
 ghost use Rattle.calls.specs.Shapes.{count_of_words};
 
@@ -17,7 +17,7 @@ use ipc_model::Call;
 
 /// The call with this number that has no arguments.
 fn call_of_none(number: u32) -> Option<Call>
-    ensures found { IfSome result (λ call. (number_of_call call ≡ number) × (arguments_text call ≡ []) × IsKeptCall call) }
+    ensures found { IfSome result (λ call. (number_of_call call ≡ number) × (arguments_encoding call ≡ []) × IsCanonicalCall call) }
     ensures none { IfNone result (count_of_words number ≢ 0) }
 {
     match number {
@@ -29,7 +29,7 @@ fn call_of_none(number: u32) -> Option<Call>
 
 /// The call with this number that has this argument.
 fn call_of_one(number: u32, a: u32) -> Option<Call>
-    ensures found { IfSome result (λ call. (number_of_call call ≡ number) × (arguments_text call ≡ word a) × IsKeptCall call) }
+    ensures found { IfSome result (λ call. (number_of_call call ≡ number) × (arguments_encoding call ≡ word a) × IsCanonicalCall call) }
     ensures none { IfNone result (count_of_words number ≢ 1) }
 {
     match number {
@@ -46,7 +46,7 @@ fn call_of_one(number: u32, a: u32) -> Option<Call>
 
 /// The call with this number that has these two arguments.
 fn call_of_two(number: u32, a: u32, b: u32) -> Option<Call>
-    ensures found { IfSome result (λ call. (number_of_call call ≡ number) × (arguments_text call ≡ word a ++ word b) × IsKeptCall call) }
+    ensures found { IfSome result (λ call. (number_of_call call ≡ number) × (arguments_encoding call ≡ word a ++ word b) × IsCanonicalCall call) }
     ensures none { IfNone result (count_of_words number ≢ 2) }
 {
     match number {
@@ -74,7 +74,7 @@ fn call_of_two(number: u32, a: u32, b: u32) -> Option<Call>
 
 /// The call with this number that has these three arguments.
 fn call_of_three(number: u32, a: u32, b: u32, c: u32) -> Option<Call>
-    ensures found { IfSome result (λ call. (number_of_call call ≡ number) × (arguments_text call ≡ word a ++ (word b ++ word c)) × IsKeptCall call) }
+    ensures found { IfSome result (λ call. (number_of_call call ≡ number) × (arguments_encoding call ≡ word a ++ (word b ++ word c)) × IsCanonicalCall call) }
     ensures none { IfNone result (count_of_words number ≢ 3) }
 {
     match number {
@@ -95,8 +95,8 @@ fn call_of_three(number: u32, a: u32, b: u32, c: u32) -> Option<Call>
 /// The call whose number and arguments these are, of any number but that of `mach_msg`.
 pub(crate) fn read_arguments(number: u32, arguments: &[u8]) -> Option<Call>
     requires { number ≢ MACH_MSG }
-    ensures found { IfSome result (λ call. (number_of_call call ≡ number) × (arguments.now ≡ arguments_text call) × IsKeptCall call) }
-    ensures only { (call : Call) → FitsCall call → number_of_call call ≡ number → arguments.now ≡ arguments_text call → result ≡ Some call }
+    ensures found { IfSome result (λ call. (number_of_call call ≡ number) × (arguments.now ≡ arguments_encoding call) × IsCanonicalCall call) }
+    ensures only { (call : Call) → FitsCall call → number_of_call call ≡ number → arguments.now ≡ arguments_encoding call → result ≡ Some call }
 {
     match arguments.len() {
         0 => call_of_none(number),

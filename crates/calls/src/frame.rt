@@ -1,9 +1,9 @@
 ghost use Rattle.std.specs.Prelude.{◌≡◌, ◌+◌, ◌*◌, ◌≤◌, ◌++◌, length, flat_map};
-ghost use Rattle.ipc_model.specs.texts.Texts.{reply_text, done_text, status_text};
+ghost use Rattle.ipc_model.specs.encodings.Encodings.{reply_encoding, done_encoding, status_encoding};
 ghost use Rattle.words.specs.Words.{word};
-ghost use Rattle.calls.specs.Rows.{names_text};
+ghost use Rattle.calls.specs.Rows.{names_encoding};
 
-use crate::spell::status_words;
+use crate::encode::status_words;
 use codes::{
     MACH_MSG, MACH_PORT_ALLOCATE, MACH_PORT_EXTRACT_RIGHT, MACH_PORT_GET_RECEIVE_STATUS,
     MACH_PORT_GET_REFS, MACH_PORT_GET_SET_STATUS, MACH_PORT_NAMES, MACH_PORT_REQUEST_NOTIFICATION,
@@ -40,7 +40,7 @@ fn start_reply(frame: &mut Frame, number: u32, code: u32, numbers: &[u32])
 fn put_names(frame: &mut Frame, names: &[NamedType])
     requires room { length frame.old.content + 8 * length names.now ≤ frame.old.room }
     requires limit { length frame.old.content + 8 * length names.now ≤ MAX_FRAME_CONTENT }
-    ensures content { frame.new.content ≡ frame.old.content ++ names_text names.now }
+    ensures content { frame.new.content ≡ frame.old.content ++ names_encoding names.now }
     ensures room { frame.new.room ≡ frame.old.room }
 {
     for named in names {
@@ -51,7 +51,7 @@ fn put_names(frame: &mut Frame, names: &[NamedType])
 /// Makes this the frame of the state of a port.
 fn start_status(frame: &mut Frame, status: &ReceiveStatus)
     requires { MAX_FRAME_CONTENT ≤ frame.old.room }
-    ensures content { frame.new.content ≡ done_text MACH_PORT_GET_RECEIVE_STATUS (status_text status.now) }
+    ensures content { frame.new.content ≡ done_encoding MACH_PORT_GET_RECEIVE_STATUS (status_encoding status.now) }
     ensures room { frame.old.room ≤ frame.new.room }
 {
     start_reply(
@@ -62,13 +62,13 @@ fn start_status(frame: &mut Frame, status: &ReceiveStatus)
     );
 }
 
-#[tactic(auto, unfolding(ipc_model::specs::texts::Texts::reply_text))]
+#[tactic(auto, unfolding(ipc_model::specs::encodings::Texts::reply_encoding))]
 /// Writes a reply into a frame. It takes no memory.
 pub fn reply_frame(reply: &Reply, frame: &mut Frame)
     requires room { MAX_FRAME_CONTENT ≤ frame.old.room }
     // The names of a space and of a set's members fit, and so does a message of the greatest size.
-    requires limit { length (reply_text reply.now) ≤ MAX_FRAME_CONTENT }
-    ensures content { frame.new.content ≡ reply_text reply.now }
+    requires limit { length (reply_encoding reply.now) ≤ MAX_FRAME_CONTENT }
+    ensures content { frame.new.content ≡ reply_encoding reply.now }
     ensures room { frame.old.room ≤ frame.new.room }
 {
     match reply {

@@ -2,17 +2,17 @@
 #![tactic(auto)]
 
 mod arguments;
+mod canonical_message;
+mod encode;
 mod frame;
-mod kept_message;
 mod read;
 mod record_options;
 mod request;
 mod results;
-mod spell;
 mod word_rows;
 
+pub use encode::{push_call, push_canonical_call, push_reply};
 pub use frame::reply_frame;
 pub use read::read_call;
 pub use request::{CallFault, MessageRequest, Request, read_request};
 pub use results::read_recorded_reply;
-pub use spell::{push_call, push_kept_call, push_reply};

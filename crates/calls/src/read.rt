@@ -2,11 +2,11 @@ ghost use Rattle.std.specs.Prelude.{◌≡◌, ◌≢◌, ◌<◌, ◌^◌, ◌+
 ghost use Rattle.ipc_model.specs.declared.call.Call.{Call};
 ghost use Rattle.ipc_model.specs.declared.call.Call.TheVariants as call_variants;
 ghost use Rattle.ipc_model.specs.calls.Step.{number_of_call};
-ghost use Rattle.ipc_model.specs.texts.Texts.{arguments_text, call_text, receive_option, number_of_bool, IsKeptCall};
+ghost use Rattle.ipc_model.specs.encodings.Encodings.{arguments_encoding, call_encoding, receive_option, number_of_bool, IsCanonicalCall};
 ghost use Rattle.words.specs.Words.{word};
 
 use crate::arguments::read_arguments;
-use crate::kept_message::keep_message;
+use crate::canonical_message::canonical_message_of;
 use crate::record_options::receives_large;
 use crate::word_rows::three_words;
 use bitflags::Flags;
@@ -29,8 +29,8 @@ fn flag_of(number: u32) -> Option<bool>
 
 /// A receive as a record has it, after its option.
 fn read_receive(large: bool, words: &[u8]) -> Option<Call>
-    ensures found { IfSome result (λ call. (word (receive_option large) ++ words.now ≡ arguments_text call)
-        × (number_of_call call ≡ MACH_MSG) × IsKeptCall call) }
+    ensures found { IfSome result (λ call. (word (receive_option large) ++ words.now ≡ arguments_encoding call)
+        × (number_of_call call ≡ MACH_MSG) × IsCanonicalCall call) }
     ensures only { (limit name : ℕ) (waited : Bool) → limit < 2 ^ 32 → name < 2 ^ 32
         → words.now ≡ word limit ++ (word name ++ word (number_of_bool waited))
         → result ≡ Some (call_variants.Receive limit large name waited) }
@@ -46,7 +46,7 @@ fn read_receive(large: bool, words: &[u8]) -> Option<Call>
 }
 
 /// What stands after three numbers that are 0.
-fn behind_zeros(bytes: &[u8]) -> Option<&[u8]>
+fn after_zeros(bytes: &[u8]) -> Option<&[u8]>
     ensures found { IfSome result (λ behind. bytes.now ≡ word 0 ++ (word 0 ++ (word 0 ++ behind.now))) }
     ensures none { IfNone result ((behind : List ℕ) → bytes.now ≡ word 0 ++ (word 0 ++ (word 0 ++ behind)) → ⊥) }
 {
@@ -58,18 +58,18 @@ fn behind_zeros(bytes: &[u8]) -> Option<&[u8]>
 
 /// A send as a record has it, after its option.
 fn read_send(alloc: Global, words: &[u8]) -> Result<Option<Call>, AllocError>
-    ensures found { IfOk result (λ found. IfSome found (λ call. (word 1 ++ words.now ≡ arguments_text call)
-        × (number_of_call call ≡ MACH_MSG) × IsKeptCall call)) }
-    ensures only { (message : List ℕ) → IsKeptCall (call_variants.Send message) → words.now ≡ word 0 ++ (word 0 ++ (word 0 ++ message))
+    ensures found { IfOk result (λ found. IfSome found (λ call. (word 1 ++ words.now ≡ arguments_encoding call)
+        × (number_of_call call ≡ MACH_MSG) × IsCanonicalCall call)) }
+    ensures only { (message : List ℕ) → IsCanonicalCall (call_variants.Send message) → words.now ≡ word 0 ++ (word 0 ++ (word 0 ++ message))
         → IfOk result (λ found. found ≡ Some (call_variants.Send message)) }
 {
-    let Some(message) = behind_zeros(words) else {
+    let Some(message) = after_zeros(words) else {
         return Ok(None);
     };
     if !is_message_size(message.len()) {
         return Ok(None);
     }
-    let kept = keep_message(alloc, message)?;
+    let kept = canonical_message_of(alloc, message)?;
     if kept.as_slice() != message {
         return Ok(None);
     }
@@ -79,9 +79,9 @@ fn read_send(alloc: Global, words: &[u8]) -> Result<Option<Call>, AllocError>
 
 /// The send or the receive whose arguments in a record these are.
 fn read_message_call(alloc: Global, arguments: &[u8]) -> Result<Option<Call>, AllocError>
-    ensures found { IfOk result (λ found. IfSome found (λ call. (arguments.now ≡ arguments_text call)
-        × (number_of_call call ≡ MACH_MSG) × IsKeptCall call)) }
-    ensures only { (call : Call) → IsKeptCall call → number_of_call call ≡ MACH_MSG → arguments.now ≡ arguments_text call
+    ensures found { IfOk result (λ found. IfSome found (λ call. (arguments.now ≡ arguments_encoding call)
+        × (number_of_call call ≡ MACH_MSG) × IsCanonicalCall call)) }
+    ensures only { (call : Call) → IsCanonicalCall call → number_of_call call ≡ MACH_MSG → arguments.now ≡ arguments_encoding call
         → IfOk result (λ found. found ≡ Some call) }
 {
     let Some((option, words)) = take_word(arguments) else {
@@ -99,12 +99,12 @@ fn read_message_call(alloc: Global, arguments: &[u8]) -> Result<Option<Call>, Al
     }
 }
 
-#[tactic(auto, unfolding(ipc_model::specs::texts::Texts::call_text))]
+#[tactic(auto, unfolding(ipc_model::specs::encodings::Texts::call_encoding))]
 /// The call that these bytes encode, if they encode a call as a record has it. It can run out of memory only for the
 /// message of a send.
 pub fn read_call(alloc: Global, content: &[u8]) -> Result<Option<Call>, AllocError>
-    ensures found { IfOk result (λ found. IfSome found (λ call. (content.now ≡ call_text call) × IsKeptCall call)) }
-    ensures only { (call : Call) → IsKeptCall call → content.now ≡ call_text call
+    ensures found { IfOk result (λ found. IfSome found (λ call. (content.now ≡ call_encoding call) × IsCanonicalCall call)) }
+    ensures only { (call : Call) → IsCanonicalCall call → content.now ≡ call_encoding call
         → IfOk result (λ found. found ≡ Some call) }
 {
     let Some((number, arguments)) = take_word(content) else {

@@ -4,7 +4,7 @@ ghost use Rattle.codes.specs.declared.kern_return.KernReturn.{KernReturn};
 ghost use Rattle.ipc_model.specs.declared.call.Call.{Call};
 ghost use Rattle.ipc_model.specs.declared.call.Reply.{Reply};
 ghost use Rattle.ipc_model.specs.calls.Step.{number_of_call, has_destroyed, is_recorded, is_success, succeeded};
-ghost use Rattle.ipc_model.specs.texts.Texts.{reply_text, done_text, has_no_results, number_of_reply, Brings, FitsReply, HasItsResults, IsOfReceipt, IsRecordedReply};
+ghost use Rattle.ipc_model.specs.encodings.Encodings.{reply_encoding, done_encoding, has_no_results, number_of_reply, Brings, FitsReply, HasItsResults, IsOfReceive, IsRecordedReply};
 ghost use Rattle.words.specs.Words.{word};
 
 use crate::word_rows::{one_word, two_words};
@@ -56,9 +56,9 @@ fn has_no_results(call: &Call) -> bool
 
 /// Whether a receive with this limit reports this of the message that it took out: its size, the name of its port and,
 /// unless it was destroyed, its bytes.
-fn is_of_receipt(limit: u32, code: KernReturn, size: u32, member: u32, message: &[u8]) -> bool
-    ensures yes { result ≡ true → IsOfReceipt limit code size member message.now }
-    ensures no { result ≡ false → IsOfReceipt limit code size member message.now → ⊥ }
+fn is_of_receive(limit: u32, code: KernReturn, size: u32, member: u32, message: &[u8]) -> bool
+    ensures yes { result ≡ true → IsOfReceive limit code size member message.now }
+    ensures no { result ≡ false → IsOfReceive limit code size member message.now → ⊥ }
 {
     if !is_message_size(size as usize) || member == MACH_PORT_NULL || member == MACH_PORT_DEAD {
         return false;
@@ -77,7 +77,7 @@ fn brings(call: &Call, code: KernReturn, size: u32, member: u32, message: &[u8])
 {
     match call {
         Call::Send { .. } => size == 0 && member == MACH_PORT_NULL && message.is_empty(),
-        Call::Receive { limit, .. } => is_of_receipt(*limit, code, size, member, message),
+        Call::Receive { limit, .. } => is_of_receive(*limit, code, size, member, message),
         _ => false,
     }
 }
@@ -93,7 +93,7 @@ fn take_message(results: &[u8]) -> Option<(u32, u32, &[u8])>
     Some((size, member, message))
 }
 
-#[tactic(auto, unfolding(ipc_model::specs::texts::Texts::reply_text))]
+#[tactic(auto, unfolding(ipc_model::specs::encodings::Texts::reply_encoding))]
 /// The reply to a `mach_msg` that has a record, from its code and what stands after it.
 fn read_message_reply(
     alloc: Global,
@@ -104,9 +104,9 @@ fn read_message_reply(
     requires of_call { number_of_call call.now ≡ MACH_MSG }
     requires recorded { is_recorded call.now ≡ true }
     ensures found { IfOk result (λ found. IfSome found (λ answer.
-        (word MACH_MSG ++ (word code ++ results.now) ≡ reply_text answer) × IsRecordedReply call.now answer)) }
+        (word MACH_MSG ++ (word code ++ results.now) ≡ reply_encoding answer) × IsRecordedReply call.now answer)) }
     ensures only { (answer : Reply) → IsRecordedReply call.now answer → 0 < length results.now
-        → word MACH_MSG ++ (word code ++ results.now) ≡ reply_text answer → IfOk result (λ found. found ≡ Some answer) }
+        → word MACH_MSG ++ (word code ++ results.now) ≡ reply_encoding answer → IfOk result (λ found. found ≡ Some answer) }
 {
     let Some(code) = recorded_code(call, code) else {
         return Ok(None);
@@ -126,14 +126,14 @@ fn read_message_reply(
     }))
 }
 
-#[tactic(auto, unfolding(ipc_model::specs::texts::Texts::reply_text))]
+#[tactic(auto, unfolding(ipc_model::specs::encodings::Texts::reply_encoding))]
 /// The reply to a call with this number, any but `mach_msg`, that was done and has these results.
 fn read_plain_reply(number: u32, results: &[u8]) -> Option<Reply>
-    ensures found { IfSome result (λ answer. (done_text number results.now ≡ reply_text answer) × FitsReply answer
+    ensures found { IfSome result (λ answer. (done_encoding number results.now ≡ reply_encoding answer) × FitsReply answer
         × (number_of_reply answer ≡ number)
         × ((c : Call) → (succeeded c answer ≡ true) × HasItsResults c answer)) }
     ensures only { (c : Call) (answer : Reply) → IsRecordedReply c answer → number_of_call c ≡ number → number ≢ MACH_MSG
-        → 0 < length results.now → done_text number results.now ≡ reply_text answer → result ≡ Some answer }
+        → 0 < length results.now → done_encoding number results.now ≡ reply_encoding answer → result ≡ Some answer }
 {
     match number {
         MACH_PORT_ALLOCATE => {
@@ -157,7 +157,7 @@ fn read_plain_reply(number: u32, results: &[u8]) -> Option<Reply>
     }
 }
 
-#[tactic(auto, unfolding(ipc_model::specs::texts::Texts::reply_text))]
+#[tactic(auto, unfolding(ipc_model::specs::encodings::Texts::reply_encoding))]
 /// The reply to a call that has a record, from its code and what stands after it.
 fn read_results(
     alloc: Global,
@@ -167,9 +167,9 @@ fn read_results(
 ) -> Result<Option<Reply>, AllocError>
     requires { is_recorded call.now ≡ true }
     ensures found { IfOk result (λ found. IfSome found (λ answer.
-        (word (number_of_call call.now) ++ (word code ++ results.now) ≡ reply_text answer) × IsRecordedReply call.now answer)) }
+        (word (number_of_call call.now) ++ (word code ++ results.now) ≡ reply_encoding answer) × IsRecordedReply call.now answer)) }
     ensures only { (answer : Reply) → IsRecordedReply call.now answer
-        → word (number_of_call call.now) ++ (word code ++ results.now) ≡ reply_text answer
+        → word (number_of_call call.now) ++ (word code ++ results.now) ≡ reply_encoding answer
         → IfOk result (λ found. found ≡ Some answer) }
 {
     let number = call.number();
@@ -195,8 +195,8 @@ pub fn read_recorded_reply(
     content: &[u8],
 ) -> Result<Option<Reply>, AllocError>
     ensures found { IfOk result (λ found. IfSome found (λ answer.
-        (content.now ≡ reply_text answer) × IsRecordedReply call.now answer)) }
-    ensures only { (answer : Reply) → IsRecordedReply call.now answer → content.now ≡ reply_text answer
+        (content.now ≡ reply_encoding answer) × IsRecordedReply call.now answer)) }
+    ensures only { (answer : Reply) → IsRecordedReply call.now answer → content.now ≡ reply_encoding answer
         → IfOk result (λ found. found ≡ Some answer) }
 {
     let Some((number, rest)) = take_word(content) else {

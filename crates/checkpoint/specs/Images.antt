@@ -7,35 +7,35 @@ use Rattle.ipc_model.specs.world.World.{piece_length}
 -- an epoch's image: its encoding, and how many pieces of it were written
 pub record ImageValue : Type 0 where
   pub epoch : ℕ
-  pub text : List ℕ
+  pub encoding : List ℕ
   pub written : ℕ
 
 abbrev pub image_code : Coded ImageValue
 image_code =
-    code_by (ℕ × (List ℕ × ℕ)) (coded× coded_ℕ (coded× (coded_list coded_ℕ) coded_ℕ)) (λ i. (i.epoch, (i.text, i.written))) (λ p. record { epoch = p.0; text = p.1.0; written = p.1.1 }) (λ _. refl)
+    code_by (ℕ × (List ℕ × ℕ)) (coded× coded_ℕ (coded× (coded_list coded_ℕ) coded_ℕ)) (λ i. (i.epoch, (i.encoding, i.written))) (λ p. record { epoch = p.0; encoding = p.1.0; written = p.1.1 }) (λ _. refl)
 
 -- an image of which nothing was written
 abbrev pub unwritten : ℕ → List ℕ → ImageValue
-unwritten epoch text = record { epoch = epoch; text = text; written = 0 }
+unwritten epoch encoding = record { epoch = epoch; encoding = encoding; written = 0 }
 
 abbrev pub one_more : ImageValue → ImageValue
 one_more image = record image { written = image.written + 1 }
 
 -- A slot holds these bytes, preceded by a gate that isn't open and room for the rest of a header.
-pub record HoldsBehind (slot text : List ℕ) : Type 0 where
+pub record HoldsAfter (slot encoding : List ℕ) : Type 0 where
   pub head : List ℕ
   pub long : length head ≡ 24
   pub shut : IsClosed head
-  pub whole : slot ≡ head ++ text
+  pub whole : slot ≡ head ++ encoding
 
 -- the first pieces of an encoding, this many
 abbrev pub first_pieces : ℕ → List ℕ → List ℕ
-first_pieces count text = take (piece_length * count) text
+first_pieces count encoding = take (piece_length * count) encoding
 
 -- a slot with the whole open image of an epoch
 abbrev pub open_image : ℕ → List ℕ → List ℕ
-open_image epoch text = open_gate ∷ image_content epoch text
+open_image epoch encoding = open_gate ∷ image_content epoch encoding
 
 -- An image is being finished: its gate isn't open, or the whole image stands there.
 abbrev pub IsFinishing : ℕ → List ℕ → List ℕ → List ℕ → Type 0
-IsFinishing epoch text before after = IsClosed after ⊎ (after ≡ open_image epoch text)
+IsFinishing epoch encoding before after = IsClosed after ⊎ (after ≡ open_image epoch encoding)

@@ -2,15 +2,15 @@
 ghost use Rattle.std.specs.Prelude.{◌≡◌, ◌+◌, ◌<◌, ◌≤◌, ◌++◌, [], length, take, drop, OnOk};
 ghost use Rattle.disk.specs.Slots.{slot_of, with_slot};
 ghost use Rattle.disk.specs.Moments.{IsSynced, Passes, Follows, CountsFailure};
-ghost use Rattle.ipc_model.specs.store.Store.{epoch_text, IsClosed};
+ghost use Rattle.ipc_model.specs.store.Store.{epoch_encoding, IsClosed};
 ghost use Rattle.words.specs.Words.{long_word};
-ghost use Rattle.checkpoint.specs.Images.{HoldsBehind, IsFinishing, first_pieces, open_image};
+ghost use Rattle.checkpoint.specs.Images.{HoldsAfter, IsFinishing, first_pieces, open_image};
 ghost use Rattle.ipc_model.specs.world.World.{pieces_of};
 ghost use Rattle.slot_steps.specs.Steps.{IsClosing, IsRemade, IsShut, IsStillClosed};
 
 use disk::{Disk, DiskFault, Slot};
 use slot_steps::{
-    IMAGE_HEADER, OPEN_GATE, close_slot, cut_behind, sync_behind, write_behind, write_gate,
+    IMAGE_HEADER, OPEN_GATE, close_slot, cut_after, sync_after, write_after, write_gate,
 };
 
 /// How many bytes of an encoded state are written at once.
@@ -19,7 +19,7 @@ pub const PIECE: usize = 4096;
 /// What stands after the gate of an image before its encoded state: version 1, six zero bytes, its epoch, and the
 /// length of that encoding.
 fn image_start(epoch: u64, length: u64) -> [u8; 23]
-    ensures { result ≡ epoch_text epoch ++ long_word length }
+    ensures { result ≡ epoch_encoding epoch ++ long_word length }
 {
     let [a, b, c, d, e, f, g, h] = epoch.to_le_bytes();
     let [i, j, k, l, m, n, o, p] = length.to_le_bytes();
@@ -39,12 +39,12 @@ fn write_zeros<D: Disk>(disk: &mut D, slot: Slot) -> Result<(), DiskFault>
         → Passes (D.view disk.old) (D.view disk.new) (Follows (D.view disk.old) slot IsStillClosed) }
     ensures failures { CountsFailure (D.failed_calls disk.old) (D.failed_calls disk.new) result }
 {
-    write_behind(disk, slot, 1, &[0; 23])
+    write_after(disk, slot, 1, &[0; 23])
 }
 
 /// Clears an image slot: it then holds a closed gate and the place of a header, and nothing else.
 pub(crate) fn clear<D: Disk>(disk: &mut D, slot: Slot) -> Result<(), DiskFault>
-    ensures cleared { D.honest → OnOk result (HoldsBehind (slot_of (D.view disk.new).seen slot) []) }
+    ensures cleared { D.honest → OnOk result (HoldsAfter (slot_of (D.view disk.new).seen slot) []) }
     ensures others { D.honest → OnOk result ((D.view disk.new).seen ≡ with_slot (D.view disk.old).seen slot (slot_of (D.view disk.new).seen slot)) }
     ensures shut { D.honest → OnOk result (IsShut (D.view disk.new) slot) }
     ensures any_moment { D.honest → IsSynced (D.view disk.old) slot
@@ -53,23 +53,23 @@ pub(crate) fn clear<D: Disk>(disk: &mut D, slot: Slot) -> Result<(), DiskFault>
 {
     close_slot(disk, slot, IMAGE_HEADER)?;
     write_zeros(disk, slot)?;
-    cut_behind(disk, slot, 24)
+    cut_after(disk, slot, 24)
 }
 
 /// How many pieces an encoding has.
-pub(crate) fn pieces_in(text: &[u8]) -> u64
-    ensures { result ≡ pieces_of text.now }
+pub(crate) fn pieces_in(encoding: &[u8]) -> u64
+    ensures { result ≡ pieces_of encoding.now }
 {
-    text.len().div_ceil(PIECE) as u64
+    encoding.len().div_ceil(PIECE) as u64
 }
 
 /// A piece of an encoding, by how many come before it.
-pub(crate) fn piece_at(text: &[u8], before: u64) -> &[u8]
-    ensures { first_pieces before text.now ++ result.now ≡ first_pieces (before + 1) text.now }
+pub(crate) fn piece_at(encoding: &[u8], before: u64) -> &[u8]
+    ensures { first_pieces before encoding.now ++ result.now ≡ first_pieces (before + 1) encoding.now }
 {
-    let from = (before as usize).saturating_mul(PIECE).min(text.len());
-    let to = from.saturating_add(PIECE).min(text.len());
-    &text[from..to]
+    let from = (before as usize).saturating_mul(PIECE).min(encoding.len());
+    let to = from.saturating_add(PIECE).min(encoding.len());
+    &encoding[from..to]
 }
 
 /// Writes a piece of an encoded state after what stands in the slot.
@@ -83,21 +83,21 @@ pub(crate) fn push_piece<D: Disk>(disk: &mut D, slot: Slot, piece: &[u8]) -> Res
     ensures failures { CountsFailure (D.failed_calls disk.old) (D.failed_calls disk.new) result }
 {
     let end = disk.length(slot).max(1);
-    write_behind(disk, slot, end, piece)
+    write_after(disk, slot, end, piece)
 }
 
 /// Writes a whole encoding after the place of the header.
-fn write_text<D: Disk>(disk: &mut D, slot: Slot, text: &[u8]) -> Result<(), DiskFault>
-    requires { D.honest → HoldsBehind (slot_of (D.view disk.old).seen slot) [] }
-    ensures held { D.honest → OnOk result (HoldsBehind (slot_of (D.view disk.new).seen slot) text.now) }
+fn write_encoding<D: Disk>(disk: &mut D, slot: Slot, encoding: &[u8]) -> Result<(), DiskFault>
+    requires { D.honest → HoldsAfter (slot_of (D.view disk.old).seen slot) [] }
+    ensures held { D.honest → OnOk result (HoldsAfter (slot_of (D.view disk.new).seen slot) encoding.now) }
     ensures others { D.honest → OnOk result ((D.view disk.new).seen ≡ with_slot (D.view disk.old).seen slot (slot_of (D.view disk.new).seen slot)) }
     ensures shut { D.honest → IsShut (D.view disk.old) slot → OnOk result (IsShut (D.view disk.new) slot) }
     ensures any_moment { D.honest → IsShut (D.view disk.old) slot
         → Passes (D.view disk.old) (D.view disk.new) (Follows (D.view disk.old) slot IsStillClosed) }
     ensures failures { CountsFailure (D.failed_calls disk.old) (D.failed_calls disk.new) result }
 {
-    for piece in 0..pieces_in(text) {
-        push_piece(disk, slot, piece_at(text, piece))?;
+    for piece in 0..pieces_in(encoding) {
+        push_piece(disk, slot, piece_at(encoding, piece))?;
     }
     Ok(())
 }
@@ -106,14 +106,14 @@ fn write_text<D: Disk>(disk: &mut D, slot: Slot, text: &[u8]) -> Result<(), Disk
 fn write_header<D: Disk>(disk: &mut D, slot: Slot, epoch: u64, size: u64) -> Result<(), DiskFault>
     requires { D.honest → 24 ≤ length (slot_of (D.view disk.old).seen slot) }
     ensures written { D.honest → OnOk result ((D.view disk.new).seen ≡ with_slot (D.view disk.old).seen slot
-        (take 1 (slot_of (D.view disk.old).seen slot) ++ ((epoch_text epoch ++ long_word size) ++ drop 24 (slot_of (D.view disk.old).seen slot)))) }
+        (take 1 (slot_of (D.view disk.old).seen slot) ++ ((epoch_encoding epoch ++ long_word size) ++ drop 24 (slot_of (D.view disk.old).seen slot)))) }
     ensures synced { D.honest → OnOk result (IsSynced (D.view disk.new) slot) }
     ensures any_moment { D.honest → IsShut (D.view disk.old) slot
         → Passes (D.view disk.old) (D.view disk.new) (Follows (D.view disk.old) slot IsStillClosed) }
     ensures failures { CountsFailure (D.failed_calls disk.old) (D.failed_calls disk.new) result }
 {
-    write_behind(disk, slot, 1, &image_start(epoch, size))?;
-    sync_behind(disk, slot)
+    write_after(disk, slot, 1, &image_start(epoch, size))?;
+    sync_after(disk, slot)
 }
 
 /// Writes the header of an image whose whole encoding stands in the slot, and opens the gate.
@@ -121,16 +121,16 @@ pub(crate) fn finish<D: Disk>(
     disk: &mut D,
     slot: Slot,
     epoch: u64,
-    text: &[u8],
+    encoding: &[u8],
 ) -> Result<(), DiskFault>
-    requires { D.honest → HoldsBehind (slot_of (D.view disk.old).seen slot) text.now }
-    ensures made { D.honest → OnOk result ((D.view disk.new).seen ≡ with_slot (D.view disk.old).seen slot (open_image epoch text.now)) }
+    requires { D.honest → HoldsAfter (slot_of (D.view disk.old).seen slot) encoding.now }
+    ensures made { D.honest → OnOk result ((D.view disk.new).seen ≡ with_slot (D.view disk.old).seen slot (open_image epoch encoding.now)) }
     ensures synced { D.honest → OnOk result (IsSynced (D.view disk.new) slot) }
     ensures any_moment { D.honest → IsShut (D.view disk.old) slot
-        → Passes (D.view disk.old) (D.view disk.new) (Follows (D.view disk.old) slot (IsFinishing epoch text.now)) }
+        → Passes (D.view disk.old) (D.view disk.new) (Follows (D.view disk.old) slot (IsFinishing epoch encoding.now)) }
     ensures failures { CountsFailure (D.failed_calls disk.old) (D.failed_calls disk.new) result }
 {
-    write_header(disk, slot, epoch, text.len() as u64)?;
+    write_header(disk, slot, epoch, encoding.len() as u64)?;
     write_gate(disk, slot, OPEN_GATE)
 }
 
@@ -139,15 +139,15 @@ pub(crate) fn write_all<D: Disk>(
     disk: &mut D,
     slot: Slot,
     epoch: u64,
-    text: &[u8],
+    encoding: &[u8],
 ) -> Result<(), DiskFault>
-    ensures made { D.honest → OnOk result ((D.view disk.new).seen ≡ with_slot (D.view disk.old).seen slot (open_image epoch text.now)) }
+    ensures made { D.honest → OnOk result ((D.view disk.new).seen ≡ with_slot (D.view disk.old).seen slot (open_image epoch encoding.now)) }
     ensures synced { D.honest → OnOk result (IsSynced (D.view disk.new) slot) }
     ensures any_moment { D.honest → IsSynced (D.view disk.old) slot
-        → Passes (D.view disk.old) (D.view disk.new) (Follows (D.view disk.old) slot (IsRemade 24 (open_image epoch text.now))) }
+        → Passes (D.view disk.old) (D.view disk.new) (Follows (D.view disk.old) slot (IsRemade 24 (open_image epoch encoding.now))) }
     ensures failures { CountsFailure (D.failed_calls disk.old) (D.failed_calls disk.new) result }
 {
     clear(disk, slot)?;
-    write_text(disk, slot, text)?;
-    finish(disk, slot, epoch, text)
+    write_encoding(disk, slot, encoding)?;
+    finish(disk, slot, epoch, encoding)
 }

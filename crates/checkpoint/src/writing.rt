@@ -1,9 +1,9 @@
 ghost use Rattle.std.specs.Prelude.{◌≡◌, ◌+◌, ◌^◌, ◌<◌, ◌≤◌, [], length, IfOk, OnOk, OnErr};
 ghost use Rattle.disk.specs.Slots.{slot_of, with_slot};
 ghost use Rattle.disk.specs.Moments.{IsSynced, Passes, Follows, CountsFailure};
-ghost use Rattle.image.specs.Rows.{snapshot_text};
+ghost use Rattle.image.specs.Rows.{snapshot_encoding};
 ghost use Rattle.ipc_model.specs.world.World.{pieces_of};
-ghost use Rattle.checkpoint.specs.Images.{HoldsBehind, IsFinishing, first_pieces, one_more, open_image, unwritten};
+ghost use Rattle.checkpoint.specs.Images.{HoldsAfter, IsFinishing, first_pieces, one_more, open_image, unwritten};
 ghost use Rattle.slot_steps.specs.Steps.{IsClosing, IsRemade, IsShut, IsStillClosed, image_slot as slot_of_epoch};
 
 use crate::steps;
@@ -18,7 +18,7 @@ use std::marker::Model;
 #[derive(Drop)]
 pub struct Image {
     epoch: u64,
-    text: Vec<u8>,
+    encoding: Vec<u8>,
     written: u64,
 }
 
@@ -31,51 +31,51 @@ impl Model for Image {
 
     ghost coded = { image_code };
 
-    ghost view = { λ i. record { epoch = i.epoch; text = i.text.items; written = i.written } };
+    ghost view = { λ i. record { epoch = i.epoch; encoding = i.encoding.items; written = i.written } };
 
-    ghost invariant = { λ i. i.written ≤ pieces_of i.text.items };
+    ghost invariant = { λ i. i.written ≤ pieces_of i.encoding.items };
 }
 
 impl Image {
     /// Makes the image that an epoch begins with, in memory.
     pub fn of(alloc: Global, epoch: u64, snapshot: &Snapshot) -> Result<Image, AllocError>
-        ensures { IfOk result (λ image. image ≡ unwritten epoch (snapshot_text snapshot.now)) }
+        ensures { IfOk result (λ image. image ≡ unwritten epoch (snapshot_encoding snapshot.now)) }
     {
-        let mut text = Vec::new(alloc);
-        write_into(snapshot, &mut text)?;
+        let mut encoding = Vec::new(alloc);
+        write_into(snapshot, &mut encoding)?;
         Ok(Image {
             epoch,
-            text,
+            encoding,
             written: 0,
         })
     }
 
     /// How many bytes its encoding has.
     pub fn size(&self) -> u64
-        ensures size { result ≡ length self.now.text }
-        ensures fits { length self.now.text < 2 ^ 64 }
+        ensures size { result ≡ length self.now.encoding }
+        ensures fits { length self.now.encoding < 2 ^ 64 }
     {
-        self.text.len() as u64
+        self.encoding.len() as u64
     }
 
     /// How many pieces its encoding has.
     pub fn pieces(&self) -> u64
-        ensures { result ≡ pieces_of self.now.text }
+        ensures { result ≡ pieces_of self.now.encoding }
     {
-        steps::pieces_in(&self.text)
+        steps::pieces_in(&self.encoding)
     }
 
     /// How many pieces were written.
     pub fn written(&self) -> u64
         ensures written { result ≡ self.now.written }
-        ensures within { result ≤ pieces_of self.now.text }
+        ensures within { result ≤ pieces_of self.now.encoding }
     {
         self.written
     }
 
     /// Closes and clears the image's slot.
     pub fn close<D: Disk>(&self, disk: &mut D) -> Result<(), DiskFault>
-        ensures cleared { D.honest → OnOk result (HoldsBehind (slot_of (D.view disk.new).seen (slot_of_epoch self.now.epoch)) []) }
+        ensures cleared { D.honest → OnOk result (HoldsAfter (slot_of (D.view disk.new).seen (slot_of_epoch self.now.epoch)) []) }
         ensures others { D.honest → OnOk result ((D.view disk.new).seen ≡ with_slot (D.view disk.old).seen (slot_of_epoch self.now.epoch)
             (slot_of (D.view disk.new).seen (slot_of_epoch self.now.epoch))) }
         ensures shut { D.honest → OnOk result (IsShut (D.view disk.new) (slot_of_epoch self.now.epoch)) }
@@ -88,11 +88,11 @@ impl Image {
 
     /// Writes the next piece after those that stand in the slot.
     pub fn write_piece<D: Disk>(&mut self, disk: &mut D) -> Result<(), DiskFault>
-        requires more { self.old.written < pieces_of self.old.text }
-        requires holds { D.honest → HoldsBehind (slot_of (D.view disk.old).seen (slot_of_epoch self.old.epoch)) (first_pieces self.old.written self.old.text) }
+        requires more { self.old.written < pieces_of self.old.encoding }
+        requires holds { D.honest → HoldsAfter (slot_of (D.view disk.old).seen (slot_of_epoch self.old.epoch)) (first_pieces self.old.written self.old.encoding) }
         ensures ok { OnOk result (self.new ≡ one_more self.old) }
         ensures err { OnErr result (self.new ≡ self.old) }
-        ensures held { D.honest → OnOk result (HoldsBehind (slot_of (D.view disk.new).seen (slot_of_epoch self.old.epoch)) (first_pieces (self.old.written + 1) self.old.text)) }
+        ensures held { D.honest → OnOk result (HoldsAfter (slot_of (D.view disk.new).seen (slot_of_epoch self.old.epoch)) (first_pieces (self.old.written + 1) self.old.encoding)) }
         ensures others { D.honest → OnOk result ((D.view disk.new).seen ≡ with_slot (D.view disk.old).seen (slot_of_epoch self.old.epoch)
             (slot_of (D.view disk.new).seen (slot_of_epoch self.old.epoch))) }
         ensures shut { D.honest → IsShut (D.view disk.old) (slot_of_epoch self.old.epoch) → OnOk result (IsShut (D.view disk.new) (slot_of_epoch self.old.epoch)) }
@@ -100,7 +100,7 @@ impl Image {
             → Passes (D.view disk.old) (D.view disk.new) (Follows (D.view disk.old) (slot_of_epoch self.old.epoch) IsStillClosed) }
         ensures failures { CountsFailure (D.failed_calls disk.old) (D.failed_calls disk.new) result }
     {
-        let piece = steps::piece_at(&self.text, self.written);
+        let piece = steps::piece_at(&self.encoding, self.written);
         steps::push_piece(disk, image_slot(self.epoch), piece)?;
         self.written += 1;
         Ok(())
@@ -108,27 +108,27 @@ impl Image {
 
     /// Opens the gate of the image, whose whole encoding stands in the slot, once that and the header are on the disk.
     pub fn finish<D: Disk>(&self, disk: &mut D) -> Result<(), DiskFault>
-        requires all { self.now.written ≡ pieces_of self.now.text }
-        requires holds { D.honest → HoldsBehind (slot_of (D.view disk.old).seen (slot_of_epoch self.now.epoch)) (first_pieces self.now.written self.now.text) }
+        requires all { self.now.written ≡ pieces_of self.now.encoding }
+        requires holds { D.honest → HoldsAfter (slot_of (D.view disk.old).seen (slot_of_epoch self.now.epoch)) (first_pieces self.now.written self.now.encoding) }
         ensures made { D.honest → OnOk result ((D.view disk.new).seen
-            ≡ with_slot (D.view disk.old).seen (slot_of_epoch self.now.epoch) (open_image self.now.epoch self.now.text)) }
+            ≡ with_slot (D.view disk.old).seen (slot_of_epoch self.now.epoch) (open_image self.now.epoch self.now.encoding)) }
         ensures synced { D.honest → OnOk result (IsSynced (D.view disk.new) (slot_of_epoch self.now.epoch)) }
         ensures any_moment { D.honest → IsShut (D.view disk.old) (slot_of_epoch self.now.epoch)
-            → Passes (D.view disk.old) (D.view disk.new) (Follows (D.view disk.old) (slot_of_epoch self.now.epoch) (IsFinishing self.now.epoch self.now.text)) }
+            → Passes (D.view disk.old) (D.view disk.new) (Follows (D.view disk.old) (slot_of_epoch self.now.epoch) (IsFinishing self.now.epoch self.now.encoding)) }
         ensures failures { CountsFailure (D.failed_calls disk.old) (D.failed_calls disk.new) result }
     {
-        steps::finish(disk, image_slot(self.epoch), self.epoch, &self.text)
+        steps::finish(disk, image_slot(self.epoch), self.epoch, &self.encoding)
     }
 
     /// Writes the whole image at once, from the closing of its slot to the opening of its gate.
     pub fn write<D: Disk>(&self, disk: &mut D) -> Result<(), DiskFault>
         ensures made { D.honest → OnOk result ((D.view disk.new).seen
-            ≡ with_slot (D.view disk.old).seen (slot_of_epoch self.now.epoch) (open_image self.now.epoch self.now.text)) }
+            ≡ with_slot (D.view disk.old).seen (slot_of_epoch self.now.epoch) (open_image self.now.epoch self.now.encoding)) }
         ensures synced { D.honest → OnOk result (IsSynced (D.view disk.new) (slot_of_epoch self.now.epoch)) }
         ensures any_moment { D.honest → IsSynced (D.view disk.old) (slot_of_epoch self.now.epoch)
-            → Passes (D.view disk.old) (D.view disk.new) (Follows (D.view disk.old) (slot_of_epoch self.now.epoch) (IsRemade 24 (open_image self.now.epoch self.now.text))) }
+            → Passes (D.view disk.old) (D.view disk.new) (Follows (D.view disk.old) (slot_of_epoch self.now.epoch) (IsRemade 24 (open_image self.now.epoch self.now.encoding))) }
         ensures failures { CountsFailure (D.failed_calls disk.old) (D.failed_calls disk.new) result }
     {
-        steps::write_all(disk, image_slot(self.epoch), self.epoch, &self.text)
+        steps::write_all(disk, image_slot(self.epoch), self.epoch, &self.encoding)
     }
 }

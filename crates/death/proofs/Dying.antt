@@ -4,7 +4,7 @@ use Rattle.std.specs.FinMap.{get, insert}
 use Rattle.ipc_model.specs.declared.message.Message.{Message}
 use Rattle.ipc_model.specs.declared.message.RightKind.TheVariants as kind
 use Rattle.ipc_model.specs.declared.port.PortState.{PortState}
-use Rattle.ipc_model.specs.effects.Effects.{Effect, dead_name_notices, effects_of_death, notified, release_of_target, released_if_live, releases_of, told_no_senders}
+use Rattle.ipc_model.specs.effects.Effects.{Effect, dead_name_notices, effects_of_death, notified, release_of_target, released_if_live, releases_of, notified_no_senders}
 use Rattle.ipc_model.specs.messages.Notices.{notice_message}
 use Rattle.ipc_model.specs.messages.Notices as notice
 use Rattle.ipc_model.specs.state.Placed.{send_count}
@@ -47,4 +47,4 @@ told_once (Ok v) state new serial told = told ∙ untold state serial
 pub senders_left : (state : State) (serial : ℕ) (o : Option PortState) → not (send_count state serial == 0) ≡ true → state ≡ (released_if_live state serial kind.Send o).0
 senders_left state serial None left = refl
 senders_left state serial (Some port) left =
-    elim (send_count state serial == 0) as (λ (b : Bool). not b ≡ true → state ≡ cond b (told_no_senders state serial port port.no_senders_target) state) [ true ↦ λ (e : _). absurd (cc e) | false ↦ λ (_ : _). refl ] left
+    elim (send_count state serial == 0) as (λ (b : Bool). not b ≡ true → state ≡ cond b (notified_no_senders state serial port port.no_senders_target) state) [ true ↦ λ (e : _). absurd (cc e) | false ↦ λ (_ : _). refl ] left

@@ -1,2 +1,2 @@
 mod Replay
-mod Stops
+mod Crashes

@@ -4,4 +4,4 @@ pub mod Memory
 pub mod Moments
 pub mod Plan
 pub mod Slots
-pub mod Stops
+pub mod Crashes

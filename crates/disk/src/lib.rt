@@ -1,13 +1,13 @@
 //! The four slots that a store is kept in, as a trait, in memory and in files.
 #![tactic(auto)]
 
+mod crash;
 mod device;
 mod file;
 mod log;
 mod memory;
 mod plan;
 mod slot;
-mod stop;
 
 pub use device::{Disk, DiskFault};
 pub use file::FileDisk;

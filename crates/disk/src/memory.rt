@@ -4,10 +4,10 @@ ghost use Rattle.disk.specs.Slots.{Slots, empty_slots, slot_of, with_slot, writt
 ghost use Rattle.disk.specs.Moments.{Passes, Follows, IsSynced, MayLeave};
 ghost use Rattle.disk.specs.Log.{slots_of, replayed};
 
+use crate::crash::{front, overwritten, redo};
 use crate::device::count_failure;
 use crate::log::{Contents, LoggedCall};
 use crate::plan::Plan;
-use crate::stop::{front, overwritten, redo};
 use crate::{Disk, DiskFault, Slot, Torn};
 use std::alloc::{AllocError, Global};
 
@@ -154,19 +154,19 @@ impl MemDisk {
 
     /// The disk that a crash now leaves, as the plan says. All that it holds is on the disk, no failure is planned, and
     /// none is counted. The error is that memory ran out.
-    pub fn after_stop(self) -> Result<MemDisk, AllocError>
+    pub fn after_crash(self) -> Result<MemDisk, AllocError>
         ensures left { IfOk result (λ disk. MayLeave (memory_view self) (memory_view disk).seen) }
         ensures at_rest { IfOk result (λ disk. IsAtRest disk (memory_view disk).seen) }
     {
         let alloc = self.alloc;
-        let left = self.left_by_stop();
+        let left = self.left_by_crash();
         drop(self);
         let left = left?;
         MemDisk::holding(alloc, left)
     }
 
     // What a crash now leaves in the slots, as the plan says.
-    fn left_by_stop(&self) -> Result<Contents, AllocError>
+    fn left_by_crash(&self) -> Result<Contents, AllocError>
         ensures { IfOk result (λ left. MayLeave (memory_view self.now) (slots_of left)) }
     {
         let mut seen = copy_of(self.alloc, &self.first)?;

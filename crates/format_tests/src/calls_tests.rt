@@ -1,9 +1,9 @@
 ghost use Rattle.std.specs.Prelude.{◌≤◌, length};
-ghost use Rattle.ipc_model.specs.texts.Texts.{reply_text};
+ghost use Rattle.ipc_model.specs.encodings.Encodings.{reply_encoding};
 
 use crate::expect::{is_there, same, same_in_row};
 use calls::{
-    CallFault, MessageRequest, Request, push_call, push_kept_call, push_reply, read_call,
+    CallFault, MessageRequest, Request, push_call, push_canonical_call, push_reply, read_call,
     read_recorded_reply, read_request, reply_frame,
 };
 use codes::{KernReturn, MAX_FRAME_CONTENT};
@@ -17,12 +17,12 @@ use wire::Frame;
 // call or an encoding has one exit, which drops it. It passes on what was seen with its `None`s, which no test expects.
 
 // Numbers of four bytes, lowest byte first.
-fn text_of(alloc: Global, numbers: &[u32]) -> Option<Vec<u8>> {
-    let mut text = Vec::new(alloc);
+fn encoding_of(alloc: Global, numbers: &[u32]) -> Option<Vec<u8>> {
+    let mut encoding = Vec::new(alloc);
     for number in numbers {
-        text.extend_from_slice(&number.to_le_bytes()).ok()?;
+        encoding.extend_from_slice(&number.to_le_bytes()).ok()?;
     }
-    Some(text)
+    Some(encoding)
 }
 
 fn frame_of(alloc: Global, content: &[u8]) -> Option<Frame> {
@@ -37,8 +37,8 @@ fn call_of_line(alloc: Global, line: &str) -> Option<Call> {
 }
 
 // The call of a record, if this is its encoding.
-fn call_of_record(alloc: Global, text: &[u8]) -> Option<Option<Call>> {
-    read_call(alloc, text).ok()
+fn call_of_record(alloc: Global, encoding: &[u8]) -> Option<Option<Call>> {
+    read_call(alloc, encoding).ok()
 }
 
 // What a frame with this content asks for, if it is a request.
@@ -50,47 +50,47 @@ fn request_of(alloc: Global, content: &[u8]) -> Option<Result<Request, CallFault
 }
 
 fn call_bytes(alloc: Global, call: &Call) -> Option<Vec<u8>> {
-    let mut text = Vec::new(alloc);
-    push_call(&mut text, call).ok()?;
-    Some(text)
+    let mut encoding = Vec::new(alloc);
+    push_call(&mut encoding, call).ok()?;
+    Some(encoding)
 }
 
-fn is_spelled_as(alloc: Global, call: &Call, text: &[u8]) -> Option<bool> {
+fn is_encoded_as(alloc: Global, call: &Call, encoding: &[u8]) -> Option<bool> {
     let written = call_bytes(alloc, call)?;
-    Some(written.as_slice() == text)
+    Some(written.as_slice() == encoding)
 }
 
 // Whether there is a call, and this is its encoding.
-fn is_found_as(alloc: Global, call: Option<Call>, text: &[u8]) -> Option<bool> {
+fn is_found_as(alloc: Global, call: Option<Call>, encoding: &[u8]) -> Option<bool> {
     let call = call?;
-    let spelled = is_spelled_as(alloc, &call, text);
+    let encoded = is_encoded_as(alloc, &call, encoding);
     drop(call);
-    spelled
+    encoded
 }
 
 // Whether this is the encoding of a line's call, and is written again after it was read from a record.
-fn record_spellings(alloc: Global, line: &str, text: &[u8]) -> Option<[Option<bool>; 2]> {
-    let read = call_of_record(alloc, text)?;
+fn record_encodings(alloc: Global, line: &str, encoding: &[u8]) -> Option<[Option<bool>; 2]> {
+    let read = call_of_record(alloc, encoding)?;
     Some([
-        is_found_as(alloc, call_of_line(alloc, line), text),
-        is_found_as(alloc, read, text),
+        is_found_as(alloc, call_of_line(alloc, line), encoding),
+        is_found_as(alloc, read, encoding),
     ])
 }
 
 // Whether one call is asked for, and this is its encoding.
-fn is_asked_as(alloc: Global, request: &Request, text: &[u8]) -> Option<bool> {
+fn is_asked_as(alloc: Global, request: &Request, encoding: &[u8]) -> Option<bool> {
     match request {
-        Request::One(call) => is_spelled_as(alloc, call, text),
+        Request::One(call) => is_encoded_as(alloc, call, encoding),
         _ => None,
     }
 }
 
 // Whether a frame of these bytes asks for a call that is encoded as these bytes again.
-fn frame_spelling(alloc: Global, text: &[u8]) -> Option<bool> {
-    let request = request_of(alloc, text)?.ok()?;
-    let spelled = is_asked_as(alloc, &request, text);
+fn frame_encoding(alloc: Global, encoding: &[u8]) -> Option<bool> {
+    let request = request_of(alloc, encoding)?.ok()?;
+    let encoded = is_asked_as(alloc, &request, encoding);
     drop(request);
-    spelled
+    encoded
 }
 
 fn is_no_request(alloc: Global, content: &[u8]) -> Option<bool> {
@@ -98,33 +98,33 @@ fn is_no_request(alloc: Global, content: &[u8]) -> Option<bool> {
     Some(request.err() == Some(CallFault::NoCall))
 }
 
-fn is_no_call_of_record(alloc: Global, text: &[u8]) -> Option<bool> {
-    Some(!is_there(call_of_record(alloc, text)?))
+fn is_no_call_of_record(alloc: Global, encoding: &[u8]) -> Option<bool> {
+    Some(!is_there(call_of_record(alloc, encoding)?))
 }
 
 // Whether an encoding with one more byte is no call, neither in a frame nor in a record.
-fn is_no_call_if_longer(alloc: Global, text: &mut Vec<u8>) -> Option<[bool; 2]> {
-    text.push(0).ok()?;
+fn is_no_call_if_longer(alloc: Global, encoding: &mut Vec<u8>) -> Option<[bool; 2]> {
+    encoding.push(0).ok()?;
     Some([
-        is_no_request(alloc, text)?,
-        is_no_call_of_record(alloc, text)?,
+        is_no_request(alloc, encoding)?,
+        is_no_call_of_record(alloc, encoding)?,
     ])
 }
 
 // How a call is encoded: from its line and from a record, and from a frame; and whether its encoding with one more byte
 // is no call.
-type Spellings = (Option<[Option<bool>; 2]>, Option<bool>, Option<[bool; 2]>);
+type Encodings = (Option<[Option<bool>; 2]>, Option<bool>, Option<[bool; 2]>);
 
-fn spellings(alloc: Global, line: &str, numbers: &[u32]) -> Option<Spellings> {
-    let mut text = text_of(alloc, numbers)?;
-    let recorded = record_spellings(alloc, line, &text);
-    let asked = frame_spelling(alloc, &text);
-    let longer = is_no_call_if_longer(alloc, &mut text);
-    drop(text);
+fn encodings(alloc: Global, line: &str, numbers: &[u32]) -> Option<Encodings> {
+    let mut encoding = encoding_of(alloc, numbers)?;
+    let recorded = record_encodings(alloc, line, &encoding);
+    let asked = frame_encoding(alloc, &encoding);
+    let longer = is_no_call_if_longer(alloc, &mut encoding);
+    drop(encoding);
     Some((recorded, asked, longer))
 }
 
-static SPELLINGS: [(&'static str, &'static [u32]); 21] = [
+static ENCODINGS: [(&'static str, &'static [u32]); 21] = [
     ("attach 7", &[0, 7]),
     ("names", &[1]),
     ("type 0x100", &[2, 0x100]),
@@ -154,8 +154,8 @@ static SPELLINGS: [(&'static str, &'static [u32]); 21] = [
 #[test]
 fn calls_as_bytes(rt: HostRuntime) {
     let wanted = Some((Some([Some(true); 2]), Some(true), Some([true; 2])));
-    for (line, numbers) in &SPELLINGS {
-        same_in_row(&rt, *line, spellings(rt.alloc(), line, numbers), wanted);
+    for (line, numbers) in &ENCODINGS {
+        same_in_row(&rt, *line, encodings(rt.alloc(), line, numbers), wanted);
     }
 }
 
@@ -173,7 +173,7 @@ fn send_of(alloc: Global, message: &[u8]) -> Option<Call> {
 #[test]
 fn a_send_as_records_have_it(rt: HostRuntime) {
     let alloc = rt.alloc();
-    let spelled = is_found_as(alloc, send_of(alloc, &SEND[20..]), &SEND);
+    let encoded = is_found_as(alloc, send_of(alloc, &SEND[20..]), &SEND);
     let read = call_of_record(alloc, &SEND);
     // The message as it was sent, with its size.
     let mut sized = SEND;
@@ -182,19 +182,19 @@ fn a_send_as_records_have_it(rt: HostRuntime) {
     // A message of 25 bytes, a size that no message has.
     let odd = is_no_call_of_record(alloc, &SEND[..45]);
     let found = is_found_as(alloc, read.flatten(), &SEND);
-    same(&rt, [spelled, found, refused, odd], [Some(true); 4]);
+    same(&rt, [encoded, found, refused, odd], [Some(true); 4]);
 }
 
 // The same for an encoding that consists of these numbers.
-fn record_spellings_in_words(
+fn record_encodings_in_words(
     alloc: Global,
     line: &str,
     numbers: &[u32],
 ) -> Option<[Option<bool>; 2]> {
-    let text = text_of(alloc, numbers)?;
-    let spelled = record_spellings(alloc, line, &text);
-    drop(text);
-    spelled
+    let encoding = encoding_of(alloc, numbers)?;
+    let encoded = record_encodings(alloc, line, &encoding);
+    drop(encoding);
+    encoded
 }
 
 static RECEIPTS: [(&'static str, &'static [u32]); 2] = [
@@ -206,35 +206,35 @@ static RECEIPTS: [(&'static str, &'static [u32]); 2] = [
 ];
 
 #[test]
-fn receipts_as_records_have_them(rt: HostRuntime) {
+fn receives_as_records_have_them(rt: HostRuntime) {
     for (line, numbers) in &RECEIPTS {
-        let spelled = record_spellings_in_words(rt.alloc(), line, numbers);
-        same_in_row(&rt, *line, spelled, Some([Some(true); 2]));
+        let encoded = record_encodings_in_words(rt.alloc(), line, numbers);
+        same_in_row(&rt, *line, encoded, Some([Some(true); 2]));
     }
     // It has waited or not.
-    let text = b"\x13\0\0\0\x02\0\0\0\x1c\0\0\0\0\x01\0\0\x02\0\0\0";
-    same(&rt, is_no_call_of_record(rt.alloc(), text), Some(true));
+    let encoding = b"\x13\0\0\0\x02\0\0\0\x1c\0\0\0\0\x01\0\0\x02\0\0\0";
+    same(&rt, is_no_call_of_record(rt.alloc(), encoding), Some(true));
 }
 
 // What a frame with these numbers and this message asks for.
 fn asked(alloc: Global, numbers: &[u32], message: &[u8]) -> Option<Request> {
-    let mut content = text_of(alloc, numbers)?;
+    let mut content = encoding_of(alloc, numbers)?;
     content.extend_from_slice(message).ok()?;
     let request = request_of(alloc, &content);
     drop(content);
     request?.ok()
 }
 
-fn kept_call_bytes(alloc: Global, call: &Call) -> Option<Vec<u8>> {
-    let mut text = Vec::new(alloc);
-    push_kept_call(alloc, &mut text, call).ok()?;
-    Some(text)
+fn canonical_call_bytes(alloc: Global, call: &Call) -> Option<Vec<u8>> {
+    let mut encoding = Vec::new(alloc);
+    push_canonical_call(alloc, &mut encoding, call).ok()?;
+    Some(encoding)
 }
 
 // Whether what a request sends is kept as these bytes.
 fn is_kept_as(alloc: Global, request: &MessageRequest, kept: &[u8]) -> Option<bool> {
-    let text = kept_call_bytes(alloc, request.send.as_ref()?)?;
-    Some(text.as_slice() == kept)
+    let encoding = canonical_call_bytes(alloc, request.send.as_ref()?)?;
+    Some(encoding.as_slice() == kept)
 }
 
 // How long a request's send may wait, and its receive.
@@ -283,8 +283,8 @@ fn a_send_is_kept_without_what_it_ignores(rt: HostRuntime) {
 const RECEIPT: &[u8; 20] = b"\x13\0\0\0\x02\x08\0\0\x1c\0\0\0\0\x01\0\0\0\0\0\0";
 
 // Whether there is a call, which stays its owner's, and this is its encoding.
-fn is_part_as(alloc: Global, call: &Option<Call>, text: &[u8]) -> Option<bool> {
-    is_spelled_as(alloc, call.as_ref()?, text)
+fn is_part_as(alloc: Global, call: &Option<Call>, encoding: &[u8]) -> Option<bool> {
+    is_encoded_as(alloc, call.as_ref()?, encoding)
 }
 
 // Whether a request has the send and the receive, and its timeouts.
@@ -350,113 +350,113 @@ fn a_mach_msg_that_asks_for_nothing(rt: HostRuntime) {
 }
 
 // Whether this is how a reply is encoded into a `Vec`.
-fn is_pushed_as(alloc: Global, reply: &Reply, text: &[u8]) -> Option<bool>
-    requires { length (reply_text reply.now) ≤ MAX_FRAME_CONTENT }
+fn is_pushed_as(alloc: Global, reply: &Reply, encoding: &[u8]) -> Option<bool>
+    requires { length (reply_encoding reply.now) ≤ MAX_FRAME_CONTENT }
 {
     let mut out = Vec::new(alloc);
     push_reply(&mut out, reply).ok()?;
-    Some(out.as_slice() == text)
+    Some(out.as_slice() == encoding)
 }
 
 // Whether this is how a reply is encoded in a frame.
-fn is_framed_as(alloc: Global, reply: &Reply, text: &[u8]) -> Option<bool>
-    requires { length (reply_text reply.now) ≤ MAX_FRAME_CONTENT }
+fn is_framed_as(alloc: Global, reply: &Reply, encoding: &[u8]) -> Option<bool>
+    requires { length (reply_encoding reply.now) ≤ MAX_FRAME_CONTENT }
 {
     let mut frame = Frame::with_room(alloc, MAX_FRAME_CONTENT as usize).ok()?;
     reply_frame(reply, &mut frame);
-    Some(frame.content() == text)
+    Some(frame.content() == encoding)
 }
 
 // Whether this is how a reply is encoded, into a `Vec` and in a frame.
-type Spelled = Option<[Option<bool>; 2]>;
+type Encoded = Option<[Option<bool>; 2]>;
 
-const SPELLED: Spelled = Some([Some(true); 2]);
+const ENCODED: Encoded = Some([Some(true); 2]);
 
-fn is_spelled(alloc: Global, reply: &Reply, text: &[u8]) -> Spelled
-    requires { length (reply_text reply.now) ≤ MAX_FRAME_CONTENT }
+fn is_encoded(alloc: Global, reply: &Reply, encoding: &[u8]) -> Encoded
+    requires { length (reply_encoding reply.now) ≤ MAX_FRAME_CONTENT }
 {
     Some([
-        is_pushed_as(alloc, reply, text),
-        is_framed_as(alloc, reply, text),
+        is_pushed_as(alloc, reply, encoding),
+        is_framed_as(alloc, reply, encoding),
     ])
 }
 
-fn is_spelled_in_words(alloc: Global, reply: &Reply, numbers: &[u32]) -> Spelled
-    requires { length (reply_text reply.now) ≤ MAX_FRAME_CONTENT }
+fn is_encoded_in_words(alloc: Global, reply: &Reply, numbers: &[u32]) -> Encoded
+    requires { length (reply_encoding reply.now) ≤ MAX_FRAME_CONTENT }
 {
-    let text = text_of(alloc, numbers)?;
-    let spelled = is_spelled(alloc, reply, &text);
-    drop(text);
-    spelled
+    let encoding = encoding_of(alloc, numbers)?;
+    let encoded = is_encoded(alloc, reply, &encoding);
+    drop(encoding);
+    encoded
 }
 
 // Each reply has a function of its own: that it fits in a frame is proved there.
 
-#[tactic(auto, unfolding(ipc_model::specs::texts::Texts::reply_text))]
-fn spells_refusal(alloc: Global) -> Spelled {
+#[tactic(auto, unfolding(ipc_model::specs::encodings::Texts::reply_encoding))]
+fn encodes_refusal(alloc: Global) -> Encoded {
     let full = Reply::Refused {
         number: 5,
         code: KernReturn::NoSpace,
     };
-    is_spelled_in_words(alloc, &full, &[5, 3])
+    is_encoded_in_words(alloc, &full, &[5, 3])
 }
 
-#[tactic(auto, unfolding(ipc_model::specs::texts::Texts::reply_text))]
-fn spells_done(alloc: Global) -> Spelled {
-    is_spelled_in_words(alloc, &Reply::Done { number: 7 }, &[7, 0])
+#[tactic(auto, unfolding(ipc_model::specs::encodings::Texts::reply_encoding))]
+fn encodes_done(alloc: Global) -> Encoded {
+    is_encoded_in_words(alloc, &Reply::Done { number: 7 }, &[7, 0])
 }
 
-#[tactic(auto, unfolding(ipc_model::specs::texts::Texts::reply_text))]
-fn spells_type(alloc: Global) -> Spelled {
-    is_spelled_in_words(alloc, &Reply::Type { bits: 0x20000 }, &[2, 0, 0x20000])
+#[tactic(auto, unfolding(ipc_model::specs::encodings::Texts::reply_encoding))]
+fn encodes_type(alloc: Global) -> Encoded {
+    is_encoded_in_words(alloc, &Reply::Type { bits: 0x20000 }, &[2, 0, 0x20000])
 }
 
-#[tactic(auto, unfolding(ipc_model::specs::texts::Texts::reply_text))]
-fn spells_new_name(alloc: Global) -> Spelled {
-    is_spelled_in_words(alloc, &Reply::Allocate { name: 0x100 }, &[5, 0, 0x100])
+#[tactic(auto, unfolding(ipc_model::specs::encodings::Texts::reply_encoding))]
+fn encodes_new_name(alloc: Global) -> Encoded {
+    is_encoded_in_words(alloc, &Reply::Allocate { name: 0x100 }, &[5, 0, 0x100])
 }
 
-#[tactic(auto, unfolding(ipc_model::specs::texts::Texts::reply_text))]
-fn spells_references(alloc: Global) -> Spelled {
-    is_spelled_in_words(alloc, &Reply::References { count: 3 }, &[8, 0, 3])
+#[tactic(auto, unfolding(ipc_model::specs::encodings::Texts::reply_encoding))]
+fn encodes_references(alloc: Global) -> Encoded {
+    is_encoded_in_words(alloc, &Reply::References { count: 3 }, &[8, 0, 3])
 }
 
-#[tactic(auto, unfolding(ipc_model::specs::texts::Texts::reply_text))]
-fn spells_previous_target(alloc: Global) -> Spelled {
-    is_spelled_in_words(alloc, &Reply::PreviousTarget { name: 9 }, &[16, 0, 9])
+#[tactic(auto, unfolding(ipc_model::specs::encodings::Texts::reply_encoding))]
+fn encodes_previous_target(alloc: Global) -> Encoded {
+    is_encoded_in_words(alloc, &Reply::PreviousTarget { name: 9 }, &[16, 0, 9])
 }
 
 #[test]
 fn replies_as_bytes(rt: HostRuntime) {
     let alloc = rt.alloc();
     let seen = [
-        spells_refusal(alloc),
-        spells_done(alloc),
-        spells_type(alloc),
-        spells_new_name(alloc),
-        spells_references(alloc),
-        spells_previous_target(alloc),
+        encodes_refusal(alloc),
+        encodes_done(alloc),
+        encodes_type(alloc),
+        encodes_new_name(alloc),
+        encodes_references(alloc),
+        encodes_previous_target(alloc),
     ];
-    same(&rt, seen, [SPELLED; 6]);
+    same(&rt, seen, [ENCODED; 6]);
 }
 
-#[tactic(auto, unfolding(ipc_model::specs::texts::Texts::reply_text))]
-fn spells_extracted(alloc: Global) -> Spelled {
+#[tactic(auto, unfolding(ipc_model::specs::encodings::Texts::reply_encoding))]
+fn encodes_extracted(alloc: Global) -> Encoded {
     let extracted = Reply::Extracted {
         name: 9,
         kind: RightKind::SendOnce,
     };
-    is_spelled_in_words(alloc, &extracted, &[18, 0, 9, 18])
+    is_encoded_in_words(alloc, &extracted, &[18, 0, 9, 18])
 }
 
-#[tactic(auto, unfolding(ipc_model::specs::texts::Texts::reply_text))]
-fn spells_created_space(alloc: Global) -> Spelled {
+#[tactic(auto, unfolding(ipc_model::specs::encodings::Texts::reply_encoding))]
+fn encodes_created_space(alloc: Global) -> Encoded {
     let created = Reply::SpaceCreated { space: 2, name: 1 };
-    is_spelled_in_words(alloc, &created, &[20, 0, 2, 1])
+    is_encoded_in_words(alloc, &created, &[20, 0, 2, 1])
 }
 
-#[tactic(auto, unfolding(ipc_model::specs::texts::Texts::reply_text))]
-fn spells_status(alloc: Global) -> Spelled {
+#[tactic(auto, unfolding(ipc_model::specs::encodings::Texts::reply_encoding))]
+fn encodes_status(alloc: Global) -> Encoded {
     let status = ReceiveStatus {
         set: 9,
         sequence_number: 1,
@@ -469,22 +469,22 @@ fn spells_status(alloc: Global) -> Spelled {
         has_no_senders_request: true,
     };
     let told = Reply::ReceiveStatus { status };
-    is_spelled_in_words(alloc, &told, &[13, 0, 9, 1, 2, 5, 3, 4, 1, 0, 1])
+    is_encoded_in_words(alloc, &told, &[13, 0, 9, 1, 2, 5, 3, 4, 1, 0, 1])
 }
 
 #[test]
 fn replies_with_more_results_as_bytes(rt: HostRuntime) {
     let alloc = rt.alloc();
     let seen = [
-        spells_extracted(alloc),
-        spells_created_space(alloc),
-        spells_status(alloc),
+        encodes_extracted(alloc),
+        encodes_created_space(alloc),
+        encodes_status(alloc),
     ];
-    same(&rt, seen, [SPELLED; 3]);
+    same(&rt, seen, [ENCODED; 3]);
 }
 
-#[tactic(auto, unfolding(ipc_model::specs::texts::Texts::reply_text))]
-fn spells_names(alloc: Global) -> Spelled {
+#[tactic(auto, unfolding(ipc_model::specs::encodings::Texts::reply_encoding))]
+fn encodes_names(alloc: Global) -> Encoded {
     let first = NamedType {
         name: 8,
         bits: 0x20000,
@@ -494,24 +494,24 @@ fn spells_names(alloc: Global) -> Spelled {
         bits: 0x10000,
     };
     let names = Sequence::new(Vec::from_slice(alloc, &[first, second]).ok()?);
-    let text = &[1, 0, 2, 8, 0x20000, 9, 0x10000];
+    let encoding = &[1, 0, 2, 8, 0x20000, 9, 0x10000];
     let told = Reply::Names { names };
-    let spelled = is_spelled_in_words(alloc, &told, text);
+    let encoded = is_encoded_in_words(alloc, &told, encoding);
     drop(told);
-    spelled
+    encoded
 }
 
-#[tactic(auto, unfolding(ipc_model::specs::texts::Texts::reply_text))]
-fn spells_members(alloc: Global) -> Spelled {
+#[tactic(auto, unfolding(ipc_model::specs::encodings::Texts::reply_encoding))]
+fn encodes_members(alloc: Global) -> Encoded {
     let members = Sequence::new(Vec::from_slice(alloc, &[8_u32, 9]).ok()?);
     let told = Reply::SetStatus { members };
-    let spelled = is_spelled_in_words(alloc, &told, &[14, 0, 2, 8, 9]);
+    let encoded = is_encoded_in_words(alloc, &told, &[14, 0, 2, 8, 9]);
     drop(told);
-    spelled
+    encoded
 }
 
-#[tactic(auto, unfolding(ipc_model::specs::texts::Texts::reply_text))]
-fn spells_message(alloc: Global) -> Spelled {
+#[tactic(auto, unfolding(ipc_model::specs::encodings::Texts::reply_encoding))]
+fn encodes_message(alloc: Global) -> Encoded {
     let message = Sequence::new(Vec::from_slice(alloc, b"abc").ok()?);
     let received = Reply::Message {
         code: KernReturn::Success,
@@ -519,26 +519,26 @@ fn spells_message(alloc: Global) -> Spelled {
         member: 0x100,
         message,
     };
-    let text = b"\x13\0\0\0\0\0\0\0\x03\0\0\0\0\x01\0\0abc";
-    let spelled = is_spelled(alloc, &received, text);
+    let encoding = b"\x13\0\0\0\0\0\0\0\x03\0\0\0\0\x01\0\0abc";
+    let encoded = is_encoded(alloc, &received, encoding);
     drop(received);
-    spelled
+    encoded
 }
 
 #[test]
 fn rows_as_bytes(rt: HostRuntime) {
     let alloc = rt.alloc();
     let seen = [
-        spells_names(alloc),
-        spells_members(alloc),
-        spells_message(alloc),
+        encodes_names(alloc),
+        encodes_members(alloc),
+        encodes_message(alloc),
     ];
-    same(&rt, seen, [SPELLED; 3]);
+    same(&rt, seen, [ENCODED; 3]);
 }
 
 // The reply to a call of a record, if this is its encoding.
-fn reply_of_record(alloc: Global, call: &Call, text: &[u8]) -> Option<Option<Reply>> {
-    read_recorded_reply(alloc, call, text).ok()
+fn reply_of_record(alloc: Global, call: &Call, encoding: &[u8]) -> Option<Option<Reply>> {
+    read_recorded_reply(alloc, call, encoding).ok()
 }
 
 // The name that was allocated.
@@ -550,8 +550,8 @@ fn allocated_name(reply: &Option<Reply>) -> Option<u32> {
 }
 
 // The name of an allocation's reply.
-fn name_of_record(alloc: Global, text: &[u8]) -> Option<u32> {
-    let reply = reply_of_record(alloc, &Call::Allocate { right: 1 }, text)?;
+fn name_of_record(alloc: Global, encoding: &[u8]) -> Option<u32> {
+    let reply = reply_of_record(alloc, &Call::Allocate { right: 1 }, encoding)?;
     let name = allocated_name(&reply);
     drop(reply);
     name
@@ -559,23 +559,23 @@ fn name_of_record(alloc: Global, text: &[u8]) -> Option<u32> {
 
 #[test]
 fn an_allocation_of_a_record(rt: HostRuntime) {
-    let text = b"\x05\0\0\0\0\0\0\0\0\x01\0\0";
-    same(&rt, name_of_record(rt.alloc(), text), Some(0x100));
+    let encoding = b"\x05\0\0\0\0\0\0\0\0\x01\0\0";
+    same(&rt, name_of_record(rt.alloc(), encoding), Some(0x100));
 }
 
 // Whether a record of the line's call has the reply with this encoding.
-fn is_recorded(alloc: Global, line: &str, text: &[u8]) -> Option<bool> {
+fn is_recorded(alloc: Global, line: &str, encoding: &[u8]) -> Option<bool> {
     let call = call_of_line(alloc, line)?;
-    let reply = reply_of_record(alloc, &call, text);
+    let reply = reply_of_record(alloc, &call, encoding);
     drop(call);
     Some(is_there(reply?))
 }
 
 // The same for an encoding that consists of these numbers.
 fn is_recorded_in_words(alloc: Global, line: &str, numbers: &[u32]) -> Option<bool> {
-    let text = text_of(alloc, numbers)?;
-    let recorded = is_recorded(alloc, line, &text);
-    drop(text);
+    let encoding = encoding_of(alloc, numbers)?;
+    let recorded = is_recorded(alloc, line, &encoding);
+    drop(encoding);
     recorded
 }
 
@@ -602,16 +602,16 @@ fn replies_of_records(rt: HostRuntime) {
 // The encoding of a reply to `mach_msg`: code, size and member, and a message of `length` bytes.
 fn message_reply(alloc: Global, results: &[u32; 3], length: usize) -> Option<Vec<u8>> {
     let [code, size, member] = *results;
-    let mut text = text_of(alloc, &[19, code, size, member])?;
-    text.resize(length.saturating_add(16), 7).ok()?;
-    Some(text)
+    let mut encoding = encoding_of(alloc, &[19, code, size, member])?;
+    encoding.resize(length.saturating_add(16), 7).ok()?;
+    Some(encoding)
 }
 
 // Whether a record of the line's call has the reply with these results and a message of `length` bytes.
 fn brings(alloc: Global, line: &str, results: &[u32; 3], length: usize) -> Option<bool> {
-    let text = message_reply(alloc, results, length)?;
-    let recorded = is_recorded(alloc, line, &text);
-    drop(text);
+    let encoding = message_reply(alloc, results, length)?;
+    let recorded = is_recorded(alloc, line, &encoding);
+    drop(encoding);
     recorded
 }
 

@@ -52,7 +52,7 @@ impl Store for MemDisk {
     }
 
     fn stop(self) -> Option<MemDisk> {
-        self.after_stop().ok()
+        self.after_crash().ok()
     }
 
     fn bytes(&self, slot: Slot) -> &[u8] {
@@ -164,7 +164,7 @@ fn stopped_with_one_port<S: Store + Drop>(alloc: Global) -> Option<Option<(u64, 
 }
 
 #[test]
-fn a_stop_leaves_a_slot_closed_or_whole(rt: HostRuntime) {
+fn a_crash_leaves_a_slot_closed_or_whole(rt: HostRuntime) {
     let seen = stopped_with_one_port::<MemDisk>(rt.alloc());
     same(&rt, seen, Some(None));
 }

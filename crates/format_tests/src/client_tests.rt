@@ -48,17 +48,17 @@ fn has_ended(ended: &Ended, status: u8, output: &[u8], errors: &str) -> bool {
 }
 
 /// Words of a command line.
-fn words_of(alloc: Global, texts: &[&str]) -> Option<Vec<String>> {
+fn words_of(alloc: Global, encodings: &[&str]) -> Option<Vec<String>> {
     let mut words = Vec::new(alloc);
-    for text in texts {
-        words.push(String::from_str(alloc, text).ok()?).ok()?;
+    for encoding in encodings {
+        words.push(String::from_str(alloc, encoding).ok()?).ok()?;
     }
     Some(words)
 }
 
 /// Runs the client on these words and these bytes of input.
-fn run(alloc: Global, net: &OneSocket, texts: &[&str], bytes: &[u8]) -> Option<Ended> {
-    let words = words_of(alloc, texts)?;
+fn run(alloc: Global, net: &OneSocket, encodings: &[&str], bytes: &[u8]) -> Option<Ended> {
+    let words = words_of(alloc, encodings)?;
     let mut input = bytes;
     let mut output = BufWriter::new(alloc, Vec::new(alloc)).ok()?;
     let mut errors = Vec::new(alloc);
@@ -79,23 +79,28 @@ fn run(alloc: Global, net: &OneSocket, texts: &[&str], bytes: &[u8]) -> Option<E
 }
 
 /// Whether a run without a socket ends with this status and this line of errors.
-fn is_told(alloc: Global, texts: &[&str], status: u8, line: &str) -> Option<bool> {
-    let ended = run(alloc, &OneSocket(None), texts, &[4, 0, 0, 0, 1, 2, 3, 4])?;
+fn is_told(alloc: Global, encodings: &[&str], status: u8, line: &str) -> Option<bool> {
+    let ended = run(
+        alloc,
+        &OneSocket(None),
+        encodings,
+        &[4, 0, 0, 0, 1, 2, 3, 4],
+    )?;
     Some(has_ended(&ended, status, &[], line))
 }
 
 #[test]
-fn a_wrong_line_or_no_socket_is_told(rt: HostRuntime) {
+fn a_wrong_line_or_no_socket_is_reported(rt: HostRuntime) {
     let rows: [(&[&str], u8, &str); 3] = [
         (&[], 2, "machc: command line\n"),
         (&["/a", "/b"], 2, "machc: command line\n"),
         (&["/a"], 1, "machc: socket\n"),
     ];
-    for (texts, status, line) in rows {
+    for (encodings, status, line) in rows {
         same_in_row(
             &rt,
             line,
-            is_told(rt.alloc(), texts, status, line),
+            is_told(rt.alloc(), encodings, status, line),
             Some(true),
         );
     }
@@ -145,7 +150,7 @@ fn a_socket_is_relayed_to(rt: HostRuntime) {
 }
 
 #[test]
-fn a_fault_is_told(rt: HostRuntime) {
+fn a_fault_is_reported(rt: HostRuntime) {
     let end = (1, "machc: wire fault 2: too long\n");
     let seen = is_relayed(&rt, &[255, 255, 0, 0], &[], end, &[]);
     same(&rt, seen, Some(true));

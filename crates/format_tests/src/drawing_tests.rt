@@ -26,11 +26,11 @@ const TEXT: &str = r#"digraph ports {
 
 fn drawn(alloc: Global) -> Option<Vec<u8>> {
     let state = sample(alloc)?;
-    let mut text = Vec::new(alloc);
-    let done = draw(alloc, &state, &mut text);
+    let mut encoding = Vec::new(alloc);
+    let done = draw(alloc, &state, &mut encoding);
     drop(state);
     done.ok()?;
-    Some(text)
+    Some(encoding)
 }
 
 #[test]

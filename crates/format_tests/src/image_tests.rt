@@ -49,24 +49,24 @@ static OTHERWISE: [(usize, u8); 14] = [
 ];
 
 /// An encoding that is read and written again.
-fn again(alloc: Global, text: &[u8]) -> Result<Vec<u8>, ImageFault> {
-    let snapshot = read(alloc, text)?;
+fn again(alloc: Global, encoding: &[u8]) -> Result<Vec<u8>, ImageFault> {
+    let snapshot = read(alloc, encoding)?;
     let mut out = Vec::new(alloc);
     write_into(&snapshot, &mut out)?;
     Ok(out)
 }
 
 /// Whether an encoding is read and written again byte for byte.
-fn is_kept(alloc: Global, text: &[u8]) -> bool {
-    match again(alloc, text) {
-        Ok(out) => out.as_slice() == text,
+fn is_kept(alloc: Global, encoding: &[u8]) -> bool {
+    match again(alloc, encoding) {
+        Ok(out) => out.as_slice() == encoding,
         Err(_) => false,
     }
 }
 
 /// Whether bytes are no image.
-fn is_none(alloc: Global, text: &[u8]) -> bool {
-    match again(alloc, text) {
+fn is_none(alloc: Global, encoding: &[u8]) -> bool {
+    match again(alloc, encoding) {
         Ok(_) => false,
         Err(fault) => fault == ImageFault::NotCanonical,
     }
@@ -74,11 +74,11 @@ fn is_none(alloc: Global, text: &[u8]) -> bool {
 
 /// Whether the last encoding is no image after one byte is replaced.
 fn is_none_changed(alloc: Global, place: usize, byte: u8) -> Option<bool> {
-    let mut text = Vec::from_slice(alloc, &EVERY_KIND).ok()?;
-    if let Some(at) = text.as_mut_slice().get_mut(place) {
+    let mut encoding = Vec::from_slice(alloc, &EVERY_KIND).ok()?;
+    if let Some(at) = encoding.as_mut_slice().get_mut(place) {
         *at = byte;
     }
-    Some(is_none(alloc, &text))
+    Some(is_none(alloc, &encoding))
 }
 
 /// Where the body of its message is cut off, the size that the message then has, and whether it is still an image: a
@@ -96,32 +96,32 @@ fn with_body(alloc: Global, end: usize, size: u8) -> Option<Vec<u8>> {
     if end > 179 {
         return None;
     }
-    let mut text = Vec::from_slice(alloc, &EVERY_KIND[..end]).ok()?;
-    text.extend_from_slice(&EVERY_KIND[179..]).ok()?;
-    if let Some(at) = text.as_mut_slice().get_mut(152) {
+    let mut encoding = Vec::from_slice(alloc, &EVERY_KIND[..end]).ok()?;
+    encoding.extend_from_slice(&EVERY_KIND[179..]).ok()?;
+    if let Some(at) = encoding.as_mut_slice().get_mut(152) {
         *at = size;
     }
-    Some(text)
+    Some(encoding)
 }
 
 /// Whether it is an image then, and whether it is none.
 fn seen_with_body(alloc: Global, end: usize, size: u8) -> Option<(bool, bool)> {
-    let text = with_body(alloc, end, size)?;
-    Some((is_kept(alloc, &text), is_none(alloc, &text)))
+    let encoding = with_body(alloc, end, size)?;
+    Some((is_kept(alloc, &encoding), is_none(alloc, &encoding)))
 }
 
 /// Whether it is no image with one more byte.
 fn is_none_longer(alloc: Global) -> Option<bool> {
-    let mut text = Vec::from_slice(alloc, &EVERY_KIND).ok()?;
-    text.push(0).ok()?;
-    Some(is_none(alloc, &text))
+    let mut encoding = Vec::from_slice(alloc, &EVERY_KIND).ok()?;
+    encoding.push(0).ok()?;
+    Some(is_none(alloc, &encoding))
 }
 
 /// How many of an encoding's prefixes are no images.
-fn refused_beginnings(alloc: Global, text: &[u8]) -> usize {
+fn refused_beginnings(alloc: Global, encoding: &[u8]) -> usize {
     let mut count = 0usize;
-    for length in 0..text.len() {
-        if is_none(alloc, &text[..length]) {
+    for length in 0..encoding.len() {
+        if is_none(alloc, &encoding[..length]) {
             count = count.saturating_add(1);
         }
     }
@@ -129,20 +129,28 @@ fn refused_beginnings(alloc: Global, text: &[u8]) -> usize {
 }
 
 /// Whether bytes are an image, and how many of their prefixes are none.
-fn seen(alloc: Global, text: &[u8]) -> (bool, usize) {
-    (is_kept(alloc, text), refused_beginnings(alloc, text))
+fn seen(alloc: Global, encoding: &[u8]) -> (bool, usize) {
+    (
+        is_kept(alloc, encoding),
+        refused_beginnings(alloc, encoding),
+    )
 }
 
 #[test]
 fn images_are_read_and_written(rt: HostRuntime) {
-    let texts = [&OPENING[..], &ONE_PORT[..], &EVERY_KIND[..]];
-    for (index, text) in texts.iter().enumerate() {
-        same_in_row(&rt, index, seen(rt.alloc(), text), (true, text.len()));
+    let encodings = [&OPENING[..], &ONE_PORT[..], &EVERY_KIND[..]];
+    for (index, encoding) in encodings.iter().enumerate() {
+        same_in_row(
+            &rt,
+            index,
+            seen(rt.alloc(), encoding),
+            (true, encoding.len()),
+        );
     }
 }
 
 #[test]
-fn other_texts_are_refused(rt: HostRuntime) {
+fn other_encodings_are_refused(rt: HostRuntime) {
     for (place, byte) in &OTHERWISE {
         let is_none = is_none_changed(rt.alloc(), *place, *byte);
         same_in_row(&rt, *place, is_none, Some(true));

@@ -14,11 +14,11 @@ port 2 carried 1 send 1 once 0 queue 0 of 16 seqno 0 mscount 0
 
 fn listed(alloc: Global) -> Option<Vec<u8>> {
     let state = sample(alloc)?;
-    let mut text = Vec::new(alloc);
-    let done = list(alloc, 3, 12, &state, &mut text);
+    let mut encoding = Vec::new(alloc);
+    let done = list(alloc, 3, 12, &state, &mut encoding);
     drop(state);
     done.ok()?;
-    Some(text)
+    Some(encoding)
 }
 
 #[test]

@@ -1,5 +1,5 @@
 ghost use Rattle.std.specs.Prelude.{◌<◌, ◌^◌, length};
-ghost use Rattle.ipc_model.specs.texts.Texts.{call_text, reply_text};
+ghost use Rattle.ipc_model.specs.encodings.Encodings.{call_encoding, reply_encoding};
 
 use crate::expect::{is_there, same, same_bytes, same_in_row};
 use codes::KernReturn;
@@ -28,8 +28,8 @@ const RECEIPT: [u8; 84] = [
 ];
 
 fn record_bytes(alloc: Global, number: u64, record: &Record) -> Option<Vec<u8>>
-    requires call { length (call_text «record».now.call) < 2 ^ 32 }
-    requires reply { length (reply_text «record».now.reply) < 2 ^ 32 }
+    requires call { length (call_encoding «record».now.call) < 2 ^ 32 }
+    requires reply { length (reply_encoding «record».now.reply) < 2 ^ 32 }
 {
     let mut out = Vec::new(alloc);
     push_record(alloc, &mut out, number, record).ok()?;
@@ -38,8 +38,8 @@ fn record_bytes(alloc: Global, number: u64, record: &Record) -> Option<Vec<u8>>
 
 // Writes a record with nothing after it.
 fn written_alone(alloc: Global, number: u64, record: &Record, rest: &[u8]) -> Option<Vec<u8>>
-    requires call { length (call_text «record».now.call) < 2 ^ 32 }
-    requires reply { length (reply_text «record».now.reply) < 2 ^ 32 }
+    requires call { length (call_encoding «record».now.call) < 2 ^ 32 }
+    requires reply { length (reply_encoding «record».now.reply) < 2 ^ 32 }
 {
     if !rest.is_empty() {
         return None;
@@ -49,28 +49,28 @@ fn written_alone(alloc: Global, number: u64, record: &Record, rest: &[u8]) -> Op
 }
 
 // Reads the record that these bytes are, and writes it again.
-fn read_and_written(alloc: Global, text: &[u8]) -> Option<Vec<u8>> {
-    let (number, record, rest) = take_record(alloc, text).ok()??;
+fn read_and_written(alloc: Global, encoding: &[u8]) -> Option<Vec<u8>> {
+    let (number, record, rest) = take_record(alloc, encoding).ok()??;
     let written = written_alone(alloc, number, &record, rest);
     drop(record);
     written
 }
 
-fn is_record(alloc: Global, text: &[u8]) -> Option<bool> {
-    Some(is_there(take_record(alloc, text).ok()?))
+fn is_record(alloc: Global, encoding: &[u8]) -> Option<bool> {
+    Some(is_there(take_record(alloc, encoding).ok()?))
 }
 
 #[test]
 fn records_as_bytes(rt: HostRuntime) {
-    for text in [&ALLOCATION[..], &SEND[..], &RECEIPT[..]] {
-        same_bytes(&rt, read_and_written(rt.alloc(), text), text);
-        let cut = &text[..text.len().saturating_sub(1)];
+    for encoding in [&ALLOCATION[..], &SEND[..], &RECEIPT[..]] {
+        same_bytes(&rt, read_and_written(rt.alloc(), encoding), encoding);
+        let cut = &encoding[..encoding.len().saturating_sub(1)];
         same(&rt, is_record(rt.alloc(), cut), Some(false));
     }
 }
 
-#[tactic(auto, unfolding(ipc_model::specs::texts::Texts::call_text, ipc_model::specs::texts::Texts::reply_text))]
-fn receipt_bytes(alloc: Global) -> Option<Vec<u8>> {
+#[tactic(auto, unfolding(ipc_model::specs::encodings::Texts::call_encoding, ipc_model::specs::encodings::Texts::reply_encoding))]
+fn receive_bytes(alloc: Global) -> Option<Vec<u8>> {
     let message = Sequence::new(Vec::from_slice(alloc, &RECEIPT[56..]).ok()?);
     let record = Record {
         space: 1,
@@ -93,7 +93,7 @@ fn receipt_bytes(alloc: Global) -> Option<Vec<u8>> {
 }
 
 // The record holds a send without what it ignores: unused bits, a size and a sequence number.
-#[tactic(auto, unfolding(ipc_model::specs::texts::Texts::call_text, ipc_model::specs::texts::Texts::reply_text))]
+#[tactic(auto, unfolding(ipc_model::specs::encodings::Texts::call_encoding, ipc_model::specs::encodings::Texts::reply_encoding))]
 fn raw_send_bytes(alloc: Global) -> Option<Vec<u8>> {
     let sent = b"\x13\0\xff\x7f\xff\xff\xff\xff\0\x01\0\0\0\0\0\0\xff\xff\xff\xff\
         \x07\0\0\0\x44\x33\x22\x11";
@@ -111,28 +111,28 @@ fn raw_send_bytes(alloc: Global) -> Option<Vec<u8>> {
 
 #[test]
 fn written_records(rt: HostRuntime) {
-    same_bytes(&rt, receipt_bytes(rt.alloc()), &RECEIPT);
+    same_bytes(&rt, receive_bytes(rt.alloc()), &RECEIPT);
     same_bytes(&rt, raw_send_bytes(rt.alloc()), &SEND);
 }
 
 // Replaces a byte.
-fn put_byte(text: &mut [u8], at: usize, byte: u8) -> Option<()> {
-    *text.get_mut(at)? = byte;
+fn put_byte(encoding: &mut [u8], at: usize, byte: u8) -> Option<()> {
+    *encoding.get_mut(at)? = byte;
     Some(())
 }
 
 // Whether an encoding with one byte replaced is a record.
-fn is_record_once_bent(alloc: Global, text: &[u8], at: usize, byte: u8) -> Option<bool> {
-    let mut bent = Vec::from_slice(alloc, text).ok()?;
-    let put = put_byte(&mut bent, at, byte);
-    let found = is_record(alloc, &bent);
-    drop(bent);
+fn is_record_once_corrupted(alloc: Global, encoding: &[u8], at: usize, byte: u8) -> Option<bool> {
+    let mut corrupted = Vec::from_slice(alloc, encoding).ok()?;
+    let put = put_byte(&mut corrupted, at, byte);
+    let found = is_record(alloc, &corrupted);
+    drop(corrupted);
     put.and(found)
 }
 
 // The reply is one to another call; the message isn't as it is kept; a send returns something; a receive has another
 // size, its message is above its limit, or there is no port by which it could have come.
-static BENT: [(&'static [u8], usize, u8); 8] = [
+static CORRUPTED: [(&'static [u8], usize, u8); 8] = [
     (&ALLOCATION, 28, 4),
     (&SEND, 38, 1),
     (&SEND, 40, 28),
@@ -144,9 +144,9 @@ static BENT: [(&'static [u8], usize, u8); 8] = [
 ];
 
 #[test]
-fn bent_texts_are_no_records(rt: HostRuntime) {
-    for (text, at, byte) in &BENT {
-        let found = is_record_once_bent(rt.alloc(), text, *at, *byte);
+fn corrupted_records_are_refused(rt: HostRuntime) {
+    for (encoding, at, byte) in &CORRUPTED {
+        let found = is_record_once_corrupted(rt.alloc(), encoding, *at, *byte);
         same_in_row(&rt, (*byte, *at), found, Some(false));
     }
 }

@@ -76,7 +76,7 @@ static WRONG_LENGTHS: [([u8; 8], WireFault); 2] = [
 ];
 
 #[test]
-fn nothing_behind_a_wrong_length_is_sent(rt: HostRuntime) {
+fn nothing_after_a_wrong_length_is_sent(rt: HostRuntime) {
     for (input, fault) in &WRONG_LENGTHS {
         let seen = run(rt.alloc(), input, 100, 100);
         same_in_row(&rt, *fault, seen, Some((Err(*fault), 0, Some(0))));

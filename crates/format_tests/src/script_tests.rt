@@ -162,8 +162,8 @@ fn parts(alloc: Global, lines: &[Line]) -> Option<Vec<u8>> {
     Some(printed)
 }
 
-fn parts_of_script(alloc: Global, text: &[u8]) -> Option<Vec<u8>> {
-    let lines = read_script(alloc, text).ok()?;
+fn parts_of_script(alloc: Global, encoding: &[u8]) -> Option<Vec<u8>> {
+    let lines = read_script(alloc, encoding).ok()?;
     let parts = parts(alloc, &lines);
     drop(lines);
     parts
@@ -174,8 +174,8 @@ fn number_at(lines: &[Line], index: usize) -> Option<usize> {
 }
 
 // The numbers of a script's first three lines.
-fn numbers_of_script(alloc: Global, text: &[u8]) -> Option<[Option<usize>; 3]> {
-    let lines = read_script(alloc, text).ok()?;
+fn numbers_of_script(alloc: Global, encoding: &[u8]) -> Option<[Option<usize>; 3]> {
+    let lines = read_script(alloc, encoding).ok()?;
     let numbers = [
         number_at(&lines, 0),
         number_at(&lines, 1),
@@ -187,9 +187,9 @@ fn numbers_of_script(alloc: Global, text: &[u8]) -> Option<[Option<usize>; 3]> {
 
 #[test]
 fn a_script_and_its_parts(rt: HostRuntime) {
-    let text = b"# a task\n\nattach 2\ntype 256 = 196608\n";
-    let numbers = numbers_of_script(rt.alloc(), text);
+    let encoding = b"# a task\n\nattach 2\ntype 256 = 196608\n";
+    let numbers = numbers_of_script(rt.alloc(), encoding);
     same(&rt, numbers, Some([Some(3), Some(4), None]));
-    let parts = parts_of_script(rt.alloc(), text);
+    let parts = parts_of_script(rt.alloc(), encoding);
     same_bytes(&rt, parts, b"attach 2type 0x100 = 0x30000");
 }

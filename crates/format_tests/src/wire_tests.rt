@@ -154,9 +154,9 @@ fn writers_that_take_little(rt: HostRuntime) {
 }
 
 /// Whether a fault has this name.
-fn is_named(alloc: Global, fault: WireFault, text: &str) -> Option<bool> {
+fn is_named(alloc: Global, fault: WireFault, encoding: &str) -> Option<bool> {
     let name = format!(in alloc; "{fault}").ok()?;
-    Some(name.as_str() == text)
+    Some(name.as_str() == encoding)
 }
 
 static FAULTS: [(WireFault, u32, &'static str); 4] = [
@@ -168,8 +168,13 @@ static FAULTS: [(WireFault, u32, &'static str); 4] = [
 
 #[test]
 fn names_of_faults(rt: HostRuntime) {
-    for (fault, number, text) in &FAULTS {
-        let named = is_named(rt.alloc(), *fault, text);
-        same_in_row(&rt, *text, (fault.number(), named), (*number, Some(true)));
+    for (fault, number, encoding) in &FAULTS {
+        let named = is_named(rt.alloc(), *fault, encoding);
+        same_in_row(
+            &rt,
+            *encoding,
+            (fault.number(), named),
+            (*number, Some(true)),
+        );
     }
 }

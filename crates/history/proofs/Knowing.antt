@@ -4,8 +4,8 @@ use Rattle.std.specs.Option.{option_map}
 use Rattle.std.proofs.lemmas.List.{map-append, length-map, length-take, length-drop, drop-append-le, take-append-le, take-take, take-map, take-append-drop}
 use Rattle.std.proofs.lemmas.Option.{slice_get-map, slice_get_within, slice_get_cases}
 use Rattle.history.specs.Entries.{numbers_of, PlacedValue, place_after, placed, Begins}
-use Rattle.history.specs.Rows.{RowNames, LinkValue, PlaceValue, names_after, IsRowAt, Leads}
-use Rattle.history.specs.Rows as rows
+use Rattle.history.specs.Blocks.{BlockNames, LinkValue, PlaceValue, names_after, IsBlockAt, Leads}
+use Rattle.history.specs.Blocks as blocks
 use Rattle.history.specs.Pasts.{known_entries, AreKnown, AreNotes, IsPast}
 use Rattle.history.proofs.Places.{slice_get-take, slice_get-drop, take_next, drop_map, take_within}
 use Rattle.history.proofs.Placed.{begins_at, length-placed_from, placed-append, placed-take, placed_from_at}
@@ -60,14 +60,14 @@ notes_more cells noted known name p are at before =
     }
 
 -- no more was read of an entry block than is known of it
-pub read_within : (first : RowNames) (place : PlaceValue) (noted : List ℕ) (known : List (Option PlacedValue)) (seen : List PlacedValue) → IsPast first place noted known seen
+pub read_within : (first : BlockNames) (place : PlaceValue) (noted : List ℕ) (known : List (Option PlacedValue)) (seen : List PlacedValue) → IsPast first place noted known seen
     → length seen ≤ length (known_entries known) - place.start
 read_within first place noted known seen is =
     let lie = placed (known_entries known) in
     omega (arith, ap length is.read, length-take (length seen) (drop place.start lie), length-drop place.start lie, length-placed_from [] (known_entries known))
 
 -- what was read at a place of the block is the entry there
-pub read_at : (first : RowNames) (place : PlaceValue) (noted : List ℕ) (known : List (Option PlacedValue)) (seen : List PlacedValue) (i : ℕ) (p : PlacedValue) → IsPast first place noted known seen
+pub read_at : (first : BlockNames) (place : PlaceValue) (noted : List ℕ) (known : List (Option PlacedValue)) (seen : List PlacedValue) (i : ℕ) (p : PlacedValue) → IsPast first place noted known seen
     → slice_get seen i ≡ Some p → slice_get (known_entries known) (place.start + i) ≡ Some p.entry
 read_at first place noted known seen i p is at =
     let entries = known_entries known in
@@ -78,8 +78,8 @@ read_at first place noted known seen i p is at =
     (placed_from_at [] entries (place.start + i) p here).0
 
 -- a place of the block, among those of all blocks
-pub row_cell : (first row : RowNames) (links : List LinkValue) (start at : ℕ) → IsRowAt first links start row → start ≤ at → slice_get row.cells (at - start) ≡ slice_get (names_after first links).cells at
-row_cell first row links start at is less =
+pub block_cell : (first block : BlockNames) (links : List LinkValue) (start at : ℕ) → IsBlockAt first links start block → start ≤ at → slice_get block.cells (at - start) ≡ slice_get (names_after first links).cells at
+block_cell first block links start at is less =
     ap (λ (l : List ℕ). slice_get l (at - start)) is.same_cells ∙ (slice_get-drop start (at - start) (names_after first links).cells ∙ ap (slice_get (names_after first links).cells) (omega arith))
 
 module _ {X : Type 0} (f : X → ℕ) (g : X → Option PlacedValue) where
@@ -88,7 +88,7 @@ module _ {X : Type 0} (f : X → ℕ) (g : X → Option PlacedValue) where
       ap known_entries (ap (map g) more ∙ (map-append g old (x ∷ []) ∙ ap (λ (k : Option PlacedValue). map g old ++ k ∷ []) knows)) ∙ known_more (map g old) p
 
   -- one more entry
-  pub past_more : (first : RowNames) (place : PlaceValue) (old new : List X) (x : X) (p : PlacedValue) (seen : List PlacedValue) → IsPast first place (map f old) (map g old) seen → new ≡ old ++ x ∷ []
+  pub past_more : (first : BlockNames) (place : PlaceValue) (old new : List X) (x : X) (p : PlacedValue) (seen : List PlacedValue) → IsPast first place (map f old) (map g old) seen → new ≡ old ++ x ∷ []
       → slice_get (names_after first place.links).cells (length old) ≡ Some (f x) → g x ≡ Some p → p.before ≡ numbers_of (known_entries (map g old)) → IsPast first place (map f new) (map g new) seen
   past_more first place old new x p seen is more at knows before =
       let cells = (names_after first place.links).cells in
@@ -127,28 +127,28 @@ module _ {X : Type 0} (f : X → ℕ) (g : X → Option PlacedValue) where
       )
 
 -- the next entry block
-pub past_next : (first row : RowNames) (place : PlaceValue) (noted : List ℕ) (known : List (Option PlacedValue)) (seen : List PlacedValue) (long : ℕ) → IsPast first place noted known seen → long ≡ length noted
-    → IsPast first (rows.place_after first place long row) noted known []
-past_next first row place noted known seen long is at =
+pub past_next : (first block : BlockNames) (place : PlaceValue) (noted : List ℕ) (known : List (Option PlacedValue)) (seen : List PlacedValue) (long : ℕ) → IsPast first place noted known seen → long ≡ length noted
+    → IsPast first (blocks.place_after first place long block) noted known []
+past_next first block place noted known seen long is at =
     let here = names_after first place.links in
     let fits = noted_fits here.cells noted known is.notes in
-    let last : LinkValue = record { start = long; next = rows.next_names here long row } in
+    let last : LinkValue = record { start = long; next = blocks.next_names here long block } in
     let names : names_after first (place.links ++ last ∷ []) ≡ last.next = names_after-append first place.links last in
-    let cells : (names_after first (place.links ++ last ∷ [])).cells ≡ take long here.cells ++ row.cells = ap (λ (n : RowNames). n.cells) names in
+    let cells : (names_after first (place.links ++ last ∷ [])).cells ≡ take long here.cells ++ block.cells = ap (λ (n : BlockNames). n.cells) names in
     record {
       notes = record {
-        names = is.notes.names ∙ (sym (take_front (length noted) long here.cells row.cells (omega arith) (omega arith)) ∙ ap (take (length noted)) (sym cells));
+        names = is.notes.names ∙ (sym (take_front (length noted) long here.cells block.cells (omega arith) (omega arith)) ∙ ap (take (length noted)) (sym cells));
         entries = is.notes.entries;
       };
       leads = subst (λ (l : List ℕ). Leads first (place.links ++ last ∷ []) l (length noted)) (sym cells)
-          (subst (λ (n : ℕ). Leads first (place.links ++ last ∷ []) (take long here.cells ++ row.cells) n) at
-          (leads_next first place.links here.cells row.cells long last (subst (λ (n : ℕ). Leads first place.links here.cells n) (sym at) is.leads) refl refl (omega arith)));
+          (subst (λ (n : ℕ). Leads first (place.links ++ last ∷ []) (take long here.cells ++ block.cells) n) at
+          (leads_next first place.links here.cells block.cells long last (subst (λ (n : ℕ). Leads first place.links here.cells n) (sym at) is.leads) refl refl (omega arith)));
       begun = omega arith;
       read = refl;
     }
 
 -- Up to where a block was left, its notes are of the same cells as the notes of pasts that went on.
-pub behind : (first : RowNames) (mine theirs : List LinkValue) (own other : List ℕ) (known others : List (Option PlacedValue)) (s : ℕ) → AreNotes (names_after first mine).cells own known
+pub behind : (first : BlockNames) (mine theirs : List LinkValue) (own other : List ℕ) (known others : List (Option PlacedValue)) (s : ℕ) → AreNotes (names_after first mine).cells own known
     → AreNotes (names_after first theirs).cells other others → Leads first theirs (names_after first theirs).cells (length other) → take (length mine) theirs ≡ mine
     → option_map (λ (l : LinkValue). l.start) (slice_get theirs (length mine)) ≡ Some s → (s ≤ length other) × ((i : ℕ) → i < length own → i < s → slice_get own i ≡ slice_get other i)
 behind first mine theirs own other known others s are go leads begins starts =
@@ -161,9 +161,9 @@ behind first mine theirs own other known others s are go leads begins starts =
     )
 
 -- in the same block the notes are of the same cells
-pub beside : (first : RowNames) (mine theirs : List LinkValue) (own other : List ℕ) (known others : List (Option PlacedValue)) (i : ℕ) → AreNotes (names_after first mine).cells own known
+pub alongside : (first : BlockNames) (mine theirs : List LinkValue) (own other : List ℕ) (known others : List (Option PlacedValue)) (i : ℕ) → AreNotes (names_after first mine).cells own known
     → AreNotes (names_after first theirs).cells other others → mine ≡ theirs → i < length own → i < length other → slice_get own i ≡ slice_get other i
-beside first mine theirs own other known others i are go same within inside =
+alongside first mine theirs own other known others i are go same within inside =
     name_at (names_after first mine).cells own known i are within
     ∙ (ap (λ (l : List LinkValue). slice_get (names_after first l).cells i) same ∙ sym (name_at (names_after first theirs).cells other others i go inside))
 
@@ -175,9 +175,9 @@ module _ {X : Type 0} (f : X → ℕ) (g : X → Option PlacedValue) where
       let known : g x ≡ Some here.0 = cc one in
       ap is_some known
 
-  pub seen_cell : (first row : RowNames) (links : List LinkValue) (start i : ℕ) (notes : List X) (x : X) → IsRowAt first links start row → AreNotes (names_after first links).cells (map f notes) (map g notes)
-      → slice_get notes (start + i) ≡ Some x → slice_get row.cells i ≡ Some (f x)
-  seen_cell first row links start i notes x is are at =
+  pub seen_cell : (first block : BlockNames) (links : List LinkValue) (start i : ℕ) (notes : List X) (x : X) → IsBlockAt first links start block → AreNotes (names_after first links).cells (map f notes) (map g notes)
+      → slice_get notes (start + i) ≡ Some x → slice_get block.cells i ≡ Some (f x)
+  seen_cell first block links start i notes x is are at =
       let cells = (names_after first links).cells in
       ap (λ (l : List ℕ). slice_get l i) is.same_cells
       ∙ (slice_get-drop start i cells
@@ -185,7 +185,7 @@ module _ {X : Type 0} (f : X → ℕ) (g : X → Option PlacedValue) where
       ∙ (slice_get-map f notes (start + i) ∙ ap (option_map f) at)))
 
   -- one more entry was read
-  pub read_more : (first : RowNames) (place : PlaceValue) (notes : List X) (x : X) (p : PlacedValue) (seen more : List PlacedValue) → IsPast first place (map f notes) (map g notes) seen
+  pub read_more : (first : BlockNames) (place : PlaceValue) (notes : List X) (x : X) (p : PlacedValue) (seen more : List PlacedValue) → IsPast first place (map f notes) (map g notes) seen
       → slice_get notes (place.start + length seen) ≡ Some x → g x ≡ Some p → more ≡ seen ++ p ∷ [] → IsPast first place (map f notes) (map g notes) more
   read_more first place notes x p seen more is at knows grown =
       let i = place.start + length seen in
@@ -219,7 +219,7 @@ module _ {X : Type 0} (f : X → ℕ) (g : X → Option PlacedValue) where
       )
 
   -- what another past has more in the same block
-  pub learned : (first : RowNames) (place other : PlaceValue) (mine theirs new : List X) (seen others : List PlacedValue) → IsPast first place (map f mine) (map g mine) seen
+  pub learned : (first : BlockNames) (place other : PlaceValue) (mine theirs new : List X) (seen others : List PlacedValue) → IsPast first place (map f mine) (map g mine) seen
       → IsPast first other (map f theirs) (map g theirs) others → place.links ≡ other.links → length mine ≤ length theirs → Begins (known_entries (map g mine)) (known_entries (map g theirs))
       → new ≡ mine ++ drop (length mine) theirs → IsPast first place (map f new) (map g new) seen × (known_entries (map g new) ≡ known_entries (map g theirs))
   learned first place other mine theirs new seen others is are links less begins more =
@@ -246,7 +246,7 @@ module _ {X : Type 0} (f : X → ℕ) (g : X → Option PlacedValue) where
       )
 
   -- what another past has more, with its place
-  pub followed : (first : RowNames) (other : PlaceValue) (mine theirs new : List X) (others : List PlacedValue) → AreKnown (map g mine) → IsPast first other (map f theirs) (map g theirs) others
+  pub followed : (first : BlockNames) (other : PlaceValue) (mine theirs new : List X) (others : List PlacedValue) → AreKnown (map g mine) → IsPast first other (map f theirs) (map g theirs) others
       → map f mine ≡ take (length mine) (map f theirs) → Begins (known_entries (map g mine)) (known_entries (map g theirs)) → new ≡ mine ++ drop (length mine) theirs
       → IsPast first other (map f new) (map g new) [] × (known_entries (map g new) ≡ known_entries (map g theirs))
   followed first other mine theirs new others own are cells begins more =
@@ -257,7 +257,7 @@ module _ {X : Type 0} (f : X → ℕ) (g : X → Option PlacedValue) where
       )
 
   -- the same place and notes once more, with nothing read
-  pub unread : (first : RowNames) (place other : PlaceValue) (mine new : List X) (seen none : List PlacedValue) → IsPast first place (map f mine) (map g mine) seen → other ≡ place → new ≡ mine → none ≡ []
+  pub unread : (first : BlockNames) (place other : PlaceValue) (mine new : List X) (seen none : List PlacedValue) → IsPast first place (map f mine) (map g mine) seen → other ≡ place → new ≡ mine → none ≡ []
       → IsPast first other (map f new) (map g new) none
   unread first place other mine new seen none is same more empty =
       let whole : IsPast first place (map f mine) (map g mine) [] = record { notes = is.notes; leads = is.leads; begun = is.begun; read = refl } in
@@ -265,7 +265,7 @@ module _ {X : Type 0} (f : X → ℕ) (g : X → Option PlacedValue) where
       (subst (λ (l : List X). IsPast first other (map f l) (map g l) []) (sym more) (subst (λ (p : PlaceValue). IsPast first p (map f mine) (map g mine) []) (sym same) whole))
 
 -- up to where a block was left, the notes are of the first cells of pasts that went on
-pub front_cells : (first : RowNames) (mine theirs : List LinkValue) (own other : List ℕ) (known others : List (Option PlacedValue)) (s : ℕ) → AreNotes (names_after first mine).cells own known
+pub front_cells : (first : BlockNames) (mine theirs : List LinkValue) (own other : List ℕ) (known others : List (Option PlacedValue)) (s : ℕ) → AreNotes (names_after first mine).cells own known
     → AreNotes (names_after first theirs).cells other others → Leads first theirs (names_after first theirs).cells (length other) → take (length mine) theirs ≡ mine
     → option_map (λ (l : LinkValue). l.start) (slice_get theirs (length mine)) ≡ Some s → length own ≤ s → own ≡ take (length own) other
 front_cells first mine theirs own other known others s are go leads begins starts less =

@@ -3,7 +3,7 @@ use Rattle.std.proofs.Common.{◌≡◌, ℕ, zero, suc, ◌+◌, ◌<◌, ◌�
 use Rattle.std.specs.Option.{option_map}
 use Rattle.std.proofs.lemmas.List.{map-append, length-map, drop_at, length-take-le}
 use Rattle.std.proofs.lemmas.Option.{slice_get-map, slice_get_within, slice_get_cases}
-use Rattle.history.specs.Rows.{RowNames, LinkValue, names_after, next_names, link_cells, known_links, AreLinks, IsPlace}
+use Rattle.history.specs.Blocks.{BlockNames, LinkValue, names_after, next_names, link_cells, known_links, AreLinks, IsPlace}
 use Rattle.history.proofs.Places.{take_next}
 
 -- two notes of one cell, in the words of their comparison
@@ -13,11 +13,11 @@ compared (Some a) None p q ek em h = absurd (cc em)
 compared (Some a) (Some None) p q ek em h = absurd (cc em)
 compared (Some a) (Some (Some b)) p q ek em h = cc (ek, em, h)
 
-pub links_long : (first : RowNames) (noted : List ℕ) (known : List (Option LinkValue)) → AreLinks first noted known → length (known_links known) ≡ length known
+pub links_long : (first : BlockNames) (noted : List ℕ) (known : List (Option LinkValue)) → AreLinks first noted known → length (known_links known) ≡ length known
 links_long first noted known are = sym (ap length are.links ∙ length-map (known_links known) Some)
 
 -- what the note at a place knows is the link there
-pub link_at : (first : RowNames) (noted : List ℕ) (known : List (Option LinkValue)) (i : ℕ) → AreLinks first noted known → i < length known
+pub link_at : (first : BlockNames) (noted : List ℕ) (known : List (Option LinkValue)) (i : ℕ) → AreLinks first noted known → i < length known
     → (l : LinkValue) × (slice_get known i ≡ Some (Some l)) × (slice_get (known_links known) i ≡ Some l)
 link_at first noted known i are within =
     let links = known_links known in
@@ -31,16 +31,16 @@ link_at first noted known i are within =
       | inr past ↦ absurd (omega arith)
     ]
 
-link_cell_at : (here : RowNames) (links : List LinkValue) (i : ℕ) → i < length links → slice_get (link_cells here links) i ≡ Some (names_after here (take i links)).link
+link_cell_at : (here : BlockNames) (links : List LinkValue) (i : ℕ) → i < length links → slice_get (link_cells here links) i ≡ Some (names_after here (take i links)).link
 link_cell_at here [] i within = absurd (omega arith)
 link_cell_at here (l ∷ links) zero within = refl
 link_cell_at here (l ∷ links) (suc i) within = link_cell_at l.next links i (omega arith)
 
-link_cells-append : (here : RowNames) (links : List LinkValue) (l : LinkValue) → link_cells here (links ++ l ∷ []) ≡ link_cells here links ++ (names_after here links).link ∷ []
+link_cells-append : (here : BlockNames) (links : List LinkValue) (l : LinkValue) → link_cells here (links ++ l ∷ []) ≡ link_cells here links ++ (names_after here links).link ∷ []
 link_cells-append here [] l = refl
 link_cells-append here (k ∷ links) l = ap (λ rest. here.link ∷ rest) (link_cells-append k.next links l)
 
-pub names_after-append : (here : RowNames) (links : List LinkValue) (l : LinkValue) → names_after here (links ++ l ∷ []) ≡ l.next
+pub names_after-append : (here : BlockNames) (links : List LinkValue) (l : LinkValue) → names_after here (links ++ l ∷ []) ≡ l.next
 names_after-append here [] l = refl
 names_after-append here (k ∷ links) l = names_after-append k.next links l
 
@@ -53,7 +53,7 @@ map_some-append : (xs : List LinkValue) (l : LinkValue) → map Some (xs ++ l �
 map_some-append [] l = refl
 map_some-append (x ∷ xs) l = ap (λ rest. Some x ∷ rest) (map_some-append xs l)
 
-module _ {X : Type 0} (f : X → ℕ) (g : X → Option LinkValue) (first : RowNames) where
+module _ {X : Type 0} (f : X → ℕ) (g : X → Option LinkValue) (first : BlockNames) where
   -- a note is of the cell that comes after the links before it
   pub cell_at : (notes : List X) (i : ℕ) → AreLinks first (map f notes) (map g notes) → i < length notes
       → slice_get (map f notes) i ≡ Some (names_after first (take i (known_links (map g notes)))).link
@@ -121,17 +121,17 @@ module _ {X : Type 0} (f : X → ℕ) (g : X → Option LinkValue) (first : RowN
       ∙ (ap (option_map (λ (v : LinkValue). v.start)) here.2 ∙ (ap (λ (v : LinkValue). Some v.start) same ∙ starts)))
 
   -- the place after one more link
-  pub begins_row : (old new : List X) (x : X) (l : LinkValue) (left row : RowNames) (start long : ℕ) (links : List LinkValue) → IsPlace first left (map f old) (map g old) start → known_links (map g old) ≡ links
-      → new ≡ old ++ x ∷ [] → f x ≡ left.link → g x ≡ Some l → l ≡ record { start = long; next = next_names (names_after first links) long row } → long ≤ length (names_after first links).cells
-      → IsPlace first row (map f new) (map g new) long
-  begins_row old new x l left row start long links is same more at knows tells fits =
-      let next : names_after first (known_links (map g new)) ≡ next_names (names_after first links) long row =
+  pub begins_block : (old new : List X) (x : X) (l : LinkValue) (left block : BlockNames) (start long : ℕ) (links : List LinkValue) → IsPlace first left (map f old) (map g old) start → known_links (map g old) ≡ links
+      → new ≡ old ++ x ∷ [] → f x ≡ left.link → g x ≡ Some l → l ≡ record { start = long; next = next_names (names_after first links) long block } → long ≤ length (names_after first links).cells
+      → IsPlace first block (map f new) (map g new) long
+  begins_block old new x l left block start long links is same more at knows tells fits =
+      let next : names_after first (known_links (map g new)) ≡ next_names (names_after first links) long block =
       ap (names_after first) (links_more old new x l more knows) ∙ (names_after-append first (known_links (map g old)) l ∙ ap (λ (v : LinkValue). v.next) tells) in
       let cells = (names_after first links).cells in
       record {
         notes = are_links-more old new x l is.notes more (at ∙ is.here.same_link) knows;
         here = record {
-          same_link = ap (λ (n : RowNames). n.link) (sym next);
-          same_cells = sym (drop_at (take long cells) row.cells long (length-take-le long cells fits)) ∙ ap (λ (n : RowNames). drop long n.cells) (sym next);
+          same_link = ap (λ (n : BlockNames). n.link) (sym next);
+          same_cells = sym (drop_at (take long cells) block.cells long (length-take-le long cells fits)) ∙ ap (λ (n : BlockNames). drop long n.cells) (sym next);
         };
       }

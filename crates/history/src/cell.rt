@@ -13,7 +13,7 @@ pub(crate) fn set_cell<T: Drop>(
 ) -> Result<Note<T>, AddFault>
     ensures cell { IfOk result (λ note. note.cell ≡ cell_name cell.now) }
     ensures known { IfOk result (λ note. note.known ≡ Some value) }
-    ensures full { IsErrOf result AddFault.RowFull → ⊥ }
+    ensures full { IsErrOf result AddFault.BlockFull → ⊥ }
 {
     let boxed = boxed(alloc, value)?;
     let mut note = cell.note();

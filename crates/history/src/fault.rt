@@ -6,7 +6,7 @@ pub enum AddFault {
     /// An allocation failed.
     NoMemory,
     /// The entry block has no cell left.
-    RowFull,
+    BlockFull,
     /// The cell was set already: the history is longer.
     CellTaken,
 }

@@ -1,10 +1,10 @@
-use crate::FirstRow;
+use crate::FirstBlock;
 use std::marker::Brand;
 use std::sync::ledger::Ledger;
 
 /// Which history it is: the names of its first entry block's cells, the ledger that counts its records, and the state
 /// that it begins with. A program picks it at a call.
-pub trait Founding: Ledger + FirstRow {
+pub trait Founding: Ledger + FirstBlock {
     ghost use Rattle.ipc_model.specs.state.State.{State};
 
     ghost base: { State };

@@ -1,6 +1,7 @@
 //! One history of all sessions, in blocks of cells that are set once and read with no lock.
 #![tactic(auto)]
 
+mod block;
 mod cell;
 mod entry;
 mod fault;
@@ -12,11 +13,10 @@ mod notes;
 mod past;
 mod place;
 mod reading;
-mod row;
 
+pub use block::EntryBlock;
 pub use entry::Entry;
 pub use fault::{AddFault, CatchUpFault};
 pub use founding::Founding;
 pub use past::Past;
-pub use place::FirstRow;
-pub use row::Row;
+pub use place::FirstBlock;

@@ -1,5 +1,5 @@
 ghost use Rattle.std.specs.Prelude.{◌≡◌};
-ghost use Rattle.history.specs.Rows.{names_of_numbers, numbers_of_names, next_names};
+ghost use Rattle.history.specs.Blocks.{names_of_numbers, numbers_of_names, next_names};
 
 use boxcar::tag::{Names, Tag};
 use std::marker::Model;
@@ -12,7 +12,7 @@ pub(crate) struct Link {
 }
 
 impl Model for Link {
-    ghost use Rattle.history.specs.Rows.{LinkValue, link_code, names_of_numbers};
+    ghost use Rattle.history.specs.Blocks.{LinkValue, link_code, names_of_numbers};
 
     ghost Value = { LinkValue };
 
@@ -25,29 +25,29 @@ impl Model for Link {
 struct Left {
     here: Tag,
     long: usize,
-    row: Tag,
+    block: Tag,
 }
 
 /// The names from then on.
 struct NextNames;
 
 impl Names<Left> for NextNames {
-    ghost use Rattle.history.specs.Rows.{names_of_numbers, numbers_of_names, next_names};
+    ghost use Rattle.history.specs.Blocks.{names_of_numbers, numbers_of_names, next_names};
 
-    ghost numbers = { λ left. numbers_of_names (next_names (names_of_numbers left.here.numbers) left.long (names_of_numbers left.row.numbers)) };
+    ghost numbers = { λ left. numbers_of_names (next_names (names_of_numbers left.here.numbers) left.long (names_of_numbers left.block.numbers)) };
 }
 
 impl Link {
     /// The link from the names so far, after `long` entries, to an entry block.
-    pub(crate) fn new(here: Tag, long: usize, row: Tag) -> Self
-        ensures { result ≡ record { start = long; next = next_names (names_of_numbers here.numbers) long (names_of_numbers row.numbers) } }
+    pub(crate) fn new(here: Tag, long: usize, block: Tag) -> Self
+        ensures { result ≡ record { start = long; next = next_names (names_of_numbers here.numbers) long (names_of_numbers block.numbers) } }
     {
-        let left = Left { here, long, row };
+        let left = Left { here, long, block };
         let next = Tag::of::<Left, NextNames>(&left);
         let Left {
             here: _,
             long: _,
-            row: _,
+            block: _,
         } = left;
         Link { start: long, next }
     }

@@ -1,44 +1,44 @@
 ghost use Rattle.std.specs.Prelude.{◌≡◌, ◌≢◌, ◌+◌, ◌-◌, ◌<◌, ◌≤◌, ◌∷◌, [], ◌++◌, length, take, drop, map, slice_get, true, false, Ok, OnOk, OnErr, IsErrOf, vec_capacity};
 ghost use Rattle.history.specs.Entries.{Begins};
 ghost use Rattle.history.specs.Pasts.{known_entries, AreKnown, AreNotes};
-ghost use Rattle.history.specs.Rows.{names_after, Leads};
+ghost use Rattle.history.specs.Blocks.{names_after, Leads};
 
 use crate::held::Held;
 use crate::notes::{again_at, compare_at, copy_rest};
 use crate::place::Place;
-use crate::{AddFault, CatchUpFault, Entry, FirstRow, Past};
+use crate::{AddFault, CatchUpFault, Entry, FirstBlock, Past};
 use once_cell::race::Note;
 use std::alloc::AllocError;
 
-impl<L: FirstRow> Past<L> {
+impl<L: FirstBlock> Past<L> {
     /// Compares two prefixes, after which the shorter is known to begin the longer. Returns whether they could be
     /// compared, which two in one entry block always can.
     pub fn agree(&mut self, other: &mut Past<L>) -> bool
         ensures same { (self.new ≡ self.old) × (other.new ≡ other.old) }
         ensures begins { result ≡ true → length self.old.entries ≤ length other.old.entries → Begins self.old.entries other.old.entries }
         ensures goes_on { result ≡ true → length other.old.entries ≤ length self.old.entries → Begins other.old.entries self.old.entries }
-        ensures behind { result ≡ true → self.old.rows < other.old.rows → length self.old.entries ≤ length other.old.entries }
-        ensures ahead { result ≡ true → other.old.rows < self.old.rows → length other.old.entries ≤ length self.old.entries }
-        ensures known { self.old.rows ≡ other.old.rows → result ≡ true }
+        ensures behind { result ≡ true → self.old.blocks < other.old.blocks → length self.old.entries ≤ length other.old.entries }
+        ensures ahead { result ≡ true → other.old.blocks < self.old.blocks → length other.old.entries ≤ length self.old.entries }
+        ensures known { self.old.blocks ≡ other.old.blocks → result ≡ true }
     {
-        let own = self.rows();
-        let theirs = other.rows();
+        let own = self.blocks();
+        let theirs = other.blocks();
         if own < theirs {
             return self.begins(other);
         }
         if theirs < own {
             return other.begins(self);
         }
-        self.agree_in_row(other);
+        self.agree_in_block(other);
         true
     }
 
     /// Adds an entry after all that both have, so that both have it. If it isn't added, nothing changed.
     pub fn add_to_both(&mut self, other: &mut Past<L>, entry: Entry) -> Result<(), AddFault>
-        requires rows { self.old.rows ≡ other.old.rows }
+        requires blocks { self.old.blocks ≡ other.old.blocks }
         requires entries { length self.old.entries ≡ length other.old.entries }
         ensures ok { OnOk result ((self.new ≡ record self.old { entries = self.old.entries ++ entry ∷ [] }) × (other.new ≡ record other.old { entries = other.old.entries ++ entry ∷ [] })) }
-        ensures full { IsErrOf result AddFault.RowFull → self.old.start + length self.old.row.cells ≤ length self.old.entries }
+        ensures full { IsErrOf result AddFault.BlockFull → self.old.start + length self.old.block.cells ≤ length self.old.entries }
         ensures err { OnErr result ((self.new ≡ self.old) × (other.new ≡ other.old)) }
     {
         other.notes.reserve(1)?;
@@ -55,8 +55,8 @@ impl<L: FirstRow> Past<L> {
     }
 
     /// Compares two prefixes in one entry block.
-    fn agree_in_row(&mut self, other: &mut Past<L>)
-        requires { self.old.rows ≡ other.old.rows }
+    fn agree_in_block(&mut self, other: &mut Past<L>)
+        requires { self.old.blocks ≡ other.old.blocks }
         ensures same { (self.new ≡ self.old) × (other.new ≡ other.old) }
         ensures begins { length self.old.entries ≤ length other.old.entries → Begins self.old.entries other.old.entries }
         ensures goes_on { length other.old.entries ≤ length self.old.entries → Begins other.old.entries self.old.entries }
@@ -68,11 +68,11 @@ impl<L: FirstRow> Past<L> {
 
     /// Whether this one is seen to begin one that is in a later entry block.
     fn begins(&mut self, other: &mut Past<L>) -> bool
-        requires { self.old.rows < other.old.rows }
+        requires { self.old.blocks < other.old.blocks }
         ensures same { (self.new ≡ self.old) × (other.new ≡ other.old) }
         ensures begins { result ≡ true → (length self.old.entries ≤ length other.old.entries) × Begins self.old.entries other.old.entries }
     {
-        begin_in_row_before(
+        begin_in_block_before(
             &mut self.place,
             &mut self.notes,
             &mut other.place,
@@ -82,13 +82,13 @@ impl<L: FirstRow> Past<L> {
 
     /// Moves on to the later entry block of a prefix that this one is seen to begin. Returns whether it is.
     fn follow(&mut self, other: &mut Past<L>) -> Result<bool, AllocError>
-        requires { self.old.rows < other.old.rows }
+        requires { self.old.blocks < other.old.blocks }
         ensures same { other.new ≡ other.old }
         ensures moved { result ≡ Ok true → (self.new ≡ record other.old { read = 0 }) × (length self.old.entries ≤ length other.old.entries) × Begins self.old.entries other.old.entries }
         ensures apart { result ≡ Ok false → self.new ≡ self.old }
         ensures err { OnErr result (self.new ≡ self.old) }
     {
-        if !begin_in_row_before(
+        if !begin_in_block_before(
             &mut self.place,
             &mut self.notes,
             &mut other.place,
@@ -110,13 +110,13 @@ impl<L: FirstRow> Past<L> {
         ensures same { other.new ≡ other.old }
         ensures ok { OnOk result (self.new.entries ≡ self.old.entries ++ drop (length self.old.entries) other.old.entries) }
         ensures begins { OnOk result (Begins self.old.entries self.new.entries × Begins other.old.entries self.new.entries) }
-        ensures moved { OnOk result (self.old.rows < other.old.rows → self.new ≡ record other.old { read = 0 }) }
-        ensures stayed { OnOk result (other.old.rows ≤ self.old.rows → self.new ≡ record self.old { entries = self.new.entries }) }
-        ensures apart { IsErrOf result CatchUpFault.Apart → self.old.rows ≢ other.old.rows }
+        ensures moved { OnOk result (self.old.blocks < other.old.blocks → self.new ≡ record other.old { read = 0 }) }
+        ensures stayed { OnOk result (other.old.blocks ≤ self.old.blocks → self.new ≡ record self.old { entries = self.new.entries }) }
+        ensures apart { IsErrOf result CatchUpFault.Apart → self.old.blocks ≢ other.old.blocks }
         ensures err { OnErr result (self.new ≡ self.old) }
     {
-        let own = self.rows();
-        let theirs = other.rows();
+        let own = self.blocks();
+        let theirs = other.blocks();
         if own == theirs {
             self.learn(other)?;
             return Ok(());
@@ -135,7 +135,7 @@ impl<L: FirstRow> Past<L> {
 
     /// Learns what another prefix in its entry block has beyond this one.
     fn learn(&mut self, other: &mut Past<L>) -> Result<(), AllocError>
-        requires { self.old.rows ≡ other.old.rows }
+        requires { self.old.blocks ≡ other.old.blocks }
         ensures same { other.new ≡ other.old }
         ensures ok { OnOk result (self.new ≡ record self.old { entries = self.old.entries ++ drop (length self.old.entries) other.old.entries }) }
         ensures begins { OnOk result (Begins self.old.entries self.new.entries × Begins other.old.entries self.new.entries) }
@@ -155,13 +155,13 @@ impl<L: FirstRow> Past<L> {
 
 /// Whether notes up to an earlier entry block are seen to be of the same cells as the first ones up to a later block,
 /// and to know a prefix of what those know.
-fn begin_in_row_before<L: FirstRow>(
+fn begin_in_block_before<L: FirstBlock>(
     place: &mut Place<L>,
     notes: &mut Vec<Note<Held>>,
     later: &mut Place<L>,
     more: &mut Vec<Note<Held>>,
 ) -> bool
-    requires rows { length place.old.links < length later.old.links }
+    requires blocks { length place.old.links < length later.old.links }
     requires notes { AreNotes (names_after L.first place.old.links).cells (map (λ n. n.cell) notes.old.items) (map (λ n. n.known) notes.old.items) }
     requires more { AreNotes (names_after L.first later.old.links).cells (map (λ n. n.cell) more.old.items) (map (λ n. n.known) more.old.items) }
     requires leads { Leads L.first later.old.links (names_after L.first later.old.links).cells (length (map (λ n. n.cell) more.old.items)) }

@@ -5,7 +5,7 @@ ghost use Rattle.history.specs.Entries.{numbers_of};
 use crate::held::Held;
 use crate::notes::copy_rest;
 use crate::place::Place;
-use crate::{AddFault, Entry, FirstRow, Row};
+use crate::{AddFault, Entry, EntryBlock, FirstBlock};
 use boxcar::tag::{Names, Tag};
 use once_cell::race::Note;
 use std::alloc::{AllocError, Global};
@@ -14,7 +14,7 @@ use std::sync::Arc;
 
 /// A prefix of the history, up to an entry block that it keeps. Contracts see its entries, how many blocks came before
 /// its block, where that block begins, the names of its cells, and how many of the block's entries were read.
-pub struct Past<L: FirstRow> {
+pub struct Past<L: FirstBlock> {
     pub(crate) alloc: Global,
     pub(crate) place: Place<L>,
 
@@ -26,7 +26,7 @@ pub struct Past<L: FirstRow> {
 }
 
 // Written out, so that proofs above know one function and not its parts.
-impl<L: FirstRow> Drop for Past<L> {
+impl<L: FirstBlock> Drop for Past<L> {
     fn drop(self) {
         let Past {
             alloc: _,
@@ -40,7 +40,7 @@ impl<L: FirstRow> Drop for Past<L> {
     }
 }
 
-impl<L: FirstRow> Model for Past<L> {
+impl<L: FirstBlock> Model for Past<L> {
     ghost use Rattle.std.specs.Prelude.{length, map};
     ghost use Rattle.history.specs.Pasts.{PastValue, past_code, IsPast, known_entries};
 
@@ -48,7 +48,7 @@ impl<L: FirstRow> Model for Past<L> {
 
     ghost coded = { past_code };
 
-    ghost view = { λ p. record { entries = known_entries (map (λ n. n.known) p.notes.items); rows = length p.place.links; start = p.place.start; row = p.place.row; read = length p.seen.items } };
+    ghost view = { λ p. record { entries = known_entries (map (λ n. n.known) p.notes.items); blocks = length p.place.links; start = p.place.start; block = p.place.block; read = length p.seen.items } };
 
     ghost invariant = { λ p. IsPast L.first p.place (map (λ n. n.cell) p.notes.items) (map (λ n. n.known) p.notes.items) p.seen.items };
 }
@@ -56,21 +56,21 @@ impl<L: FirstRow> Model for Past<L> {
 /// All entries before the next one.
 struct AllBefore;
 
-impl<L: FirstRow> Names<Past<L>> for AllBefore {
+impl<L: FirstBlock> Names<Past<L>> for AllBefore {
     ghost use Rattle.history.specs.Entries.{numbers_of};
 
     ghost numbers = { λ past. numbers_of past.entries };
 }
 
-impl<L: FirstRow> Past<L> {
+impl<L: FirstBlock> Past<L> {
     /// The prefix that has no entry, in the first entry block.
-    pub fn new(alloc: Global, row: Arc<Row, Global>) -> Self
-        requires { arc_value row ≡ L.first }
-        ensures { result ≡ record { entries = []; rows = 0; start = 0; row = L.first; read = 0 } }
+    pub fn new(alloc: Global, block: Arc<EntryBlock, Global>) -> Self
+        requires { arc_value block ≡ L.first }
+        ensures { result ≡ record { entries = []; blocks = 0; start = 0; block = L.first; read = 0 } }
     {
         Past {
             alloc,
-            place: Place::new(alloc, row),
+            place: Place::new(alloc, block),
             notes: Vec::new(alloc),
             seen: Vec::new(alloc),
         }
@@ -101,10 +101,10 @@ impl<L: FirstRow> Past<L> {
     }
 
     /// How many entry blocks came before its block.
-    pub fn rows(&self) -> usize
-        ensures { result ≡ self.now.rows }
+    pub fn blocks(&self) -> usize
+        ensures { result ≡ self.now.blocks }
     {
-        self.place.rows()
+        self.place.blocks()
     }
 
     /// How many entries came before its entry block.
@@ -118,23 +118,23 @@ impl<L: FirstRow> Past<L> {
 
     /// How many entries its block has room for.
     pub fn capacity(&self) -> usize
-        ensures { result ≡ length self.now.row.cells }
+        ensures { result ≡ length self.now.block.cells }
     {
-        self.place.row().capacity()
+        self.place.block().capacity()
     }
 
     /// Another handle to its entry block. A caller that keeps it frees the block, instead of the prefix, which may move
     /// on under a lock.
-    pub fn row(&self) -> Result<Arc<Row, Global>, AllocError>
-        ensures { IfOk result (λ row. arc_value row ≡ self.now.row) }
+    pub fn block(&self) -> Result<Arc<EntryBlock, Global>, AllocError>
+        ensures { IfOk result (λ block. arc_value block ≡ self.now.block) }
     {
-        self.place.share_row()
+        self.place.share_block()
     }
 
     /// Adds an entry after all that it has.
     pub fn add(&mut self, entry: Entry) -> Result<(), AddFault>
         ensures ok { OnOk result (self.new ≡ record self.old { entries = self.old.entries ++ entry ∷ [] }) }
-        ensures full { IsErrOf result AddFault.RowFull → self.old.start + length self.old.row.cells ≤ length self.old.entries }
+        ensures full { IsErrOf result AddFault.BlockFull → self.old.start + length self.old.block.cells ≤ length self.old.entries }
         ensures err { OnErr result (self.new ≡ self.old) }
     {
         let before = Tag::of::<Past<L>, AllBefore>(self);
@@ -145,12 +145,12 @@ impl<L: FirstRow> Past<L> {
     fn put(&mut self, held: Held) -> Result<(), AddFault>
         requires { held.before ≡ numbers_of self.old.entries }
         ensures ok { OnOk result (self.new ≡ record self.old { entries = self.old.entries ++ held.entry ∷ [] }) }
-        ensures full { IsErrOf result AddFault.RowFull → self.old.start + length self.old.row.cells ≤ length self.old.entries }
+        ensures full { IsErrOf result AddFault.BlockFull → self.old.start + length self.old.block.cells ≤ length self.old.entries }
         ensures err { OnErr result (self.new ≡ self.old) }
     {
         self.notes.reserve(1)?;
         let at = self.notes.len() - self.place.start();
-        match self.place.row().set(self.alloc, at, held) {
+        match self.place.block().set(self.alloc, at, held) {
             Ok(note) => {
                 self.notes.push_reserved(note);
                 Ok(())
@@ -162,12 +162,12 @@ impl<L: FirstRow> Past<L> {
     /// Goes on in another entry block, whose entries come after all that it has.
     ///
     /// `NoMemory`: an allocation failed. `CellTaken`: another prefix moved on from this block before.
-    pub fn begin_row(&mut self, row: Arc<Row, Global>) -> Result<(), AddFault>
-        ensures ok { OnOk result (self.new ≡ record { entries = self.old.entries; rows = self.old.rows + 1; start = length self.old.entries; row = arc_value row; read = 0 }) }
-        ensures full { IsErrOf result AddFault.RowFull → ⊥ }
+    pub fn begin_block(&mut self, block: Arc<EntryBlock, Global>) -> Result<(), AddFault>
+        ensures ok { OnOk result (self.new ≡ record { entries = self.old.entries; blocks = self.old.blocks + 1; start = length self.old.entries; block = arc_value block; read = 0 }) }
+        ensures full { IsErrOf result AddFault.BlockFull → ⊥ }
         ensures err { OnErr result (self.new ≡ self.old) }
     {
-        match self.place.begin(self.alloc, self.notes.len(), row) {
+        match self.place.begin(self.alloc, self.notes.len(), block) {
             Ok(()) => {
                 self.seen.clear();
                 Ok(())

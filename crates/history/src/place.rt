@@ -1,10 +1,10 @@
 ghost use Rattle.std.specs.Prelude.{◌≡◌, ◌≤◌, ◌<◌, Some, [], IfOk, OnOk, OnErr, IsErrOf, IfSome, length, map, take, slice_get, option_map};
 ghost use Rattle.std.specs.Arc.{arc_value};
-ghost use Rattle.history.specs.Rows.{names_after, place_after, known_links, AreLinks, IsRowAt};
+ghost use Rattle.history.specs.Blocks.{names_after, place_after, known_links, AreLinks, IsBlockAt};
 
 use crate::link::Link;
 use crate::notes::{again_at, compare_at, copy_rest};
-use crate::{AddFault, Row};
+use crate::{AddFault, EntryBlock};
 use boxcar::tag::{Names, Tag};
 use once_cell::race::Note;
 use std::alloc::{AllocError, Global};
@@ -12,44 +12,44 @@ use std::marker::{Brand, Model, PhantomData};
 use std::sync::Arc;
 
 /// Which history it is, by the names of its first entry block's cells. A program picks it at a call.
-pub trait FirstRow {
-    ghost use Rattle.history.specs.Rows.{RowNames};
+pub trait FirstBlock {
+    ghost use Rattle.history.specs.Blocks.{BlockNames};
 
-    ghost first: { RowNames };
+    ghost first: { BlockNames };
 }
 
-impl FirstRow for Brand {
+impl FirstBlock for Brand {
     ghost first = { record { link = 0; cells = [] } };
 }
 
 /// An entry block of the history, and the notes of the links that lead there from the first block.
 #[derive(Drop)]
-pub(crate) struct Place<L: FirstRow> {
+pub(crate) struct Place<L: FirstBlock> {
     links: Vec<Note<Link>>,
-    row: Arc<Row, Global>,
+    block: Arc<EntryBlock, Global>,
     start: usize,
     of: PhantomData<L>,
 }
 
-impl<L: FirstRow> Model for Place<L> {
+impl<L: FirstBlock> Model for Place<L> {
     ghost use Rattle.std.specs.Prelude.{map};
     ghost use Rattle.std.specs.Arc.{arc_value};
-    ghost use Rattle.history.specs.Rows.{PlaceValue, place_code, IsPlace, known_links};
+    ghost use Rattle.history.specs.Blocks.{PlaceValue, place_code, IsPlace, known_links};
 
     ghost Value = { PlaceValue };
 
     ghost coded = { place_code };
 
-    ghost view = { λ p. record { links = known_links (map (λ n. n.known) p.links.items); start = p.start; row = arc_value p.row } };
+    ghost view = { λ p. record { links = known_links (map (λ n. n.known) p.links.items); start = p.start; block = arc_value p.block } };
 
-    ghost invariant = { λ p. IsPlace L.first (arc_value p.row) (map (λ n. n.cell) p.links.items) (map (λ n. n.known) p.links.items) p.start };
+    ghost invariant = { λ p. IsPlace L.first (arc_value p.block) (map (λ n. n.cell) p.links.items) (map (λ n. n.known) p.links.items) p.start };
 }
 
 /// The names so far, at a place.
 struct Here;
 
-impl<L: FirstRow> Names<Place<L>> for Here {
-    ghost use Rattle.history.specs.Rows.{names_after, numbers_of_names};
+impl<L: FirstBlock> Names<Place<L>> for Here {
+    ghost use Rattle.history.specs.Blocks.{names_after, numbers_of_names};
 
     ghost numbers = { λ place. numbers_of_names (names_after L.first place.links) };
 }
@@ -57,39 +57,39 @@ impl<L: FirstRow> Names<Place<L>> for Here {
 /// The names of an entry block.
 struct Own;
 
-impl Names<Row> for Own {
-    ghost use Rattle.history.specs.Rows.{numbers_of_names};
+impl Names<EntryBlock> for Own {
+    ghost use Rattle.history.specs.Blocks.{numbers_of_names};
 
-    ghost numbers = { λ row. numbers_of_names row };
+    ghost numbers = { λ block. numbers_of_names block };
 }
 
-impl<L: FirstRow> Place<L> {
+impl<L: FirstBlock> Place<L> {
     /// The first entry block.
-    pub(crate) fn new(alloc: Global, row: Arc<Row, Global>) -> Self
-        requires { arc_value row ≡ L.first }
-        ensures { result ≡ record { links = []; start = 0; row = L.first } }
+    pub(crate) fn new(alloc: Global, block: Arc<EntryBlock, Global>) -> Self
+        requires { arc_value block ≡ L.first }
+        ensures { result ≡ record { links = []; start = 0; block = L.first } }
     {
         Place {
             links: Vec::new(alloc),
-            row,
+            block,
             start: 0,
             of: PhantomData,
         }
     }
 
     /// Its entry block.
-    pub(crate) fn row(&self) -> &Row
-        ensures row { result.now ≡ self.now.row }
-        ensures here { IsRowAt L.first self.now.links self.now.start self.now.row }
+    pub(crate) fn block(&self) -> &EntryBlock
+        ensures block { result.now ≡ self.now.block }
+        ensures here { IsBlockAt L.first self.now.links self.now.start self.now.block }
     {
-        &self.row
+        &self.block
     }
 
     /// Another handle to its entry block.
-    pub(crate) fn share_row(&self) -> Result<Arc<Row, Global>, AllocError>
-        ensures { IfOk result (λ row. arc_value row ≡ self.now.row) }
+    pub(crate) fn share_block(&self) -> Result<Arc<EntryBlock, Global>, AllocError>
+        ensures { IfOk result (λ block. arc_value block ≡ self.now.block) }
     {
-        Arc::try_clone(&self.row)
+        Arc::try_clone(&self.block)
     }
 
     /// How many entries come before its block.
@@ -100,7 +100,7 @@ impl<L: FirstRow> Place<L> {
     }
 
     /// How many blocks come before its block.
-    pub(crate) fn rows(&self) -> usize
+    pub(crate) fn blocks(&self) -> usize
         ensures { result ≡ length self.now.links }
     {
         self.links.len()
@@ -111,13 +111,13 @@ impl<L: FirstRow> Place<L> {
         ensures same { self.new ≡ self.old }
         ensures place { IfOk result (λ place. place ≡ self.old) }
     {
-        let row = Arc::try_clone(&self.row)?;
+        let block = Arc::try_clone(&self.block)?;
         let mut links = Vec::with_capacity(alloc, self.links.len())?;
         copy_rest(&mut links, &mut self.links);
         let start = self.start;
         Ok(Place {
             links,
-            row,
+            block,
             start,
             of: PhantomData,
         })
@@ -138,21 +138,21 @@ impl<L: FirstRow> Place<L> {
         &mut self,
         alloc: Global,
         long: usize,
-        row: Arc<Row, Global>,
+        block: Arc<EntryBlock, Global>,
     ) -> Result<(), AddFault>
         requires { long ≤ length (names_after L.first self.old.links).cells }
-        ensures ok { OnOk result (self.new ≡ place_after L.first self.old long (arc_value row)) }
-        ensures full { IsErrOf result AddFault.RowFull → ⊥ }
+        ensures ok { OnOk result (self.new ≡ place_after L.first self.old long (arc_value block)) }
+        ensures full { IsErrOf result AddFault.BlockFull → ⊥ }
         ensures err { OnErr result (self.new ≡ self.old) }
     {
         let here = Tag::of::<Place<L>, Here>(self);
-        let own = Tag::of::<Row, Own>(&row);
+        let own = Tag::of::<EntryBlock, Own>(&block);
         let link = Link::new(here, long, own);
         self.links.reserve(1)?;
-        match self.row.set_link(alloc, link) {
+        match self.block.set_link(alloc, link) {
             Ok(note) => {
                 self.links.push_reserved(note);
-                self.row = row;
+                self.block = block;
                 self.start = long;
                 Ok(())
             }
@@ -168,14 +168,14 @@ impl<L: FirstRow> Place<L> {
         ensures same { other.new ≡ other.old }
         ensures start { IfSome result (λ s. option_map (λ l. l.start) (slice_get other.old.links (length self.now.links)) ≡ Some s) }
     {
-        let (start, note) = self.row.left()?;
+        let (start, note) = self.block.left()?;
         compare_at(&mut other.links, self.links.len(), note);
         Some(start)
     }
 }
 
 /// The links that two places both have are the same.
-fn agree_links<L: FirstRow>(mine: &mut Vec<Note<Link>>, theirs: &mut Vec<Note<Link>>, both: usize)
+fn agree_links<L: FirstBlock>(mine: &mut Vec<Note<Link>>, theirs: &mut Vec<Note<Link>>, both: usize)
     requires mine { AreLinks L.first (map (λ n. n.cell) mine.old.items) (map (λ n. n.known) mine.old.items) }
     requires theirs { AreLinks L.first (map (λ n. n.cell) theirs.old.items) (map (λ n. n.known) theirs.old.items) }
     requires both { (both ≤ length mine.old.items) × (both ≤ length theirs.old.items) }

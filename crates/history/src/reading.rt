@@ -2,12 +2,12 @@ ghost use Rattle.std.specs.Prelude.{◌≡◌, ◌+◌, ◌-◌, ◌<◌, ◌≤
 
 use crate::held::Held;
 use crate::notes::again_at;
-use crate::{FirstRow, Past, Row};
+use crate::{EntryBlock, FirstBlock, Past};
 use ipc_model::Record;
 use once_cell::race::Note;
 use std::alloc::AllocError;
 
-impl<L: FirstRow> Past<L> {
+impl<L: FirstBlock> Past<L> {
     /// How many entries of its block were read.
     pub fn count_read(&self) -> usize
         ensures read { result ≡ self.now.read }
@@ -48,19 +48,19 @@ impl<L: FirstRow> Past<L> {
         self.seen.reserve(1)?;
         let at = self.seen.len();
         let mut note = again_at(&mut self.notes, self.place.start() + at);
-        let held = share_known(self.place.row(), at, &mut note)?;
+        let held = share_known(self.place.block(), at, &mut note)?;
         self.seen.push_reserved(held);
         Ok(())
     }
 }
 
 /// The entry in the cell at a place, which a note knows.
-fn share_known(row: &Row, at: usize, note: &mut Note<Held>) -> Result<Held, AllocError>
-    requires cell { slice_get row.now.cells at ≡ Some note.old.cell }
+fn share_known(block: &EntryBlock, at: usize, note: &mut Note<Held>) -> Result<Held, AllocError>
+    requires cell { slice_get block.now.cells at ≡ Some note.old.cell }
     requires known { is_some note.old.known ≡ true }
     ensures { IfOk result (λ held. note.old.known ≡ Some held) }
 {
-    match row.look(at, note) {
+    match block.look(at, note) {
         Some(held) => held.share(),
         None => unreachable!(),
     }

@@ -2,38 +2,38 @@
 use Rattle.std.proofs.Common.{◌≡◌, ℕ, ◌<◌, ◌^◌, ◌++◌, [], ◌∷◌, List, Option, Result, Ok, Err, OnOk, length, drop, refl, sym, ◌∙◌, ap, subst, arith, length-append}
 use Rattle.std.specs.declared.alloc.AllocError.{AllocError}
 use Rattle.image.specs.Parts.{added}
-use Rattle.ipc_laws.specs.ImageLaws.{SpellableEntry}
+use Rattle.ipc_laws.specs.ImageLaws.{EncodableEntry}
 use Rattle.ipc_model.specs.declared.entry.Entry.{Entry}
 use Rattle.ipc_model.specs.declared.entry.Entry.TheVariants.{Port, SendOnce, Set, Dead}
 use Rattle.ipc_model.specs.declared.entry.PortRights.{PortRights}
-use Rattle.ipc_model.specs.texts.Images.{entry_text, number_or_0}
-use Rattle.ipc_model.specs.texts.Texts.{number_of_bool}
+use Rattle.ipc_model.specs.encodings.Images.{entry_encoding, number_or_0}
+use Rattle.ipc_model.specs.encodings.Encodings.{number_of_bool}
 use Rattle.words.specs.Words.{word, long_word}
 use Rattle.words.specs.WordLaws.{length-word, length-long_word}
 
 module _ (bytes : List ℕ) (kind : ℕ) (behind : List ℕ) (begins : bytes ≡ kind ∷ behind) (P : Entry → List ℕ → Type 0) where
-  pub rights_alone : kind ≡ 1 → ((rights : PortRights) (rest : List ℕ) → SpellableEntry (Port rights) → 1 ∷ behind ≡ entry_text (Port rights) ++ rest → P (Port rights) rest)
-      → (entry : Entry) (rest : List ℕ) → SpellableEntry entry → bytes ≡ entry_text entry ++ rest → P entry rest
-  rights_alone is f (Port rights) rest fits e = f rights rest fits (subst (λ (k : ℕ). k ∷ behind ≡ entry_text (Port rights) ++ rest) is (sym begins ∙ e))
+  pub rights_alone : kind ≡ 1 → ((rights : PortRights) (rest : List ℕ) → EncodableEntry (Port rights) → 1 ∷ behind ≡ entry_encoding (Port rights) ++ rest → P (Port rights) rest)
+      → (entry : Entry) (rest : List ℕ) → EncodableEntry entry → bytes ≡ entry_encoding entry ++ rest → P entry rest
+  rights_alone is f (Port rights) rest fits e = f rights rest fits (subst (λ (k : ℕ). k ∷ behind ≡ entry_encoding (Port rights) ++ rest) is (sym begins ∙ e))
   rights_alone is f (SendOnce port target) rest fits e = absurd (cc (is, begins, e))
   rights_alone is f Set rest fits e = absurd (cc (is, begins, e))
   rights_alone is f (Dead references) rest fits e = absurd (cc (is, begins, e))
 
-  pub send_once_alone : kind ≡ 2 → ((port : ℕ) (target : Option ℕ) (rest : List ℕ) → SpellableEntry (SendOnce port target) → 2 ∷ behind ≡ entry_text (SendOnce port target) ++ rest → P (SendOnce port target) rest)
-      → (entry : Entry) (rest : List ℕ) → SpellableEntry entry → bytes ≡ entry_text entry ++ rest → P entry rest
+  pub send_once_alone : kind ≡ 2 → ((port : ℕ) (target : Option ℕ) (rest : List ℕ) → EncodableEntry (SendOnce port target) → 2 ∷ behind ≡ entry_encoding (SendOnce port target) ++ rest → P (SendOnce port target) rest)
+      → (entry : Entry) (rest : List ℕ) → EncodableEntry entry → bytes ≡ entry_encoding entry ++ rest → P entry rest
   send_once_alone is f (Port rights) rest fits e = absurd (cc (is, begins, e))
-  send_once_alone is f (SendOnce port target) rest fits e = f port target rest fits (subst (λ (k : ℕ). k ∷ behind ≡ entry_text (SendOnce port target) ++ rest) is (sym begins ∙ e))
+  send_once_alone is f (SendOnce port target) rest fits e = f port target rest fits (subst (λ (k : ℕ). k ∷ behind ≡ entry_encoding (SendOnce port target) ++ rest) is (sym begins ∙ e))
   send_once_alone is f Set rest fits e = absurd (cc (is, begins, e))
   send_once_alone is f (Dead references) rest fits e = absurd (cc (is, begins, e))
 
-pub set_alone : (bytes : List ℕ) (kind : ℕ) (behind : List ℕ) → bytes ≡ kind ∷ behind → kind ≡ 3 → (entry : Entry) (rest : List ℕ) → SpellableEntry entry → bytes ≡ entry_text entry ++ rest → (Set ≡ entry) × (behind ≡ rest)
+pub set_alone : (bytes : List ℕ) (kind : ℕ) (behind : List ℕ) → bytes ≡ kind ∷ behind → kind ≡ 3 → (entry : Entry) (rest : List ℕ) → EncodableEntry entry → bytes ≡ entry_encoding entry ++ rest → (Set ≡ entry) × (behind ≡ rest)
 set_alone bytes kind behind begins is (Port rights) rest fits e = absurd (cc (is, begins, e))
 set_alone bytes kind behind begins is (SendOnce port target) rest fits e = absurd (cc (is, begins, e))
 set_alone bytes kind behind begins is Set rest fits e = (refl, ap (drop 1) (sym begins ∙ e))
 set_alone bytes kind behind begins is (Dead references) rest fits e = absurd (cc (is, begins, e))
 
 pub dead_alone : (bytes : List ℕ) (kind : ℕ) (behind : List ℕ) → bytes ≡ kind ∷ behind → kind ≡ 4 → (P : Entry → List ℕ → Type 0) → ((references : ℕ) (rest : List ℕ) → references < 2 ^ 32 → behind ≡ word references ++ rest → P (Dead references) rest)
-    → (entry : Entry) (rest : List ℕ) → SpellableEntry entry → bytes ≡ entry_text entry ++ rest → P entry rest
+    → (entry : Entry) (rest : List ℕ) → EncodableEntry entry → bytes ≡ entry_encoding entry ++ rest → P entry rest
 dead_alone bytes kind behind begins is P f (Port rights) rest fits e = absurd (cc (is, begins, e))
 dead_alone bytes kind behind begins is P f (SendOnce port target) rest fits e = absurd (cc (is, begins, e))
 dead_alone bytes kind behind begins is P f Set rest fits e = absurd (cc (is, begins, e))
@@ -45,12 +45,12 @@ on_ok (Err e) f holds = holds
 
 -- the rights to a port, part by part
 pub rights_added : (result : Result (Unit {0}) AllocError) (entry : Entry) (rights : PortRights) (old a b c d end : List ℕ) (byte : ℕ) → entry ≡ Port rights → a ≡ old ++ 1 ∷ [] → b ≡ a ++ long_word rights.port
-    → byte ≡ number_of_bool rights.receive → c ≡ b ++ byte ∷ [] → d ≡ c ++ word rights.send → OnOk result (end ≡ d ++ long_word (number_or_0 rights.dead_name_target)) → OnOk result (end ≡ old ++ entry_text entry)
+    → byte ≡ number_of_bool rights.receive → c ≡ b ++ byte ∷ [] → d ≡ c ++ word rights.send → OnOk result (end ≡ d ++ long_word (number_or_0 rights.dead_name_target)) → OnOk result (end ≡ old ++ entry_encoding entry)
 rights_added result entry rights old a b c d end byte is is_a is_b flag is_c is_d ends =
     let target : List ℕ = long_word (number_or_0 rights.dead_name_target) in
     let sends : List ℕ = word rights.send ++ target in
     let receives : List ℕ = number_of_bool rights.receive ∷ sends in
-    subst (λ (e : Entry). OnOk result (end ≡ old ++ entry_text e)) (sym is) (on_ok result (λ is_end.
+    subst (λ (e : Entry). OnOk result (end ≡ old ++ entry_encoding e)) (sym is) (on_ok result (λ is_end.
     let to_c : end ≡ c ++ sends = added c d (word rights.send) target end is_d is_end in
     let to_b : end ≡ b ++ receives = added b c (number_of_bool rights.receive ∷ []) sends end (is_c ∙ ap (λ (n : ℕ). b ++ n ∷ []) flag) to_c in
     let to_a : end ≡ a ++ (long_word rights.port ++ receives) = added a b (long_word rights.port) receives end is_b to_b in

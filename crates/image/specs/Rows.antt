@@ -1,6 +1,6 @@
 -- The encoding of a snapshot, row by row. For the snapshot of a state it is the state's image.
 use Rattle.std.specs.Prelude.{ℕ, List, ◌++◌, length, flat_map}
-use Rattle.ipc_model.specs.texts.Images.{entry_text, port_text}
+use Rattle.ipc_model.specs.encodings.Images.{entry_encoding, port_encoding}
 use Rattle.snapshot.specs.declared.rows.LivePort.{LivePort}
 use Rattle.snapshot.specs.declared.rows.NamedEntry.{NamedEntry}
 use Rattle.snapshot.specs.declared.rows.Snapshot.{Snapshot}
@@ -8,20 +8,20 @@ use Rattle.snapshot.specs.declared.rows.Space.{Space}
 use Rattle.words.specs.Words.{word, long_word}
 
 -- a name and what it stands for
-abbrev pub named_text : NamedEntry → List ℕ
-named_text row = word row.name ++ entry_text row.entry
+abbrev pub named_encoding : NamedEntry → List ℕ
+named_encoding row = word row.name ++ entry_encoding row.entry
 
 -- a space: its number, and its names
-abbrev pub space_text : Space → List ℕ
-space_text space = word space.number ++ (word (length space.names) ++ flat_map named_text space.names)
+abbrev pub space_encoding : Space → List ℕ
+space_encoding space = word space.number ++ (word (length space.names) ++ flat_map named_encoding space.names)
 
 -- a live port: its serial, and what it keeps
-abbrev pub live_port_text : LivePort → List ℕ
-live_port_text port = long_word port.serial ++ port_text port.state
+abbrev pub live_port_encoding : LivePort → List ℕ
+live_port_encoding port = long_word port.serial ++ port_encoding port.state
 
 -- a snapshot: the next serial, the spaces, the ports
-unfoldable pub snapshot_text : Snapshot → List ℕ
-snapshot_text snapshot =
+unfoldable pub snapshot_encoding : Snapshot → List ℕ
+snapshot_encoding snapshot =
     long_word snapshot.next_serial
-    ++ (word (length snapshot.spaces) ++ (flat_map space_text snapshot.spaces
-    ++ (word (length snapshot.ports) ++ flat_map live_port_text snapshot.ports)))
+    ++ (word (length snapshot.spaces) ++ (flat_map space_encoding snapshot.spaces
+    ++ (word (length snapshot.ports) ++ flat_map live_port_encoding snapshot.ports)))

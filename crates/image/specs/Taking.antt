@@ -5,31 +5,31 @@ use Rattle.std.proofs.lemmas.Grind.{flat_map-append}
 use Rattle.std.proofs.lemmas.List.{append-nil}
 use Rattle.std.proofs.lemmas.List.Elements.{All-nil, All-cons, All-head, All-tail, All-append}
 
-module _ {A : Type 0} (text : A → List ℕ) (fits : A → Type 0) where
+module _ {A : Type 0} (encoding : A → List ℕ) (fits : A → Type 0) where
   -- The bytes encode this many values, followed by `end`.
-  abbrev pub Spells : List ℕ → ℕ → List A → List ℕ → Type 0
-  Spells bytes count rows end = All fits rows × (length rows ≡ count) × (bytes ≡ flat_map text rows ++ end)
+  abbrev pub Encodes : List ℕ → ℕ → List A → List ℕ → Type 0
+  Encodes bytes count rows end = All fits rows × (length rows ≡ count) × (bytes ≡ flat_map encoding rows ++ end)
 
   -- Values were taken, and these bytes are left. However the whole encodes this many values, they begin with those that
   -- were taken, and what is left encodes the others.
   pub record Taken (whole : List ℕ) (count : ℕ) (rows : List A) (left : List ℕ) : Type 0 where
-    pub joined : whole ≡ flat_map text rows ++ left
+    pub joined : whole ≡ flat_map encoding rows ++ left
     pub fit : All fits rows
-    pub only : (all : List A) (end : List ℕ) → Spells whole count all end → (more : List A) × (all ≡ rows ++ more) × All fits more × (left ≡ flat_map text more ++ end)
+    pub only : (all : List A) (end : List ℕ) → Encodes whole count all end → (more : List A) × (all ≡ rows ++ more) × All fits more × (left ≡ flat_map encoding more ++ end)
 
   -- The bytes begin with this value, and with no other.
   abbrev pub Leads : List ℕ → A → List ℕ → Type 0
-  Leads bytes row behind = (bytes ≡ text row ++ behind) × fits row × ((value : A) (rest : List ℕ) → fits value → bytes ≡ text value ++ rest → (row ≡ value) × (behind ≡ rest))
+  Leads bytes row behind = (bytes ≡ encoding row ++ behind) × fits row × ((value : A) (rest : List ℕ) → fits value → bytes ≡ encoding value ++ rest → (row ≡ value) × (behind ≡ rest))
 
   -- The bytes begin with no value.
   abbrev pub LeadsNone : List ℕ → Type 0
-  LeadsNone bytes = (value : A) (rest : List ℕ) → fits value → bytes ≡ text value ++ rest → ⊥
+  LeadsNone bytes = (value : A) (rest : List ℕ) → fits value → bytes ≡ encoding value ++ rest → ⊥
 
   pub none_taken : (whole : List ℕ) (count : ℕ) → Taken whole count [] whole
   none_taken whole count = record {
     joined = refl;
     fit = All-nil fits;
-    only = λ (all : List A) (end : List ℕ) (spells : _). (all, refl, spells.0, spells.2);
+    only = λ (all : List A) (end : List ℕ) (encodes : _). (all, refl, encodes.0, encodes.2);
   }
 
   -- some values are left where fewer were taken than there are
@@ -40,18 +40,18 @@ module _ {A : Type 0} (text : A → List ℕ) (fits : A → Type 0) where
   pub one_more : (whole : List ℕ) (count : ℕ) (rows : List A) (left : List ℕ) (row : A) (behind : List ℕ) → length rows < count
       → Taken whole count rows left → Leads left row behind → Taken whole count (rows ++ row ∷ []) behind
   one_more whole count rows left row behind fewer taken leads = record {
-    joined = taken.joined ∙ ap (λ (l : List ℕ). flat_map text rows ++ l) leads.0
-        ∙ sym (append_assoc (flat_map text rows) (text row) behind)
-        ∙ ap (λ (l : List ℕ). (flat_map text rows ++ l) ++ behind) (sym (append-nil (text row)))
-        ∙ ap (λ (l : List ℕ). l ++ behind) (sym (flat_map-append text rows (row ∷ [])));
+    joined = taken.joined ∙ ap (λ (l : List ℕ). flat_map encoding rows ++ l) leads.0
+        ∙ sym (append_assoc (flat_map encoding rows) (encoding row) behind)
+        ∙ ap (λ (l : List ℕ). (flat_map encoding rows ++ l) ++ behind) (sym (append-nil (encoding row)))
+        ∙ ap (λ (l : List ℕ). l ++ behind) (sym (flat_map-append encoding rows (row ∷ [])));
     fit = All-append fits rows (row ∷ []) taken.fit (All-cons fits row [] leads.1 (All-nil fits));
-    only = λ (all : List A) (end : List ℕ) (spells : _).
-        let was = taken.only all end spells in
-        elim was.0 as (λ (more : List A). all ≡ rows ++ more → All fits more → left ≡ flat_map text more ++ end
-        → (others : List A) × (all ≡ (rows ++ row ∷ []) ++ others) × All fits others × (behind ≡ flat_map text others ++ end)) [
-          | [] ↦ λ (joined : _) (_ : _) (_ : _). absurd (some_left rows [] all count joined spells.1 fewer refl)
+    only = λ (all : List A) (end : List ℕ) (encodes : _).
+        let was = taken.only all end encodes in
+        elim was.0 as (λ (more : List A). all ≡ rows ++ more → All fits more → left ≡ flat_map encoding more ++ end
+        → (others : List A) × (all ≡ (rows ++ row ∷ []) ++ others) × All fits others × (behind ≡ flat_map encoding others ++ end)) [
+          | [] ↦ λ (joined : _) (_ : _) (_ : _). absurd (some_left rows [] all count joined encodes.1 fewer refl)
           | value ∷ others ↦ λ (joined : _) (fit : _) (is : _).
-              let same = leads.2 value (flat_map text others ++ end) (All-head fits value others fit) (is ∙ append_assoc (text value) (flat_map text others) end) in (
+              let same = leads.2 value (flat_map encoding others ++ end) (All-head fits value others fit) (is ∙ append_assoc (encoding value) (flat_map encoding others) end) in (
                 others,
                 joined ∙ ap (λ (v : A). rows ++ v ∷ others) (sym same.0) ∙ sym (append_assoc rows (row ∷ []) others),
                 All-tail fits value others fit,
@@ -62,30 +62,30 @@ module _ {A : Type 0} (text : A → List ℕ) (fits : A → Type 0) where
 
   -- where the bytes that are left begin with no value, the whole doesn't encode this many
   pub too_few : (whole : List ℕ) (count : ℕ) (rows : List A) (left : List ℕ) → length rows < count → Taken whole count rows left → LeadsNone left
-      → (all : List A) (end : List ℕ) → Spells whole count all end → ⊥
-  too_few whole count rows left fewer taken none all end spells =
-      let was = taken.only all end spells in
-      elim was.0 as (λ (more : List A). all ≡ rows ++ more → All fits more → left ≡ flat_map text more ++ end → ⊥) [
-        | [] ↦ λ (joined : _) (_ : _) (_ : _). some_left rows [] all count joined spells.1 fewer refl
+      → (all : List A) (end : List ℕ) → Encodes whole count all end → ⊥
+  too_few whole count rows left fewer taken none all end encodes =
+      let was = taken.only all end encodes in
+      elim was.0 as (λ (more : List A). all ≡ rows ++ more → All fits more → left ≡ flat_map encoding more ++ end → ⊥) [
+        | [] ↦ λ (joined : _) (_ : _) (_ : _). some_left rows [] all count joined encodes.1 fewer refl
         | value ∷ others ↦ λ (joined : _) (fit : _) (is : _).
-            none value (flat_map text others ++ end) (All-head fits value others fit) (is ∙ append_assoc (text value) (flat_map text others) end)
+            none value (flat_map encoding others ++ end) (All-head fits value others fit) (is ∙ append_assoc (encoding value) (flat_map encoding others) end)
       ] was.1 was.2 was.3
 
   -- all were taken: they are the ones that the whole encodes
   pub all_taken : (whole : List ℕ) (count : ℕ) (rows : List A) (left : List ℕ) → length rows ≡ count → Taken whole count rows left
-      → (all : List A) (end : List ℕ) → Spells whole count all end → (rows ≡ all) × (left ≡ end)
-  all_taken whole count rows left long taken all end spells =
-      let was = taken.only all end spells in
-      elim was.0 as (λ (more : List A). all ≡ rows ++ more → left ≡ flat_map text more ++ end → (rows ≡ all) × (left ≡ end)) [
+      → (all : List A) (end : List ℕ) → Encodes whole count all end → (rows ≡ all) × (left ≡ end)
+  all_taken whole count rows left long taken all end encodes =
+      let was = taken.only all end encodes in
+      elim was.0 as (λ (more : List A). all ≡ rows ++ more → left ≡ flat_map encoding more ++ end → (rows ≡ all) × (left ≡ end)) [
         | [] ↦ λ (joined : _) (is : _). (sym (joined ∙ append-nil rows), is)
-        | value ∷ others ↦ λ (joined : _) (_ : _). absurd (omega (arith, long, spells.1, ap length joined, length-append rows (value ∷ others)))
+        | value ∷ others ↦ λ (joined : _) (_ : _). absurd (omega (arith, long, encodes.1, ap length joined, length-append rows (value ∷ others)))
       ] was.1 was.3
 
   -- What a reader of one value answers.
   abbrev pub Reads : List ℕ → Option (A × Bor (List ℕ)) → Type 0
   Reads bytes found =
-      IfSome found (λ r. (bytes ≡ text r.0 ++ r.1.now) × fits r.0)
-      × ((value : A) (rest : List ℕ) → fits value → bytes ≡ text value ++ rest → IsSomeAnd found (λ r. (r.0 ≡ value) × (r.1.now ≡ rest)))
+      IfSome found (λ r. (bytes ≡ encoding r.0 ++ r.1.now) × fits r.0)
+      × ((value : A) (rest : List ℕ) → fits value → bytes ≡ encoding value ++ rest → IsSomeAnd found (λ r. (r.0 ≡ value) × (r.1.now ≡ rest)))
 
   pub leads_some : (bytes : List ℕ) (found : Option (A × Bor (List ℕ))) (row : A) (behind : Bor (List ℕ)) → found ≡ Some (row, behind) → Reads bytes found → Leads bytes row behind.now
   leads_some bytes found row behind is reads = let some = subst (Reads bytes) is reads in (some.0.0, some.0.1, some.1)
@@ -108,6 +108,6 @@ module _ {A : Type 0} (text : A → List ℕ) (fits : A → Type 0) where
 
   -- what was taken, seen as a row
   pub seen_taken : (whole : List ℕ) (count : ℕ) (rows seen : List A) (left : List ℕ) → seen ≡ rows → length rows ≡ count → Taken whole count rows left
-      → (whole ≡ flat_map text seen ++ left) × (length seen ≡ count) × All fits seen
+      → (whole ≡ flat_map encoding seen ++ left) × (length seen ≡ count) × All fits seen
   seen_taken whole count rows seen left same long taken =
-      subst (λ (rows : List A). (whole ≡ flat_map text rows ++ left) × (length rows ≡ count) × All fits rows) (sym same) (taken.joined, long, taken.fit)
+      subst (λ (rows : List A). (whole ≡ flat_map encoding rows ++ left) × (length rows ≡ count) × All fits rows) (sym same) (taken.joined, long, taken.fit)

@@ -1,16 +1,16 @@
 ghost use Rattle.std.specs.Prelude.{◌≡◌, ◌<◌, ◌^◌, ◌++◌, ◌∷◌, [], ℕ, Bool, List, Option, IfSome, IsSomeAnd, OnOk};
 ghost use Rattle.image.specs.Fitting.{FitsNamed};
-ghost use Rattle.ipc_laws.specs.ImageLaws.{SpellableEntry, SpellableTarget};
-ghost use Rattle.image.specs.Rows.{named_text};
+ghost use Rattle.ipc_laws.specs.ImageLaws.{EncodableEntry, EncodableTarget};
+ghost use Rattle.image.specs.Rows.{named_encoding};
 ghost use Rattle.ipc_model.specs.declared.entry.Entry.{Entry};
 ghost use Rattle.ipc_model.specs.declared.entry.Entry.TheVariants as entry_variants;
 ghost use Rattle.ipc_model.specs.declared.entry.PortRights.{PortRights};
-ghost use Rattle.ipc_model.specs.texts.Images.{entry_text, number_or_0};
-ghost use Rattle.ipc_model.specs.texts.Texts.{number_of_bool};
+ghost use Rattle.ipc_model.specs.encodings.Images.{entry_encoding, number_or_0};
+ghost use Rattle.ipc_model.specs.encodings.Encodings.{number_of_bool};
 ghost use Rattle.snapshot.specs.declared.rows.NamedEntry.{NamedEntry};
 ghost use Rattle.words.specs.Words.{word, long_word};
 
-use crate::spelled::Spelled;
+use crate::encoded::Encoded;
 use ipc_model::{Entry, PortRights};
 use snapshot::NamedEntry;
 use std::alloc::{AllocError, Global};
@@ -18,9 +18,9 @@ use words::{push_long_word, push_word, take_long_word, take_word};
 
 /// The serial that a number encodes; 0 is for none.
 pub(crate) fn target_of(number: u64) -> Option<u64>
-    ensures spelled { number ≡ number_or_0 result }
-    ensures fits { SpellableTarget result }
-    ensures only { (target : Option ℕ) → SpellableTarget target → number ≡ number_or_0 target → result ≡ target }
+    ensures encoded { number ≡ number_or_0 result }
+    ensures fits { EncodableTarget result }
+    ensures only { (target : Option ℕ) → EncodableTarget target → number ≡ number_or_0 target → result ≡ target }
 {
     match number {
         0 => None,
@@ -90,8 +90,8 @@ fn take_held(bytes: &[u8]) -> Option<(u64, bool, u32, u64, &[u8])>
 
 /// The rights to a port, after the byte that announces them.
 fn take_rights(bytes: &[u8]) -> Option<(Entry, &[u8])>
-    ensures found { IfSome result (λ r. (1 ∷ bytes.now ≡ entry_text r.0 ++ r.1.now) × SpellableEntry r.0) }
-    ensures only { (rights : PortRights) (rest : List ℕ) → SpellableEntry (entry_variants.Port rights) → 1 ∷ bytes.now ≡ entry_text (entry_variants.Port rights) ++ rest
+    ensures found { IfSome result (λ r. (1 ∷ bytes.now ≡ entry_encoding r.0 ++ r.1.now) × EncodableEntry r.0) }
+    ensures only { (rights : PortRights) (rest : List ℕ) → EncodableEntry (entry_variants.Port rights) → 1 ∷ bytes.now ≡ entry_encoding (entry_variants.Port rights) ++ rest
         → IsSomeAnd result (λ r. (r.0 ≡ entry_variants.Port rights) × (r.1.now ≡ rest)) }
 {
     let (port, receive, send, target, rest) = take_held(bytes)?;
@@ -118,9 +118,9 @@ pub(crate) fn take_serials(bytes: &[u8]) -> Option<(u64, u64, &[u8])>
 
 /// A send-once right, after the byte that announces it.
 fn take_send_once(bytes: &[u8]) -> Option<(Entry, &[u8])>
-    ensures found { IfSome result (λ r. (2 ∷ bytes.now ≡ entry_text r.0 ++ r.1.now) × SpellableEntry r.0) }
-    ensures only { (port : ℕ) (target : Option ℕ) (rest : List ℕ) → SpellableEntry (entry_variants.SendOnce port target)
-        → 2 ∷ bytes.now ≡ entry_text (entry_variants.SendOnce port target) ++ rest
+    ensures found { IfSome result (λ r. (2 ∷ bytes.now ≡ entry_encoding r.0 ++ r.1.now) × EncodableEntry r.0) }
+    ensures only { (port : ℕ) (target : Option ℕ) (rest : List ℕ) → EncodableEntry (entry_variants.SendOnce port target)
+        → 2 ∷ bytes.now ≡ entry_encoding (entry_variants.SendOnce port target) ++ rest
         → IsSomeAnd result (λ r. (r.0 ≡ entry_variants.SendOnce port target) × (r.1.now ≡ rest)) }
 {
     let (port, target, rest) = take_serials(bytes)?;
@@ -133,8 +133,8 @@ fn take_send_once(bytes: &[u8]) -> Option<(Entry, &[u8])>
 
 /// What a name stands for, and the bytes after it.
 fn take_entry(bytes: &[u8]) -> Option<(Entry, &[u8])>
-    ensures found { IfSome result (λ r. (bytes.now ≡ entry_text r.0 ++ r.1.now) × SpellableEntry r.0) }
-    ensures only { (entry : Entry) (rest : List ℕ) → SpellableEntry entry → bytes.now ≡ entry_text entry ++ rest
+    ensures found { IfSome result (λ r. (bytes.now ≡ entry_encoding r.0 ++ r.1.now) × EncodableEntry r.0) }
+    ensures only { (entry : Entry) (rest : List ℕ) → EncodableEntry entry → bytes.now ≡ entry_encoding entry ++ rest
         → IsSomeAnd result (λ r. (r.0 ≡ entry) × (r.1.now ≡ rest)) }
 {
     let (kind, rest) = take_byte(bytes)?;
@@ -153,7 +153,7 @@ fn take_entry(bytes: &[u8]) -> Option<(Entry, &[u8])>
 /// Adds a send-once right, with the byte that announces it. If an allocation fails, some of its bytes may have been
 /// added.
 fn push_send_once(out: &mut Vec<u8>, port: u64, target: Option<u64>) -> Result<(), AllocError>
-    ensures { OnOk result (out.new.items ≡ out.old.items ++ entry_text (entry_variants.SendOnce port target)) }
+    ensures { OnOk result (out.new.items ≡ out.old.items ++ entry_encoding (entry_variants.SendOnce port target)) }
 {
     push_byte(out, 2)?;
     push_long_word(out, port)?;
@@ -163,7 +163,7 @@ fn push_send_once(out: &mut Vec<u8>, port: u64, target: Option<u64>) -> Result<(
 
 /// Adds what a name stands for. If an allocation fails, some of its bytes may have been added.
 fn push_entry(out: &mut Vec<u8>, entry: Entry) -> Result<(), AllocError>
-    ensures { OnOk result (out.new.items ≡ out.old.items ++ entry_text entry) }
+    ensures { OnOk result (out.new.items ≡ out.old.items ++ entry_encoding entry) }
 {
     match entry {
         Entry::Port(rights) => {
@@ -187,8 +187,8 @@ fn push_entry(out: &mut Vec<u8>, entry: Entry) -> Result<(), AllocError>
 
 /// A name with what it stands for, and the bytes after it.
 fn take_named(bytes: &[u8]) -> Option<(NamedEntry, &[u8])>
-    ensures found { IfSome result (λ r. (bytes.now ≡ named_text r.0 ++ r.1.now) × FitsNamed r.0) }
-    ensures only { (row : NamedEntry) (rest : List ℕ) → FitsNamed row → bytes.now ≡ named_text row ++ rest
+    ensures found { IfSome result (λ r. (bytes.now ≡ named_encoding r.0 ++ r.1.now) × FitsNamed r.0) }
+    ensures only { (row : NamedEntry) (rest : List ℕ) → FitsNamed row → bytes.now ≡ named_encoding row ++ rest
         → IsSomeAnd result (λ r. (r.0 ≡ row) × (r.1.now ≡ rest)) }
 {
     let (name, rest) = take_word(bytes)?;
@@ -196,11 +196,11 @@ fn take_named(bytes: &[u8]) -> Option<(NamedEntry, &[u8])>
     Some((NamedEntry { name, entry }, rest))
 }
 
-impl Spelled for NamedEntry {
+impl Encoded for NamedEntry {
     ghost use Rattle.image.specs.Fitting.{FitsNamed};
-    ghost use Rattle.image.specs.Rows.{named_text};
+    ghost use Rattle.image.specs.Rows.{named_encoding};
 
-    ghost text = { named_text };
+    ghost encoding = { named_encoding };
 
     ghost fits = { FitsNamed };
 

@@ -1,24 +1,24 @@
 ghost use Rattle.std.specs.Prelude.{◌≡◌, ◌≢◌, ◌<◌, ◌^◌, ◌++◌, [], ℕ, List, All, IfOk, IfSome, IsErrOf, IsSomeAnd, MatchBool, OnOk, flat_map, length, map};
-ghost use Rattle.image.specs.Fitting.{FitsImage, FitsLivePort, FitsSpace, RisesFrom, number_of, serial_of};
-ghost use Rattle.image.specs.Rows.{live_port_text, snapshot_text, space_text};
+ghost use Rattle.image.specs.Fitting.{FitsImage, FitsLivePort, FitsSpace, AscendsFrom, number_of, serial_of};
+ghost use Rattle.image.specs.Rows.{live_port_encoding, snapshot_encoding, space_encoding};
 ghost use Rattle.snapshot.specs.declared.rows.LivePort.{LivePort};
 ghost use Rattle.snapshot.specs.declared.rows.Snapshot.{Snapshot};
 ghost use Rattle.snapshot.specs.declared.rows.Space.{Space};
 ghost use Rattle.words.specs.Words.{word};
 
 use crate::ImageFault;
-use crate::spelled::{push_length, push_rows, take_rows};
+use crate::encoded::{push_length, push_rows, take_rows};
 use ipc_model::Sequence;
-use snapshot::{LivePort, Snapshot, Space, rises};
+use snapshot::{LivePort, Snapshot, Space, ascends};
 use std::alloc::{AllocError, Global};
 use words::{push_long_word, take_long_word, take_word};
 
 /// The spaces in front, after their number, and the bytes after them.
 fn take_spaces(alloc: Global, bytes: &[u8]) -> Result<Option<(Sequence<Space>, &[u8])>, AllocError>
-    ensures found { IfOk result (λ found. IfSome found (λ r. (bytes.now ≡ word (length r.0) ++ (flat_map space_text r.0 ++ r.1.now))
-        × (length r.0 < 2 ^ 32) × All FitsSpace r.0 × RisesFrom 0 (map number_of r.0))) }
-    ensures only { (spaces : List Space) (rest : List ℕ) → length spaces < 2 ^ 32 → All FitsSpace spaces → RisesFrom 0 (map number_of spaces)
-        → bytes.now ≡ word (length spaces) ++ (flat_map space_text spaces ++ rest)
+    ensures found { IfOk result (λ found. IfSome found (λ r. (bytes.now ≡ word (length r.0) ++ (flat_map space_encoding r.0 ++ r.1.now))
+        × (length r.0 < 2 ^ 32) × All FitsSpace r.0 × AscendsFrom 0 (map number_of r.0))) }
+    ensures only { (spaces : List Space) (rest : List ℕ) → length spaces < 2 ^ 32 → All FitsSpace spaces → AscendsFrom 0 (map number_of spaces)
+        → bytes.now ≡ word (length spaces) ++ (flat_map space_encoding spaces ++ rest)
         → IfOk result (λ found. IsSomeAnd found (λ r. (r.0 ≡ spaces) × (r.1.now ≡ rest))) }
 {
     let Some((count, rest)) = take_word(bytes) else {
@@ -28,7 +28,7 @@ fn take_spaces(alloc: Global, bytes: &[u8]) -> Result<Option<(Sequence<Space>, &
     let Some((spaces, rest)) = spaces else {
         return Ok(None);
     };
-    if !rises(spaces.as_slice(), 0) {
+    if !ascends(spaces.as_slice(), 0) {
         return Ok(None);
     }
     Ok(Some((spaces, rest)))
@@ -39,10 +39,10 @@ fn take_ports(
     alloc: Global,
     bytes: &[u8],
 ) -> Result<Option<(Sequence<LivePort>, &[u8])>, AllocError>
-    ensures found { IfOk result (λ found. IfSome found (λ r. (bytes.now ≡ word (length r.0) ++ (flat_map live_port_text r.0 ++ r.1.now))
-        × (length r.0 < 2 ^ 32) × All FitsLivePort r.0 × RisesFrom 0 (map serial_of r.0))) }
-    ensures only { (ports : List LivePort) (rest : List ℕ) → length ports < 2 ^ 32 → All FitsLivePort ports → RisesFrom 0 (map serial_of ports)
-        → bytes.now ≡ word (length ports) ++ (flat_map live_port_text ports ++ rest)
+    ensures found { IfOk result (λ found. IfSome found (λ r. (bytes.now ≡ word (length r.0) ++ (flat_map live_port_encoding r.0 ++ r.1.now))
+        × (length r.0 < 2 ^ 32) × All FitsLivePort r.0 × AscendsFrom 0 (map serial_of r.0))) }
+    ensures only { (ports : List LivePort) (rest : List ℕ) → length ports < 2 ^ 32 → All FitsLivePort ports → AscendsFrom 0 (map serial_of ports)
+        → bytes.now ≡ word (length ports) ++ (flat_map live_port_encoding ports ++ rest)
         → IfOk result (λ found. IsSomeAnd found (λ r. (r.0 ≡ ports) × (r.1.now ≡ rest))) }
 {
     let Some((count, rest)) = take_word(bytes) else {
@@ -52,7 +52,7 @@ fn take_ports(
     let Some((ports, rest)) = ports else {
         return Ok(None);
     };
-    if !rises(ports.as_slice(), 0) {
+    if !ascends(ports.as_slice(), 0) {
         return Ok(None);
     }
     Ok(Some((ports, rest)))
@@ -67,8 +67,8 @@ fn is_end(rest: &[u8]) -> bool
 
 /// The snapshot that these bytes encode.
 fn read_snapshot(alloc: Global, bytes: &[u8]) -> Result<Option<Snapshot>, AllocError>
-    ensures found { IfOk result (λ found. IfSome found (λ snapshot. (bytes.now ≡ snapshot_text snapshot) × FitsImage snapshot)) }
-    ensures only { (snapshot : Snapshot) → FitsImage snapshot → bytes.now ≡ snapshot_text snapshot
+    ensures found { IfOk result (λ found. IfSome found (λ snapshot. (bytes.now ≡ snapshot_encoding snapshot) × FitsImage snapshot)) }
+    ensures only { (snapshot : Snapshot) → FitsImage snapshot → bytes.now ≡ snapshot_encoding snapshot
         → IfOk result (λ found. IsSomeAnd found (λ read. read ≡ snapshot)) }
 {
     let Some((next_serial, rest)) = take_long_word(bytes) else {
@@ -94,9 +94,9 @@ fn read_snapshot(alloc: Global, bytes: &[u8]) -> Result<Option<Snapshot>, AllocE
 ///
 /// `NotCanonical`: they encode none. `NoMemory`: an allocation failed.
 pub fn read(alloc: Global, bytes: &[u8]) -> Result<Snapshot, ImageFault>
-    ensures found { IfOk result (λ snapshot. (bytes.now ≡ snapshot_text snapshot) × FitsImage snapshot) }
-    ensures only { (snapshot : Snapshot) → FitsImage snapshot → bytes.now ≡ snapshot_text snapshot → IfOk result (λ read. read ≡ snapshot) }
-    ensures none { IsErrOf result ImageFault.NotCanonical → (snapshot : Snapshot) → FitsImage snapshot → bytes.now ≡ snapshot_text snapshot → ⊥ }
+    ensures found { IfOk result (λ snapshot. (bytes.now ≡ snapshot_encoding snapshot) × FitsImage snapshot) }
+    ensures only { (snapshot : Snapshot) → FitsImage snapshot → bytes.now ≡ snapshot_encoding snapshot → IfOk result (λ read. read ≡ snapshot) }
+    ensures none { IsErrOf result ImageFault.NotCanonical → (snapshot : Snapshot) → FitsImage snapshot → bytes.now ≡ snapshot_encoding snapshot → ⊥ }
 {
     match read_snapshot(alloc, bytes)? {
         Some(snapshot) => Ok(snapshot),
@@ -106,7 +106,7 @@ pub fn read(alloc: Global, bytes: &[u8]) -> Result<Snapshot, ImageFault>
 
 /// Adds the encoding of a snapshot. If an allocation fails, some of its bytes may have been added.
 pub fn write_into(snapshot: &Snapshot, out: &mut Vec<u8>) -> Result<(), AllocError>
-    ensures { OnOk result (out.new.items ≡ out.old.items ++ snapshot_text snapshot.now) }
+    ensures { OnOk result (out.new.items ≡ out.old.items ++ snapshot_encoding snapshot.now) }
 {
     let (spaces, ports) = (snapshot.spaces.as_slice(), snapshot.ports.as_slice());
     push_long_word(out, snapshot.next_serial)?;

@@ -1,6 +1,7 @@
 //! Images: states as bytes, in a canonical encoding.
 #![tactic(auto)]
 
+mod encoded;
 mod entries;
 mod fault;
 mod image;
@@ -8,7 +9,6 @@ mod laws;
 mod messages;
 mod ports;
 mod spaces;
-mod spelled;
 
 pub use fault::ImageFault;
 pub use image::{read, write_into};

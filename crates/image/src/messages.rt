@@ -1,16 +1,16 @@
 ghost use Rattle.std.specs.Prelude.{◌≡◌, ◌≢◌, ◌<◌, ◌^◌, ◌+◌, ◌++◌, ◌∷◌, ℕ, Bool, List, Option, IfOk, IfSome, IfNone, IsSomeAnd, OnOk, length};
-ghost use Rattle.ipc_laws.specs.ImageLaws.{SpellablePlace, SpellableReplyRight, SpellableRight};
+ghost use Rattle.ipc_laws.specs.ImageLaws.{EncodablePlace, EncodableReplyRight, EncodableRight};
 ghost use Rattle.ipc_model.specs.declared.message.CarriedRight.{CarriedRight};
 ghost use Rattle.ipc_model.specs.declared.message.PortInMessage.{PortInMessage};
 ghost use Rattle.ipc_model.specs.declared.message.RightKind.{RightKind};
 ghost use Rattle.ipc_model.specs.declared.message.RightKind.TheVariants as kind_variants;
 ghost use Rattle.ipc_model.specs.rights.Dispositions.{number_of_kind};
-ghost use Rattle.ipc_model.specs.texts.Images.{carried_text, place_text, reply_right_text};
-ghost use Rattle.ipc_model.specs.texts.Texts.{number_of_bool, IsMessageSize};
+ghost use Rattle.ipc_model.specs.encodings.Images.{carried_encoding, place_encoding, reply_right_encoding};
+ghost use Rattle.ipc_model.specs.encodings.Encodings.{number_of_bool, IsMessageSize};
 ghost use Rattle.words.specs.Words.{AreBytes, word, long_word};
 
+use crate::encoded::{Encoded, push_length, push_rows, take_rows};
 use crate::entries::{byte_of, push_byte, take_byte, take_flag};
-use crate::spelled::{Spelled, push_length, push_rows, take_rows};
 use codes::HEADER_LENGTH;
 use ipc_model::{CarriedRight, Message, PortInMessage, RightKind, Sequence, is_message_size};
 use std::alloc::{AllocError, Global};
@@ -36,8 +36,8 @@ fn byte_of_kind(kind: RightKind) -> u8
 
 /// What stands in a port's place in a message, and the bytes after it.
 fn take_place(bytes: &[u8]) -> Option<(PortInMessage, &[u8])>
-    ensures found { IfSome result (λ r. (bytes.now ≡ place_text r.0 ++ r.1.now) × SpellablePlace r.0) }
-    ensures only { (place : PortInMessage) (rest : List ℕ) → SpellablePlace place → bytes.now ≡ place_text place ++ rest
+    ensures found { IfSome result (λ r. (bytes.now ≡ place_encoding r.0 ++ r.1.now) × EncodablePlace r.0) }
+    ensures only { (place : PortInMessage) (rest : List ℕ) → EncodablePlace place → bytes.now ≡ place_encoding place ++ rest
         → IsSomeAnd result (λ r. (r.0 ≡ place) × (r.1.now ≡ rest)) }
 {
     let (what, rest) = take_byte(bytes)?;
@@ -48,8 +48,8 @@ fn take_place(bytes: &[u8]) -> Option<(PortInMessage, &[u8])>
 
 /// What a byte and a serial stand for.
 fn place_of(what: u8, serial: u64) -> Option<PortInMessage>
-    ensures found { IfSome result (λ place. (what ∷ long_word serial ≡ place_text place) × SpellablePlace place) }
-    ensures only { (place : PortInMessage) → SpellablePlace place → what ∷ long_word serial ≡ place_text place → IsSomeAnd result (λ found. found ≡ place) }
+    ensures found { IfSome result (λ place. (what ∷ long_word serial ≡ place_encoding place) × EncodablePlace place) }
+    ensures only { (place : PortInMessage) → EncodablePlace place → what ∷ long_word serial ≡ place_encoding place → IsSomeAnd result (λ found. found ≡ place) }
 {
     match (what, serial) {
         (0, 0) => Some(PortInMessage::Null),
@@ -61,7 +61,7 @@ fn place_of(what: u8, serial: u64) -> Option<PortInMessage>
 
 /// Adds what stands in a port's place. If an allocation fails, some of its bytes may have been added.
 fn push_place(out: &mut Vec<u8>, place: PortInMessage) -> Result<(), AllocError>
-    ensures { OnOk result (out.new.items ≡ out.old.items ++ place_text place) }
+    ensures { OnOk result (out.new.items ≡ out.old.items ++ place_encoding place) }
 {
     match place {
         PortInMessage::Null => out.extend_from_slice(&[0; 9]),
@@ -78,8 +78,8 @@ fn push_place(out: &mut Vec<u8>, place: PortInMessage) -> Result<(), AllocError>
 
 /// A right, and the bytes after it.
 fn take_right(bytes: &[u8]) -> Option<(CarriedRight, &[u8])>
-    ensures found { IfSome result (λ r. (bytes.now ≡ carried_text r.0 ++ r.1.now) × SpellableRight r.0) }
-    ensures only { (right : CarriedRight) (rest : List ℕ) → SpellableRight right → bytes.now ≡ carried_text right ++ rest
+    ensures found { IfSome result (λ r. (bytes.now ≡ carried_encoding r.0 ++ r.1.now) × EncodableRight r.0) }
+    ensures only { (right : CarriedRight) (rest : List ℕ) → EncodableRight right → bytes.now ≡ carried_encoding right ++ rest
         → IsSomeAnd result (λ r. (r.0 ≡ right) × (r.1.now ≡ rest)) }
 {
     let (kind, rest) = take_kind(bytes)?;
@@ -89,19 +89,19 @@ fn take_right(bytes: &[u8]) -> Option<(CarriedRight, &[u8])>
 
 /// Adds a right. If an allocation fails, some of its bytes may have been added.
 fn push_right(out: &mut Vec<u8>, right: CarriedRight) -> Result<(), AllocError>
-    ensures { OnOk result (out.new.items ≡ out.old.items ++ carried_text right) }
+    ensures { OnOk result (out.new.items ≡ out.old.items ++ carried_encoding right) }
 {
     push_byte(out, byte_of_kind(right.kind))?;
     push_place(out, right.port)
 }
 
-impl Spelled for CarriedRight {
-    ghost use Rattle.ipc_laws.specs.ImageLaws.{SpellableRight};
-    ghost use Rattle.ipc_model.specs.texts.Images.{carried_text};
+impl Encoded for CarriedRight {
+    ghost use Rattle.ipc_laws.specs.ImageLaws.{EncodableRight};
+    ghost use Rattle.ipc_model.specs.encodings.Images.{carried_encoding};
 
-    ghost text = { carried_text };
+    ghost encoding = { carried_encoding };
 
-    ghost fits = { SpellableRight };
+    ghost fits = { EncodableRight };
 
     fn take(_: Global, bytes: &[u8]) -> Result<Option<(Self, &[u8])>, AllocError> {
         Ok(take_right(bytes))
@@ -113,7 +113,7 @@ impl Spelled for CarriedRight {
 }
 
 /// What stands after ten zeros, which encode that there is no right for a reply.
-fn behind_no_reply(bytes: &[u8]) -> Option<&[u8]>
+fn after_no_reply(bytes: &[u8]) -> Option<&[u8]>
     ensures found { IfSome result (λ behind. bytes.now ≡ 0 ∷ (0 ∷ (long_word 0 ++ behind.now))) }
     ensures none { IfNone result ((behind : List ℕ) → bytes.now ≡ 0 ∷ (0 ∷ (long_word 0 ++ behind)) → ⊥) }
 {
@@ -125,11 +125,11 @@ fn behind_no_reply(bytes: &[u8]) -> Option<&[u8]>
 
 /// The right for the reply, or that there is none, and the bytes after it.
 fn take_reply(bytes: &[u8]) -> Option<(Option<CarriedRight>, &[u8])>
-    ensures found { IfSome result (λ r. (bytes.now ≡ reply_right_text r.0 ++ r.1.now) × SpellableReplyRight r.0) }
-    ensures only { (reply : Option CarriedRight) (rest : List ℕ) → SpellableReplyRight reply → bytes.now ≡ reply_right_text reply ++ rest
+    ensures found { IfSome result (λ r. (bytes.now ≡ reply_right_encoding r.0 ++ r.1.now) × EncodableReplyRight r.0) }
+    ensures only { (reply : Option CarriedRight) (rest : List ℕ) → EncodableReplyRight reply → bytes.now ≡ reply_right_encoding reply ++ rest
         → IsSomeAnd result (λ r. (r.0 ≡ reply) × (r.1.now ≡ rest)) }
 {
-    if let Some(behind) = behind_no_reply(bytes) {
+    if let Some(behind) = after_no_reply(bytes) {
         return Some((None, behind));
     }
     let (right, rest) = take_right(bytes)?;
@@ -138,7 +138,7 @@ fn take_reply(bytes: &[u8]) -> Option<(Option<CarriedRight>, &[u8])>
 
 /// Adds the right for the reply. If an allocation fails, some of its bytes may have been added.
 fn push_reply(out: &mut Vec<u8>, reply: Option<CarriedRight>) -> Result<(), AllocError>
-    ensures { OnOk result (out.new.items ≡ out.old.items ++ reply_right_text reply) }
+    ensures { OnOk result (out.new.items ≡ out.old.items ++ reply_right_encoding reply) }
 {
     match reply {
         Some(right) => push_right(out, right),
@@ -172,12 +172,12 @@ fn take_size(bytes: &[u8]) -> Option<(u32, &[u8])>
 
 /// What a message has before its rights, and the bytes after it.
 fn take_head(bytes: &[u8]) -> Option<(Head, &[u8])>
-    ensures found { IfSome result (λ r. bytes.now ≡ number_of_kind r.0.destination ∷ (reply_right_text r.0.reply
+    ensures found { IfSome result (λ r. bytes.now ≡ number_of_kind r.0.destination ∷ (reply_right_encoding r.0.reply
         ++ (word r.0.id ++ (word r.0.size ++ (number_of_bool r.0.complex ∷ r.1.now))))) }
-    ensures fits { IfSome result (λ r. (r.0.destination ≢ kind_variants.Receive) × SpellableReplyRight r.0.reply × (r.0.id < 2 ^ 32) × IsMessageSize r.0.size) }
+    ensures fits { IfSome result (λ r. (r.0.destination ≢ kind_variants.Receive) × EncodableReplyRight r.0.reply × (r.0.id < 2 ^ 32) × IsMessageSize r.0.size) }
     ensures only { (destination : RightKind) (reply : Option CarriedRight) (id size : ℕ) (complex : Bool) (rest : List ℕ)
-        → destination ≢ kind_variants.Receive → SpellableReplyRight reply → id < 2 ^ 32 → IsMessageSize size
-        → bytes.now ≡ number_of_kind destination ∷ (reply_right_text reply ++ (word id ++ (word size ++ (number_of_bool complex ∷ rest))))
+        → destination ≢ kind_variants.Receive → EncodableReplyRight reply → id < 2 ^ 32 → IsMessageSize size
+        → bytes.now ≡ number_of_kind destination ∷ (reply_right_encoding reply ++ (word id ++ (word size ++ (number_of_bool complex ∷ rest))))
         → IsSomeAnd result (λ r. (r.0.destination ≡ destination) × (r.0.reply ≡ reply) × (r.0.id ≡ id) × (r.0.size ≡ size) × (r.0.complex ≡ complex) × (r.1.now ≡ rest)) }
 {
     let (destination, rest) = take_kind(bytes)?;
@@ -217,11 +217,11 @@ fn take_body(
     Ok(Some((body, rest)))
 }
 
-impl Spelled for Message {
+impl Encoded for Message {
     ghost use Rattle.image.specs.Fitting.{FitsMessage};
-    ghost use Rattle.ipc_model.specs.texts.Images.{message_image};
+    ghost use Rattle.ipc_model.specs.encodings.Images.{message_image};
 
-    ghost text = { message_image };
+    ghost encoding = { message_image };
 
     ghost fits = { FitsMessage };
 

@@ -1,13 +1,13 @@
 ghost use Rattle.std.specs.Prelude.{◌≡◌, ◌<◌, ◌^◌, ◌++◌, ℕ, List, Option, All, IfOk, IfSome, IsSomeAnd, OnOk, flat_map, length};
 ghost use Rattle.image.specs.Fitting.{FitsMessage, FitsPort};
-ghost use Rattle.ipc_laws.specs.ImageLaws.{SpellableSet};
+ghost use Rattle.ipc_laws.specs.ImageLaws.{EncodableSet};
 ghost use Rattle.ipc_model.specs.declared.message.Message.{Message};
 ghost use Rattle.ipc_model.specs.declared.port.PortState.{PortState};
-ghost use Rattle.ipc_model.specs.texts.Images.{message_image, number_or_0, port_text};
+ghost use Rattle.ipc_model.specs.encodings.Images.{message_image, number_or_0, port_encoding};
 ghost use Rattle.words.specs.Words.{word};
 
+use crate::encoded::{Encoded, push_length, push_rows, take_rows};
 use crate::entries::{push_target, take_serials, target_of};
-use crate::spelled::{Spelled, push_length, push_rows, take_rows};
 use ipc_model::{Message, PortState, Sequence};
 use snapshot::LivePort;
 use std::alloc::{AllocError, Global};
@@ -15,9 +15,9 @@ use words::{push_long_word, push_word, take_long_word, take_word};
 
 /// The name that a number encodes; 0 is for none.
 fn set_of(number: u32) -> Option<u32>
-    ensures spelled { number ≡ number_or_0 result }
-    ensures fits { SpellableSet result }
-    ensures only { (set : Option ℕ) → SpellableSet set → number ≡ number_or_0 set → result ≡ set }
+    ensures encoded { number ≡ number_or_0 result }
+    ensures fits { EncodableSet result }
+    ensures only { (set : Option ℕ) → EncodableSet set → number ≡ number_or_0 set → result ≡ set }
 {
     match number {
         0 => None,
@@ -68,8 +68,8 @@ fn take_messages(
 
 /// What a port has, and the bytes after it.
 fn take_port(alloc: Global, bytes: &[u8]) -> Result<Option<(PortState, &[u8])>, AllocError>
-    ensures found { IfOk result (λ found. IfSome found (λ r. (bytes.now ≡ port_text r.0 ++ r.1.now) × FitsPort r.0)) }
-    ensures only { (port : PortState) (rest : List ℕ) → FitsPort port → bytes.now ≡ port_text port ++ rest
+    ensures found { IfOk result (λ found. IfSome found (λ r. (bytes.now ≡ port_encoding r.0 ++ r.1.now) × FitsPort r.0)) }
+    ensures only { (port : PortState) (rest : List ℕ) → FitsPort port → bytes.now ≡ port_encoding port ++ rest
         → IfOk result (λ found. IsSomeAnd found (λ r. (r.0 ≡ port) × (r.1.now ≡ rest))) }
 {
     let Some((limit, sequence_number, make_send_count, set, rest)) = take_numbers(bytes) else {
@@ -95,7 +95,7 @@ fn take_port(alloc: Global, bytes: &[u8]) -> Result<Option<(PortState, &[u8])>, 
 
 /// Adds what a port has. If an allocation fails, some of its bytes may have been added.
 fn push_port(out: &mut Vec<u8>, port: &PortState) -> Result<(), AllocError>
-    ensures { OnOk result (out.new.items ≡ out.old.items ++ port_text port.now) }
+    ensures { OnOk result (out.new.items ≡ out.old.items ++ port_encoding port.now) }
 {
     let messages = port.messages.as_slice();
     push_word(out, port.limit)?;
@@ -109,11 +109,11 @@ fn push_port(out: &mut Vec<u8>, port: &PortState) -> Result<(), AllocError>
     Ok(())
 }
 
-impl Spelled for LivePort {
+impl Encoded for LivePort {
     ghost use Rattle.image.specs.Fitting.{FitsLivePort};
-    ghost use Rattle.image.specs.Rows.{live_port_text};
+    ghost use Rattle.image.specs.Rows.{live_port_encoding};
 
-    ghost text = { live_port_text };
+    ghost encoding = { live_port_encoding };
 
     ghost fits = { FitsLivePort };
 

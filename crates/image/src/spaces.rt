@@ -1,14 +1,14 @@
-use crate::spelled::{Spelled, push_length, push_rows, take_rows};
+use crate::encoded::{Encoded, push_length, push_rows, take_rows};
 use ipc_model::Sequence;
-use snapshot::{NamedEntry, Space, rises};
+use snapshot::{NamedEntry, Space, ascends};
 use std::alloc::{AllocError, Global};
 use words::{push_word, take_word};
 
-impl Spelled for Space {
+impl Encoded for Space {
     ghost use Rattle.image.specs.Fitting.{FitsSpace};
-    ghost use Rattle.image.specs.Rows.{space_text};
+    ghost use Rattle.image.specs.Rows.{space_encoding};
 
-    ghost text = { space_text };
+    ghost encoding = { space_encoding };
 
     ghost fits = { FitsSpace };
 
@@ -23,7 +23,7 @@ impl Spelled for Space {
         let Some((names, rest)) = names else {
             return Ok(None);
         };
-        if !rises(names.as_slice(), 0) {
+        if !ascends(names.as_slice(), 0) {
             return Ok(None);
         }
         Ok(Some((Space { number, names }, rest)))

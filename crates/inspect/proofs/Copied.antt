@@ -10,18 +10,18 @@ use Rattle.inspect.specs.declared.fault.ListFault.{ListFault}
 use Rattle.inspect.specs.declared.fault.ListFault.TheVariants as list
 use Rattle.ipc_model.specs.state.State.{State}
 use Rattle.ipc_model.specs.store.Recovery.{HoldsImage, Recovered}
-use Rattle.ipc_model.specs.texts.Images.{image_text}
+use Rattle.ipc_model.specs.encodings.Images.{image_encoding}
 use Rattle.journal.specs.declared.fault.StoreFault.{StoreFault}
 use Rattle.journal.specs.declared.fault.StoreFault.TheVariants as fault
-use Rattle.recover.proofs.Stages.{empty_spells}
+use Rattle.recover.proofs.Stages.{empty_encodes}
 use Rattle.recover.specs.AtRest.{IsAtRest}
 use Rattle.recover.specs.Found.{Reads}
 use Rattle.recover.specs.Looked.{IsLook}
 use Rattle.recover.specs.Making.{empty_segment}
 use Rattle.recover.specs.declared.looking.Looked.{Looked}
 use Rattle.snapshot.specs.Rows.{one_state}
-use Rattle.standing.specs.Spelled.{one_spells}
-use Rattle.standing.specs.Standing.{InOne, as_written}
+use Rattle.store_layout.specs.Encoded.{one_encodes}
+use Rattle.store_layout.specs.Standing.{InOne, as_written}
 
 -- the store's fault in a fault of copying
 abbrev store_in : CopyStoreFault → StoreFault
@@ -30,29 +30,29 @@ store_in copied.Busy = fault.Damaged
 store_in copied.Exists = fault.Damaged
 store_in copied.Write = fault.Damaged
 
-store_of_list : (fault : ListFault) (told : StoreFault) → of_list fault ≡ copied.Store told → fault ≡ list.Store told
-store_of_list (list.Store f) told is = ap (λ (k : StoreFault). list.Store k) (ap store_in is)
-store_of_list list.Busy told is = absurd (cc is)
-store_of_list list.Write told is = absurd (cc is)
+store_of_list : (fault : ListFault) (reported : StoreFault) → of_list fault ≡ copied.Store reported → fault ≡ list.Store reported
+store_of_list (list.Store f) reported is = ap (λ (k : StoreFault). list.Store k) (ap store_in is)
+store_of_list list.Busy reported is = absurd (cc is)
+store_of_list list.Write reported is = absurd (cc is)
 
 abbrev error_in : Result (Unit {0}) CopyStoreFault → CopyStoreFault
 error_in (Ok done) = copied.Busy
 error_in (Err fault) = fault
 
-pub told_of_list : (fault : ListFault) (told : StoreFault) (given : CopyStoreFault) (result : Result (Unit {0}) CopyStoreFault) → result ≡ Err given → given ≡ of_list fault → result ≡ Err (copied.Store told) → fault ≡ list.Store told
-told_of_list fault told given result is of same = store_of_list fault told (sym of ∙ ap error_in (sym is ∙ same))
+pub told_of_list : (fault : ListFault) (reported : StoreFault) (given : CopyStoreFault) (result : Result (Unit {0}) CopyStoreFault) → result ≡ Err given → given ≡ of_list fault → result ≡ Err (copied.Store reported) → fault ≡ list.Store reported
+told_of_list fault reported given result is of same = store_of_list fault reported (sym of ∙ ap error_in (sym is ∙ same))
 
-copy_recovers : (state : State) → HoldsImage 0 (open_image 0 (image_text state)) state → Recovered (as_written (store_of (unwritten 0 (image_text state)))) state
+copy_recovers : (state : State) → HoldsImage 0 (open_image 0 (image_encoding state)) state → Recovered (as_written (store_of (unwritten 0 (image_encoding state)))) state
 copy_recovers state holds =
-    let slots : Slots = store_of (unwritten 0 (image_text state)) in
+    let slots : Slots = store_of (unwritten 0 (image_encoding state)) in
     let one : InOne slots 0 state [] = record {
       fits = omega arith;
       image = holds;
-      segment = empty_spells 0 (empty_segment 0) refl;
+      segment = empty_encodes 0 (empty_segment 0) refl;
       other_image = inl (λ is_open. absurd (omega (arith, is_open.0)));
       other_segment = inl (λ is_open. absurd (omega (arith, is_open.0)));
     } in
-    record { base = state; records = []; spelled = one_spells slots 0 state [] one; run = refl }
+    record { base = state; records = []; encoded = one_encodes slots 0 state [] one; run = refl }
 
 pub is_copy : (honest : Type 0) (slots : Slots) (look : Looked) (image : ImageValue) (new : View) → honest → IsLook honest slots look → IsImageOfRows look.snapshot image → new.seen ≡ store_of image → IsAtRest new
     → IsCopyOf slots new

@@ -11,7 +11,7 @@ use Rattle.inspect.specs.declared.fault.ListFault.{ListFault}
 use Rattle.inspect.specs.declared.fault.ListFault.TheVariants as list
 use Rattle.ipc_model.specs.state.State.{State}
 use Rattle.ipc_model.specs.store.Recovery.{HoldsImage, Recovered}
-use Rattle.ipc_model.specs.texts.Images.{image_text}
+use Rattle.ipc_model.specs.encodings.Images.{image_encoding}
 use Rattle.journal.specs.Fault as fault_lines
 use Rattle.journal.specs.declared.fault.StoreFault.TheVariants as store
 use Rattle.recover.specs.AtRest.{IsAtRest}
@@ -19,14 +19,14 @@ use Rattle.recover.specs.Found.{Reads}
 use Rattle.recover.specs.Making.{empty_segment}
 use Rattle.snapshot.specs.Snapshots.{snapshot_of}
 use Rattle.snapshot.specs.declared.rows.Snapshot.{Snapshot}
-use Rattle.standing.specs.Standing.{as_written}
+use Rattle.store_layout.specs.Standing.{as_written}
 
 -- An image of epoch 0, of the state with these rows.
 pub record IsImageOfRows (rows : Snapshot) (image : ImageValue) : Type 0 where
   pub state : State
   pub same : rows ≡ snapshot_of state
-  pub is : image ≡ unwritten 0 (image_text state)
-  pub holds : HoldsImage 0 (open_image 0 (image_text state)) state
+  pub is : image ≡ unwritten 0 (image_encoding state)
+  pub holds : HoldsImage 0 (open_image 0 (image_encoding state)) state
 
 -- the slots of a store in epoch 0 with this image and no record
 abbrev pub store_of : ImageValue → Slots

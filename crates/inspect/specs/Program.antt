@@ -42,8 +42,8 @@ IsSomeDrawing text = (state : State) × (text ≡ drawing state)
 -- What was written by a run with this end, for this many arguments, or for arguments that can't be read: the whole
 -- text, a prefix of it where the output can't be written, or nothing.
 abbrev pub Prints : (List ℕ → Type 0) → Option ℕ → Option (List ℕ) → Option (List ℕ) → ShowEnd → Type 0
-Prints IsText words old new CommandLine = (words ≢ Some 1) × Keeps old new
-Prints IsText words old new Shown = (words ≡ Some 1) × ((text : List ℕ) × IsText text × Appends old new text)
-Prints IsText words old new (Fault Write) = (words ≡ Some 1) × ((text : List ℕ) × IsText text × AppendsPart old new text)
-Prints IsText words old new (Fault Busy) = (words ≡ Some 1) × Keeps old new
-Prints IsText words old new (Fault (Store fault)) = (words ≡ Some 1) × Keeps old new
+Prints IsEncoding words old new CommandLine = (words ≢ Some 1) × Keeps old new
+Prints IsEncoding words old new Shown = (words ≡ Some 1) × ((text : List ℕ) × IsEncoding text × Appends old new text)
+Prints IsEncoding words old new (Fault Write) = (words ≡ Some 1) × ((text : List ℕ) × IsEncoding text × AppendsPart old new text)
+Prints IsEncoding words old new (Fault Busy) = (words ≡ Some 1) × Keeps old new
+Prints IsEncoding words old new (Fault (Store fault)) = (words ≡ Some 1) × Keeps old new

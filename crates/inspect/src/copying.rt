@@ -5,7 +5,7 @@ ghost use Rattle.disk.specs.Slots.{empty_slots};
 ghost use Rattle.inspect.specs.Copied.{IsCopyOf, IsImageOfRows, IsOfCopy, store_of};
 ghost use Rattle.ipc_model.specs.store.Recovery.{IsDamaged, IsOtherVersion};
 ghost use Rattle.recover.specs.AtRest.{IsAtRest};
-ghost use Rattle.standing.specs.Standing.{as_written};
+ghost use Rattle.store_layout.specs.Standing.{as_written};
 
 use crate::ListFault;
 use crate::looking::look_still;
@@ -72,7 +72,7 @@ fn image_of(alloc: Global, rows: Snapshot) -> Result<Image, StoreFault>
     let Ok(kernel) = Kernel::from_snapshot(alloc, rows) else {
         return Err(StoreFault::NoMemory);
     };
-    kernel.has_image();
+    kernel.show_image();
     drop(kernel);
     Ok(image)
 }

@@ -5,7 +5,7 @@ ghost use Rattle.inspect.specs.Looked.{of_looking};
 ghost use Rattle.inspect.specs.Printed.{IsOfLook};
 ghost use Rattle.ipc_model.specs.store.Recovery.{IsDamaged, IsOtherVersion};
 ghost use Rattle.recover.specs.Looked.{IsLook};
-ghost use Rattle.standing.specs.Standing.{as_written};
+ghost use Rattle.store_layout.specs.Standing.{as_written};
 ghost use Rattle.still_disk.specs.Still.{still_slots};
 
 use crate::ListFault;

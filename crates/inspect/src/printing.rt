@@ -3,7 +3,7 @@ ghost use Rattle.disk.specs.Moments.{one_more};
 ghost use Rattle.std.specs.Io.KnownBytes.{Appends, Keeps};
 ghost use Rattle.inspect.specs.Printed.{IsListing, IsOfLook, IsSketch};
 ghost use Rattle.ipc_model.specs.store.Recovery.{IsDamaged, IsOtherVersion};
-ghost use Rattle.standing.specs.Standing.{as_written};
+ghost use Rattle.store_layout.specs.Standing.{as_written};
 ghost use Rattle.wire.specs.Writing.{AppendsPart};
 
 use crate::ListFault;
@@ -32,7 +32,7 @@ pub fn list<D: Disk, W: Write>(alloc: Global, disk: &mut D, writer: &mut W) -> R
     ensures faults { IfErr result (λ fault. IsOfLook fault ⊎ (fault ≡ ListFault.Write)) }
     ensures quiet { OnOk result (D.failed_calls disk.new ≡ D.failed_calls disk.old) }
     ensures still { D.honest → IsErrOf result ListFault.Busy → ⊥ }
-    ensures told { IsErrOf result ListFault.Write → D.failed_calls disk.new ≡ D.failed_calls disk.old }
+    ensures reported { IsErrOf result ListFault.Write → D.failed_calls disk.new ≡ D.failed_calls disk.old }
     ensures device { IsErrOf result (ListFault.Store StoreFault.Device) → D.failed_calls disk.new ≡ one_more (D.failed_calls disk.old) }
 {
     let text = lines_of(alloc, disk)?;
@@ -55,7 +55,7 @@ pub fn sketch<D: Disk, W: Write>(
     ensures faults { IfErr result (λ fault. IsOfLook fault ⊎ (fault ≡ ListFault.Write)) }
     ensures quiet { OnOk result (D.failed_calls disk.new ≡ D.failed_calls disk.old) }
     ensures still { D.honest → IsErrOf result ListFault.Busy → ⊥ }
-    ensures told { IsErrOf result ListFault.Write → D.failed_calls disk.new ≡ D.failed_calls disk.old }
+    ensures reported { IsErrOf result ListFault.Write → D.failed_calls disk.new ≡ D.failed_calls disk.old }
     ensures device { IsErrOf result (ListFault.Store StoreFault.Device) → D.failed_calls disk.new ≡ one_more (D.failed_calls disk.old) }
 {
     let text = sketch_of(alloc, disk)?;

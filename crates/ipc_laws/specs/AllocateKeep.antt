@@ -17,13 +17,13 @@ use Rattle.codes.specs.declared.right.Right.TheVariants as right
 use Rattle.ipc_model.specs.calls.Actions as actions
 use Rattle.ipc_laws.specs.CallsKeep.{Kept}
 use Rattle.ipc_model.specs.calls.PortCalls.{is_right, names_are_used_up, is_in_use}
-use Rattle.ipc_model.specs.state.Circular.{Grounded, Carries, carries}
+use Rattle.ipc_model.specs.state.Circular.{Acyclic, Carries, carries}
 use Rattle.ipc_laws.specs.Dangling.{not_equal}
 use Rattle.ipc_laws.specs.EffectRanks.{fewer_edges, state_less, receive_is_any}
 use Rattle.ipc_model.specs.effects.Effects.{Effect, release}
 use Rattle.ipc_laws.specs.EffectsKeep.{dangles_none, entry_part, serial_of}
 use Rattle.ipc_laws.specs.EntryChanges.{EntryMove, entry_moves}
-use Rattle.ipc_model.specs.state.Lawful.{rights_count, LawfulBut, LawfulNames, LawfulEntry, LawfulPort, IsHeldBesideSet, IsReleased}
+use Rattle.ipc_model.specs.state.Lawful.{rights_count, LawfulBut, LawfulNames, LawfulEntry, LawfulPort, IsHeldAlongsideSet, IsReleased}
 use Rattle.ipc_laws.specs.LawfulLaws.{LawfulAtRest}
 use Rattle.ipc_laws.specs.ListLaws.{some_same}
 use Rattle.ipc_laws.specs.MapLaws.{get-here, get-there}
@@ -60,8 +60,8 @@ none_released : (serial : ℕ) → IsReleased [] serial → ⊥
 none_released serial (k, less, is) = absurd (omega (arith, less))
 
 -- A port exists before its receive right has a name: the right waits.
-pub new_port_kept : (old : State) → LawfulAtRest old → Grounded old → finmap.len old.ports < MAX_PORTS → old.next < 2 ^ 64 - 1 → Kept (with_new_port old) (release kind.Receive old.next ∷ [])
-new_port_kept old lawful grounded few next =
+pub new_port_kept : (old : State) → LawfulAtRest old → Acyclic old → finmap.len old.ports < MAX_PORTS → old.next < 2 ^ 64 - 1 → Kept (with_new_port old) (release kind.Receive old.next ∷ [])
+new_port_kept old lawful acyclic few next =
     let fresh : finmap.get old.ports old.next ≡ None = new_serial old [] lawful in
     let not_live : lives old old.next ≡ false = ap is_some fresh in
     record {
@@ -92,8 +92,8 @@ new_port_kept old lawful grounded few next =
           | inr same ↦ absurd (cc (sym dead ∙ ap (λ (k : ℕ). is_some (finmap.get (finmap.insert old.ports old.next new_port) k)) same ∙ ap is_some (get-here old.ports old.next new_port)))
         ];
         waits = (tt, tt);
-        sets = λ (serial set : ℕ) (port : PortState) (at : _) (is : _). elim (number_decided serial old.next) as (λ _. IsHeldBesideSet old serial set ⊎ IsReleased (release kind.Receive old.next ∷ []) serial) [
-          | inl apart ↦ elim (lawful.sets serial set port (sym (get-there old.ports old.next new_port serial apart) ∙ at) is) as (λ _. IsHeldBesideSet old serial set ⊎ IsReleased (release kind.Receive old.next ∷ []) serial) [
+        sets = λ (serial set : ℕ) (port : PortState) (at : _) (is : _). elim (number_decided serial old.next) as (λ _. IsHeldAlongsideSet old serial set ⊎ IsReleased (release kind.Receive old.next ∷ []) serial) [
+          | inl apart ↦ elim (lawful.sets serial set port (sym (get-there old.ports old.next new_port serial apart) ∙ at) is) as (λ _. IsHeldAlongsideSet old serial set ⊎ IsReleased (release kind.Receive old.next ∷ []) serial) [
             | inl held ↦ inl held
             | inr waits ↦ absurd (none_released serial waits)
           ]
@@ -102,12 +102,12 @@ new_port_kept old lawful grounded few next =
               absurd (cc (ap (λ (p : PortState). p.set) new ∙ is))
         ];
       };
-      grounded = fewer_edges old (with_new_port old) (λ (outer inner : ℕ) (edge : Carries (with_new_port old) outer inner). elim (number_decided outer old.next) as (λ _. Carries old outer inner) [
+      acyclic = fewer_edges old (with_new_port old) (λ (outer inner : ℕ) (edge : Carries (with_new_port old) outer inner). elim (number_decided outer old.next) as (λ _. Carries old outer inner) [
         | inl apart ↦ (edge.0, sym (get-there old.ports old.next new_port outer apart) ∙ edge.1, edge.2)
         | inr same ↦
             let new : new_port ≡ edge.0 = some_same new_port edge.0 (sym (get-here old.ports old.next new_port) ∙ ap (finmap.get (finmap.insert old.ports old.next new_port)) (sym same) ∙ edge.1) in
             absurd (cc (ap (carries inner) new ∙ edge.2))
-      ]) grounded;
+      ]) acyclic;
     }
 
 -- The new name, by what it stands for.
@@ -119,9 +119,9 @@ unnamed_lawful names name entry lawful unused few fits alone =
     insert_lawful names name entry lawful unused.least unused.below_dead fits (λ (_ : _). few) (λ (other serial : ℕ) (e : Entry) (_ : _) (there : _) (held : _) (held_too : _). alone other serial e there held held_too)
 
 -- a set or a dead name
-plain_kept : (old : State) (space name : ℕ) (names : Names) (entry : Entry) → LawfulAtRest old → Grounded old → finmap.get old.spaces space ≡ Some names → IsUnused names name → finmap.len names < MAX_NAMES
+plain_kept : (old : State) (space name : ℕ) (names : Names) (entry : Entry) → LawfulAtRest old → Acyclic old → finmap.get old.spaces space ≡ Some names → IsUnused names name → finmap.len names < MAX_NAMES
     → LawfulEntry entry → port_held entry ≡ None → ((w : Weight) → entry_weigh w entry ≡ 0) → Kept (with_names old space (finmap.insert names name entry)) []
-plain_kept old space name names entry lawful grounded there unused few fits none weightless =
+plain_kept old space name names entry lawful acyclic there unused few fits none weightless =
     let move : EntryMove old space name names None (Some entry) [] [] = record {
       there = there;
       at = unused.free;
@@ -135,7 +135,7 @@ plain_kept old space name names entry lawful grounded there unused few fits none
     record {
       lawful = names_move_lawfully old space names (finmap.insert names name entry) [] [] (entry_moves old space name names None (Some entry) [] [] move
           (unnamed_lawful names name entry (lawful.spaces space names there).2 unused few fits (λ (other serial : ℕ) (e : Entry) (_ : _) (held : _) (_ : _). cc (sym none ∙ held)))) lawful;
-      grounded = grounded;
+      acyclic = acyclic;
     }
 
 -- a receive right: the port's right waits, and then stands under the name
@@ -177,10 +177,10 @@ held_live old space other serial names e lawful there at held = elim (lives old 
   | false ↦ λ (dead : _). absurd (omega (arith, dangles_none old [] lawful serial dead, entry_part (any_of serial) old space other names e there at, held_weighs serial e ((lawful.spaces space names there).2.named other e at).2 held))
 ] refl
 
-receive_kept : (old : State) (space name : ℕ) (names : Names) → LawfulAtRest old → Grounded old → finmap.get old.spaces space ≡ Some names → IsUnused names name → finmap.len names < MAX_NAMES → finmap.len old.ports < MAX_PORTS → old.next < 2 ^ 64 - 1
+receive_kept : (old : State) (space name : ℕ) (names : Names) → LawfulAtRest old → Acyclic old → finmap.get old.spaces space ≡ Some names → IsUnused names name → finmap.len names < MAX_NAMES → finmap.len old.ports < MAX_PORTS → old.next < 2 ^ 64 - 1
     → Kept (with_names (with_new_port old) space (finmap.insert names name (receive_entry old.next))) []
-receive_kept old space name names lawful grounded there unused few few_ports next =
-    let with_port = new_port_kept old lawful grounded few_ports next in
+receive_kept old space name names lawful acyclic there unused few few_ports next =
+    let with_port = new_port_kept old lawful acyclic few_ports next in
     let entry : Entry = receive_entry old.next in
     let later_live : lives (with_new_port old) old.next ≡ true = ap is_some (get-here old.ports old.next new_port) in
     let move : EntryMove (with_new_port old) space name names None (Some entry) (release kind.Receive old.next ∷ []) [] = record {
@@ -197,7 +197,7 @@ receive_kept old space name names lawful grounded there unused few few_ports nex
       lawful = names_move_lawfully (with_new_port old) space names (finmap.insert names name entry) (release kind.Receive old.next ∷ []) [] (entry_moves (with_new_port old) space name names None (Some entry) (release kind.Receive old.next ∷ []) [] move
           (unnamed_lawful names name entry (lawful.spaces space names there).2 unused few (inl refl, omega arith)
           (λ (other serial : ℕ) (e : Entry) (at : _) (held : _) (held_too : _). absurd (cc (sym (held_live old space other serial names e lawful there at held_too) ∙ ap (lives old) (sym (some_same old.next serial held)) ∙ ap is_some (new_serial old [] lawful)))))) with_port.lawful;
-      grounded = with_port.grounded;
+      acyclic = with_port.acyclic;
     }
 
 pub neither : (b c : Bool) → (b || c) ≡ false → (b ≡ false) × (c ≡ false)
@@ -208,20 +208,20 @@ abbrev other_entry : ℕ → Entry
 other_entry which = if is_right which right.PortSet then Set else Dead 1
 
 -- whichever right is allocated
-pub allocated_kept : (old : State) (space : ℕ) (names : Names) (which name : ℕ) → LawfulAtRest old → Grounded old → finmap.get old.spaces space ≡ Some names → IsUnused names name → names_are_used_up names ≡ false → (is_right which right.Receive && ports_are_used_up old) ≡ false
+pub allocated_kept : (old : State) (space : ℕ) (names : Names) (which name : ℕ) → LawfulAtRest old → Acyclic old → finmap.get old.spaces space ≡ Some names → IsUnused names name → names_are_used_up names ≡ false → (is_right which right.Receive && ports_are_used_up old) ≡ false
     → Kept (actions.allocated old space names which name) []
-allocated_kept old space names which name lawful grounded there unused room ports =
+allocated_kept old space names which name lawful acyclic there unused room ports =
     let few : finmap.len names < MAX_NAMES = leb-false MAX_NAMES (finmap.len names) room in
     elim (is_right which right.Receive) as (λ (b : Bool). (b && ports_are_used_up old) ≡ false
     → Kept (if b then record (with_names old space (finmap.insert names name (if b then receive_entry old.next else other_entry which))) { ports = finmap.insert old.ports old.next new_port; next = old.next + 1 }
     else with_names old space (finmap.insert names name (if b then receive_entry old.next else other_entry which))) []) [
       | true ↦ λ (free : _).
           let both = neither (nat_le MAX_PORTS (finmap.len old.ports)) (old.next == 2 ^ 64 - 1) free in
-          receive_kept old space name names lawful grounded there unused few (leb-false MAX_PORTS (finmap.len old.ports) both.0) (omega (arith, lawful.next.1, eqb-false old.next (2 ^ 64 - 1) both.1))
+          receive_kept old space name names lawful acyclic there unused few (leb-false MAX_PORTS (finmap.len old.ports) both.0) (omega (arith, lawful.next.1, eqb-false old.next (2 ^ 64 - 1) both.1))
       | false ↦ λ (_ : _).
           elim (is_right which right.PortSet) as (λ (b : Bool). Kept (with_names old space (finmap.insert names name (if b then Set else Dead 1))) []) [
-            | true ↦ plain_kept old space name names Set lawful grounded there unused few tt refl (λ (w : Weight). refl)
-            | false ↦ plain_kept old space name names (Dead 1) lawful grounded there unused few (omega arith, omega arith) refl (λ (w : Weight). refl)
+            | true ↦ plain_kept old space name names Set lawful acyclic there unused few tt refl (λ (w : Weight). refl)
+            | false ↦ plain_kept old space name names (Dead 1) lawful acyclic there unused few (omega arith, omega arith) refl (λ (w : Weight). refl)
           ]
     ] ports
 

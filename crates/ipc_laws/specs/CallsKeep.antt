@@ -16,27 +16,27 @@ use Rattle.ipc_model.specs.declared.message.RightKind.TheVariants as kind
 use Rattle.ipc_model.specs.declared.port.PortState.{PortState}
 use Rattle.ipc_model.specs.calls.Actions as actions
 use Rattle.ipc_model.specs.calls.Actions.{Action, Acts, ActsOn, Done}
-use Rattle.ipc_model.specs.state.Circular.{Grounded}
+use Rattle.ipc_model.specs.state.Circular.{Acyclic}
 use Rattle.ipc_model.specs.effects.Effects.{Effect}
 use Rattle.ipc_laws.specs.EffectsKeep.{dangles_none, entry_part}
-use Rattle.ipc_model.specs.state.Lawful.{LawfulBut, IsHeldBesideSet, IsReleased}
+use Rattle.ipc_model.specs.state.Lawful.{LawfulBut, IsHeldAlongsideSet, IsReleased}
 use Rattle.ipc_laws.specs.LawfulLaws.{LawfulAtRest}
 use Rattle.ipc_laws.specs.ListLaws.{some_same}
 use Rattle.ipc_model.specs.calls.PortCalls.{tests_of, name_is, entry_is, is_set, is_no_name, has_receive, is_in_some_set}
 use Rattle.ipc_laws.specs.PortChanges.{PortMove, port_moves_lawfully}
 use Rattle.ipc_model.specs.state.State.{State, Names, with_port, received_port}
 use Rattle.ipc_model.specs.calls.Tests.{Tests, first_failing}
-use Rattle.ipc_model.specs.texts.Texts.{FitsCall}
+use Rattle.ipc_model.specs.encodings.Encodings.{FitsCall}
 use Rattle.ipc_laws.specs.Weights.{Weight, target_weigh, entry_weigh, any_of}
 
 -- what is shown: the state that a call's own action leaves is lawful with the effects, and acyclic
 pub record Kept (new : State) (effects : List Effect) : Type 0 where
   pub lawful : LawfulBut new effects
-  pub grounded : Grounded new
+  pub acyclic : Acyclic new
 
-pub kept_as : (old new : State) (effects : List Effect) → LawfulAtRest old → Grounded old → new ≡ old → effects ≡ [] → Kept new effects
-kept_as old new effects lawful grounded same none =
-    subst (λ (s : State). Kept s effects) (sym same) (subst (λ (l : List Effect). Kept old l) (sym none) (record { lawful = lawful; grounded = grounded }))
+pub kept_as : (old new : State) (effects : List Effect) → LawfulAtRest old → Acyclic old → new ≡ old → effects ≡ [] → Kept new effects
+kept_as old new effects lawful acyclic same none =
+    subst (λ (s : State). Kept s effects) (sym same) (subst (λ (l : List Effect). Kept old l) (sym none) (record { lawful = lawful; acyclic = acyclic }))
 
 -- a port whose receive right stands under a name is live
 
@@ -59,17 +59,17 @@ received_lives state effects space name serial names entry lawful there at is =
     ] refl
 
 -- a call that sets what the port keeps whose receive right a name holds
-set_kept : (old new : State) (space name : ℕ) (names : Names) (entry : Entry) (change : PortState → PortState) (effects : List Effect) → LawfulAtRest old → Grounded old
+set_kept : (old new : State) (space name : ℕ) (names : Names) (entry : Entry) (change : PortState → PortState) (effects : List Effect) → LawfulAtRest old → Acyclic old
     → finmap.get old.spaces space ≡ Some names → finmap.get names name ≡ Some entry
     → ((serial : ℕ) (port : PortState) → received_port entry ≡ Some serial → finmap.get old.ports serial ≡ Some port → PortMove old [] serial change)
     → new ≡ actions.with_received old entry change → effects ≡ [] → Kept new effects
-set_kept old new space name names entry change effects lawful grounded there at moves is none =
+set_kept old new space name names entry change effects lawful acyclic there at moves is none =
     elim (received_port entry) as (λ (o : Option ℕ). received_port entry ≡ o → new ≡ (elim o as (λ _. State) [ None ↦ old | Some serial ↦ with_port old serial change ]) → Kept new effects) [
-      | None ↦ λ (absent : _) (same : _). kept_as old new effects lawful grounded same none
+      | None ↦ λ (absent : _) (same : _). kept_as old new effects lawful acyclic same none
       | Some serial ↦ λ (held : _) (same : _).
           let live = received_lives old [] space name serial names entry lawful there at held in
-          let kept = port_moves_lawfully old [] serial change (moves serial live.0 held live.1) lawful grounded in
-          subst (λ (s : State). Kept s effects) (sym same) (subst (λ (l : List Effect). Kept (with_port old serial change) l) (sym none) (record { lawful = kept.0; grounded = kept.1 }))
+          let kept = port_moves_lawfully old [] serial change (moves serial live.0 held live.1) lawful acyclic in
+          subst (λ (s : State). Kept s effects) (sym same) (subst (λ (l : List Effect). Kept (with_port old serial change) l) (sym none) (record { lawful = kept.0; acyclic = kept.1 }))
     ] refl is
 
 -- tests that pass
@@ -83,13 +83,13 @@ first_passes test tests none = elim test.0 as (λ (b : Bool). (if b then Some te
 limit_fits : (limit : ℕ) → nat_lt MAX_QUEUE_LIMIT limit ≡ false → limit ≤ MAX_QUEUE_LIMIT
 limit_fits limit passes = ltb-false MAX_QUEUE_LIMIT limit passes
 
-by_entry_kept : (old new : State) (space name : ℕ) (names : Names) (change : PortState → PortState) (number : ℕ) (answer : Reply) (effects : List Effect) → LawfulAtRest old → Grounded old → finmap.get old.spaces space ≡ Some names
+by_entry_kept : (old new : State) (space name : ℕ) (names : Names) (change : PortState → PortState) (number : ℕ) (answer : Reply) (effects : List Effect) → LawfulAtRest old → Acyclic old → finmap.get old.spaces space ≡ Some names
     → ((entry : Entry) (serial : ℕ) (port : PortState) → finmap.get names name ≡ Some entry → received_port entry ≡ Some serial → finmap.get old.ports serial ≡ Some port → PortMove old [] serial change)
     → ActsOn (finmap.get names name) (λ entry. actions.done_with number (actions.with_received old entry change) []) answer new effects → Kept new effects
-by_entry_kept old new space name names change number answer effects lawful grounded there moves acts =
+by_entry_kept old new space name names change number answer effects lawful acyclic there moves acts =
     elim (finmap.get names name) as (λ (o : Option Entry). finmap.get names name ≡ o → ActsOn o (λ entry. actions.done_with number (actions.with_received old entry change) []) answer new effects → Kept new effects) [
       | None ↦ λ (none : _) (a : _). absurd a
-      | Some entry ↦ λ (at : _) (a : _). set_kept old new space name names entry change effects lawful grounded there at (λ (serial : ℕ) (port : PortState) (held : _) (live : _). moves entry serial port at held live) a.1 a.2
+      | Some entry ↦ λ (at : _) (a : _). set_kept old new space name names entry change effects lawful acyclic there at (λ (serial : ℕ) (port : PortState) (held : _) (live : _). moves entry serial port at held live) a.1 a.2
     ] refl acts
 
 -- each of the calls that set what a port keeps
@@ -133,7 +133,7 @@ set_move old space member serial after names entry port lawful there at held liv
   lawful = λ (p : PortState) (l : _). record { limit = l.limit; sequence_number = l.sequence_number; make_send_count = l.make_send_count; messages = l.messages };
   rights = λ (w : Weight). refl;
   carried = λ (inner : ℕ) (p : PortState) (e : _). e;
-  member = λ (set : ℕ) (is : _). elim (after == MACH_PORT_NULL) as (λ (b : Bool). (after == MACH_PORT_NULL) ≡ b → (if b then None else Some after) ≡ Some set → IsHeldBesideSet old serial set ⊎ IsReleased [] serial) [
+  member = λ (set : ℕ) (is : _). elim (after == MACH_PORT_NULL) as (λ (b : Bool). (after == MACH_PORT_NULL) ≡ b → (if b then None else Some after) ≡ Some set → IsHeldAlongsideSet old serial set ⊎ IsReleased [] serial) [
     | true ↦ λ (null : _) (e : _). absurd (cc e)
     | false ↦ λ (named : _) (e : _). inl (space, names, member, entry, there, at, held, ap (finmap.get names) (sym (some_same after set e)) ∙ is_set named)
   ] refl is;
@@ -164,13 +164,13 @@ is_simple (call.SetSeqno name seqno) = true
 is_simple (call.MoveMember member after) = true
 is_simple c = false
 
-same_kept : (old new : State) (action : Action) (answer : Reply) (effects : List Effect) → LawfulAtRest old → Grounded old → action.state ≡ old → action.effects ≡ [] → Acts action answer new effects → Kept new effects
-same_kept old new action answer effects lawful grounded same none acts = kept_as old new effects lawful grounded (acts.1 ∙ same) (acts.2 ∙ none)
+same_kept : (old new : State) (action : Action) (answer : Reply) (effects : List Effect) → LawfulAtRest old → Acyclic old → action.state ≡ old → action.effects ≡ [] → Acts action answer new effects → Kept new effects
+same_kept old new action answer effects lawful acyclic same none acts = kept_as old new effects lawful acyclic (acts.1 ∙ same) (acts.2 ∙ none)
 
-same_on_kept : (old new : State) (o : Option Entry) (action : Entry → Action) (answer : Reply) (effects : List Effect) → LawfulAtRest old → Grounded old → ((e : Entry) → (action e).state ≡ old) → ((e : Entry) → (action e).effects ≡ [])
+same_on_kept : (old new : State) (o : Option Entry) (action : Entry → Action) (answer : Reply) (effects : List Effect) → LawfulAtRest old → Acyclic old → ((e : Entry) → (action e).state ≡ old) → ((e : Entry) → (action e).effects ≡ [])
     → ActsOn o action answer new effects → Kept new effects
-same_on_kept old new None action answer effects lawful grounded same none acts = absurd acts
-same_on_kept old new (Some entry) action answer effects lawful grounded same none acts = same_kept old new (action entry) answer effects lawful grounded (same entry) (none entry) acts
+same_on_kept old new None action answer effects lawful acyclic same none acts = absurd acts
+same_on_kept old new (Some entry) action answer effects lawful acyclic same none acts = same_kept old new (action entry) answer effects lawful acyclic (same entry) (none entry) acts
 
 status_same : (old : State) (o : Option ℕ) → (actions.status_action_of old o).state ≡ old
 status_same old None = refl
@@ -197,24 +197,24 @@ after_is_set old names member after passes named =
     is_set_entry (finmap.get names after) (not_not (name_is is_set names after) (first_passes (not (name_is is_set names after), InvalidRight) [] second).0)
 
 -- Such a call's own action leaves a state that is lawful with its effects, and acyclic.
-pub simple_kept : (old : State) (space : ℕ) (names : Names) (c : Call) (answer : Reply) (new : State) (effects : List Effect) → is_simple c ≡ true → FitsCall c → LawfulAtRest old → Grounded old → finmap.get old.spaces space ≡ Some names
+pub simple_kept : (old : State) (space : ℕ) (names : Names) (c : Call) (answer : Reply) (new : State) (effects : List Effect) → is_simple c ≡ true → FitsCall c → LawfulAtRest old → Acyclic old → finmap.get old.spaces space ≡ Some names
     → first_failing (tests_of old space names c) ≡ None → Done old space names c answer new effects → Kept new effects
 unfolding Done tests_of tests_of_after
-simple_kept old space names (call.Attach other) answer new effects shown fits lawful grounded there passes done = same_kept old new _ answer effects lawful grounded refl refl done
-simple_kept old space names call.Names answer new effects shown fits lawful grounded there passes done = same_kept old new _ answer effects lawful grounded refl refl done
-simple_kept old space names (call.Type name) answer new effects shown fits lawful grounded there passes done = same_on_kept old new _ _ answer effects lawful grounded (λ (e : Entry). refl) (λ (e : Entry). refl) done
-simple_kept old space names (call.GetRefs name kind) answer new effects shown fits lawful grounded there passes done = same_on_kept old new _ _ answer effects lawful grounded (λ (e : Entry). refl) (λ (e : Entry). refl) done
-simple_kept old space names (call.GetReceiveStatus name) answer new effects shown fits lawful grounded there passes done =
-    same_on_kept old new (finmap.get names name) (λ (entry : Entry). actions.status_action_of old (received_port entry)) answer effects lawful grounded (λ (e : Entry). status_same old (received_port e)) (λ (e : Entry). status_none old (received_port e)) done
-simple_kept old space names (call.GetSetStatus name) answer new effects shown fits lawful grounded there passes done = same_kept old new _ answer effects lawful grounded refl refl done
-simple_kept old space names (call.SetQlimit name limit) answer new effects shown fits lawful grounded there passes done =
+simple_kept old space names (call.Attach other) answer new effects shown fits lawful acyclic there passes done = same_kept old new _ answer effects lawful acyclic refl refl done
+simple_kept old space names call.Names answer new effects shown fits lawful acyclic there passes done = same_kept old new _ answer effects lawful acyclic refl refl done
+simple_kept old space names (call.Type name) answer new effects shown fits lawful acyclic there passes done = same_on_kept old new _ _ answer effects lawful acyclic (λ (e : Entry). refl) (λ (e : Entry). refl) done
+simple_kept old space names (call.GetRefs name kind) answer new effects shown fits lawful acyclic there passes done = same_on_kept old new _ _ answer effects lawful acyclic (λ (e : Entry). refl) (λ (e : Entry). refl) done
+simple_kept old space names (call.GetReceiveStatus name) answer new effects shown fits lawful acyclic there passes done =
+    same_on_kept old new (finmap.get names name) (λ (entry : Entry). actions.status_action_of old (received_port entry)) answer effects lawful acyclic (λ (e : Entry). status_same old (received_port e)) (λ (e : Entry). status_none old (received_port e)) done
+simple_kept old space names (call.GetSetStatus name) answer new effects shown fits lawful acyclic there passes done = same_kept old new _ answer effects lawful acyclic refl refl done
+simple_kept old space names (call.SetQlimit name limit) answer new effects shown fits lawful acyclic there passes done =
     let small : limit ≤ MAX_QUEUE_LIMIT = limit_fits limit (first_passes (nat_lt MAX_QUEUE_LIMIT limit, InvalidValue) ((is_no_name names name, InvalidName) ∷ (not (name_is has_receive names name), InvalidRight) ∷ []) passes).0 in
-    by_entry_kept old new space name names (λ (p : PortState). record p { limit = limit }) 10 answer effects lawful grounded there (λ (entry : Entry) (serial : ℕ) (port : PortState) (at : _) (held : _) (live : _). limit_move old serial limit port lawful live small) done
-simple_kept old space names (call.SetMscount name count) answer new effects shown fits lawful grounded there passes done =
-    by_entry_kept old new space name names (λ (p : PortState). record p { make_send_count = count }) 11 answer effects lawful grounded there (λ (entry : Entry) (serial : ℕ) (port : PortState) (at : _) (held : _) (live : _). make_send_move old serial count port lawful live fits.1) done
-simple_kept old space names (call.SetSeqno name seqno) answer new effects shown fits lawful grounded there passes done =
-    by_entry_kept old new space name names (λ (p : PortState). record p { sequence_number = seqno }) 12 answer effects lawful grounded there (λ (entry : Entry) (serial : ℕ) (port : PortState) (at : _) (held : _) (live : _). sequence_move old serial seqno port lawful live fits.1) done
-simple_kept old space names (call.MoveMember member after) answer new effects shown fits lawful grounded there passes done =
-    by_entry_kept old new space member names (λ (p : PortState). record p { set = actions.set_named after }) 15 answer effects lawful grounded there
+    by_entry_kept old new space name names (λ (p : PortState). record p { limit = limit }) 10 answer effects lawful acyclic there (λ (entry : Entry) (serial : ℕ) (port : PortState) (at : _) (held : _) (live : _). limit_move old serial limit port lawful live small) done
+simple_kept old space names (call.SetMscount name count) answer new effects shown fits lawful acyclic there passes done =
+    by_entry_kept old new space name names (λ (p : PortState). record p { make_send_count = count }) 11 answer effects lawful acyclic there (λ (entry : Entry) (serial : ℕ) (port : PortState) (at : _) (held : _) (live : _). make_send_move old serial count port lawful live fits.1) done
+simple_kept old space names (call.SetSeqno name seqno) answer new effects shown fits lawful acyclic there passes done =
+    by_entry_kept old new space name names (λ (p : PortState). record p { sequence_number = seqno }) 12 answer effects lawful acyclic there (λ (entry : Entry) (serial : ℕ) (port : PortState) (at : _) (held : _) (live : _). sequence_move old serial seqno port lawful live fits.1) done
+simple_kept old space names (call.MoveMember member after) answer new effects shown fits lawful acyclic there passes done =
+    by_entry_kept old new space member names (λ (p : PortState). record p { set = actions.set_named after }) 15 answer effects lawful acyclic there
     (λ (entry : Entry) (serial : ℕ) (port : PortState) (at : _) (held : _) (live : _). set_move old space member serial after names entry port lawful there at held live (after_is_set old names member after passes)) done
-simple_kept old space names c answer new effects shown fits lawful grounded there passes done = absurd (cc shown)
+simple_kept old space names c answer new effects shown fits lawful acyclic there passes done = absurd (cc shown)

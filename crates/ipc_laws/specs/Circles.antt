@@ -2,7 +2,7 @@
 use Rattle.std.specs.Prelude.{◌≡◌, ℕ, zero, suc, ◌<◌, ◌↔◌, Bool, true, false, ◌||◌, ◌==◌, [], Option, None, Some}
 use Rattle.std.proofs.Common.{refl, subst}
 use Rattle.std.specs.FinMap as finmap
-use Rattle.ipc_model.specs.state.Circular.{carrier_of, meets, is_circular, Carries, Grounded}
+use Rattle.ipc_model.specs.state.Circular.{carrier_of, meets, is_circular, Carries, Acyclic}
 use Rattle.ipc_model.specs.state.Lawful.{Lawful}
 use Rattle.ipc_model.specs.state.State.{State}
 use Rattle.ipc_laws.specs.EffectRanks.{travels_once}
@@ -44,11 +44,11 @@ module _ (rank : ℕ → ℕ) (state : State) (once : TravelsOnce state) (grows 
 -- In a lawful and acyclic state, a receive right can't be put into a queue from which hops lead up to its port, and it
 -- can be put into any other.
 abbrev pub CirclesLeadUp : Type 0
-CirclesLeadUp = (state : State) (serial queue : ℕ) → Lawful state → Grounded state → (is_circular state serial queue ≡ true) ↔ IsBelow state serial queue
+CirclesLeadUp = (state : State) (serial queue : ℕ) → Lawful state → Acyclic state → (is_circular state serial queue ≡ true) ↔ IsBelow state serial queue
 
 pub circles_lead_up : CirclesLeadUp
 unfolding is_circular
-circles_lead_up state serial queue lawful grounded = (
+circles_lead_up state serial queue lawful acyclic = (
   leads state (finmap.len state.ports) serial queue,
-  λ below. climbed grounded.0 state (travels_once state [] ((lawful_is_at_rest state).0 lawful)) grounded.1 queue below.0 serial queue (meets_itself state (finmap.len state.ports) queue) below.1,
+  λ below. climbed acyclic.0 state (travels_once state [] ((lawful_is_at_rest state).0 lawful)) acyclic.1 queue below.0 serial queue (meets_itself state (finmap.len state.ports) queue) below.1,
 )

@@ -18,7 +18,7 @@ use Rattle.ipc_model.specs.declared.message.RightKind.{RightKind}
 use Rattle.ipc_model.specs.declared.message.RightKind.TheVariants as kind
 use Rattle.ipc_model.specs.declared.port.PortState.{PortState}
 use Rattle.ipc_model.specs.state.Circular.{is_circular}
-use Rattle.ipc_model.specs.effects.Effects.{Effect, release, notify, effect, queued, notified, entry_after_death, port_after_death, message_after_death, right_after_death, carried_after_death, without_target, one_more_if, after_death, map_values, told_no_senders, sent_to_target, receive_released_to, released, released_if_live}
+use Rattle.ipc_model.specs.effects.Effects.{Effect, release, notify, effect, queued, notified, entry_after_death, port_after_death, message_after_death, right_after_death, carried_after_death, without_target, one_more_if, after_death, map_values, notified_no_senders, sent_to_target, receive_released_to, released, released_if_live}
 use Rattle.ipc_laws.specs.EffectWeights.{with_port_weigh, no_port, queued_weigh, still_lives, moved_out, sent_or_died}
 use Rattle.ipc_model.specs.state.Lawful.{IsWaiting}
 use Rattle.ipc_laws.specs.MapLaws.{get-left, get-gone, get-map_values}
@@ -90,7 +90,7 @@ changed_leaves : (state : State) (serial : ℕ) (change : PortState → PortStat
     → ((w : Weight) → port_weigh w serial (change port) ≤ port_weigh w serial port) → NoneDangles state → NoneDangles (with_port state serial change)
 changed_leaves state serial change port there less none q dead = changed_none q state serial change port there (none q (dead_before state serial q change dead)) (less (any_of q))
 
-told_leaves : (state : State) (serial : ℕ) (port : PortState) (target : Option ℕ) → finmap.get state.ports serial ≡ Some port → NoneDangles state → NoneDangles (told_no_senders state serial port target)
+told_leaves : (state : State) (serial : ℕ) (port : PortState) (target : Option ℕ) → finmap.get state.ports serial ≡ Some port → NoneDangles state → NoneDangles (notified_no_senders state serial port target)
 told_leaves state serial port None there none = none
 told_leaves state serial port (Some target) there none =
     notified_leaves (with_port state serial (λ (p : PortState). record p { no_senders_target = None })) target (notice.NoSenders port.make_send_count) tt
@@ -329,7 +329,7 @@ receive_leaves state serial port (Some target) there none =
 
 release_leaves : (state : State) (serial : ℕ) (port : PortState) (kind : RightKind) → finmap.get state.ports serial ≡ Some port → NoneDangles state → NoneDangles (released state serial port kind).0
 release_leaves state serial port kind.Send there none =
-    elim (send_count state serial == 0) as (λ (b : Bool). NoneDangles (if b then told_no_senders state serial port port.no_senders_target else state)) [
+    elim (send_count state serial == 0) as (λ (b : Bool). NoneDangles (if b then notified_no_senders state serial port port.no_senders_target else state)) [
       | true ↦ told_leaves state serial port port.no_senders_target there none
       | false ↦ none
     ]

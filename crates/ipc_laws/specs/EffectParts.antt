@@ -20,7 +20,7 @@ use Rattle.ipc_model.specs.declared.message.RightKind.{RightKind}
 use Rattle.ipc_model.specs.declared.message.RightKind.TheVariants as kind
 use Rattle.ipc_model.specs.declared.port.PortState.{PortState}
 use Rattle.ipc_model.specs.state.Circular.{is_circular}
-use Rattle.ipc_model.specs.effects.Effects.{Effect, release, notify, effect, notified, entry_after_death, port_after_death, message_after_death, right_after_death, without_target, one_more_if, after_death, map_values, told_no_senders, receive_released_to, released, released_if_live}
+use Rattle.ipc_model.specs.effects.Effects.{Effect, release, notify, effect, notified, entry_after_death, port_after_death, message_after_death, right_after_death, without_target, one_more_if, after_death, map_values, notified_no_senders, receive_released_to, released, released_if_live}
 use Rattle.ipc_laws.specs.EffectWeights.{moved_out, sent_or_died}
 use Rattle.ipc_model.specs.messages.Items.{Item, items_of}
 use Rattle.ipc_model.specs.state.Lawful.{LawfulEntry, LawfulNames, LawfulMessage, LawfulPort, LawfulReply, HoldsPorts, IsStoredItem}
@@ -300,7 +300,7 @@ dead_parts state serial none parts = record {
 
 -- one effect
 
-told_parts : (state : State) (serial : ℕ) (port : PortState) (target : Option ℕ) → Parts state → Parts (told_no_senders state serial port target)
+told_parts : (state : State) (serial : ℕ) (port : PortState) (target : Option ℕ) → Parts state → Parts (notified_no_senders state serial port target)
 told_parts state serial port None parts = parts
 told_parts state serial port (Some target) parts =
     notified_parts (with_port state serial (λ (p : PortState). record p { no_senders_target = None })) target (notice.NoSenders port.make_send_count)
@@ -320,7 +320,7 @@ receive_parts state serial port (Some target) none parts =
 
 release_parts : (state : State) (serial : ℕ) (port : PortState) (what : RightKind) → (what ≡ kind.Receive → NotReceived state serial) → Parts state → Parts (released state serial port what).0
 release_parts state serial port kind.Send none parts =
-    elim (send_count state serial == 0) as (λ (b : Bool). Parts (if b then told_no_senders state serial port port.no_senders_target else state)) [ true ↦ told_parts state serial port port.no_senders_target parts | false ↦ parts ]
+    elim (send_count state serial == 0) as (λ (b : Bool). Parts (if b then notified_no_senders state serial port port.no_senders_target else state)) [ true ↦ told_parts state serial port port.no_senders_target parts | false ↦ parts ]
 release_parts state serial port kind.SendOnce none parts = notified_parts state serial notice.SendOnce parts
 release_parts state serial port kind.Receive none parts = receive_parts state serial port port.port_destroyed_target (none refl) parts
 

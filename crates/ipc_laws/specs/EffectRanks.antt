@@ -15,9 +15,9 @@ use Rattle.ipc_model.specs.declared.message.PortInMessage.TheVariants.{Null, Liv
 use Rattle.ipc_model.specs.declared.message.RightKind.{RightKind}
 use Rattle.ipc_model.specs.declared.message.RightKind.TheVariants as kind
 use Rattle.ipc_model.specs.declared.port.PortState.{PortState}
-use Rattle.ipc_model.specs.state.Circular.{carries, meets, is_circular, is_receive_right, is_port, Carries, Grounded}
+use Rattle.ipc_model.specs.state.Circular.{carries, meets, is_circular, is_receive_right, is_port, Carries, Acyclic}
 use Rattle.ipc_laws.specs.Dangling.{left_apart}
-use Rattle.ipc_model.specs.effects.Effects.{Effect, release, notify, effect, Settles, settled, next_effect, queued, notified, port_after_death, message_after_death, right_after_death, carried_after_death, after_death, told_no_senders, sent_to_target, receive_released_to, released, released_if_live}
+use Rattle.ipc_model.specs.effects.Effects.{Effect, release, notify, effect, Settles, settled, next_effect, queued, notified, port_after_death, message_after_death, right_after_death, carried_after_death, after_death, notified_no_senders, sent_to_target, receive_released_to, released, released_if_live}
 use Rattle.ipc_laws.specs.EffectParts.{mapped_some}
 use Rattle.ipc_laws.specs.EffectWeights.{moved_out, sent_or_died}
 use Rattle.ipc_laws.specs.EffectsKeep.{dangles_none, effects_keep_lawful}
@@ -36,7 +36,7 @@ use Rattle.ipc_laws.specs.Weights.{Weight, target_weigh, place_weigh, carried_we
 
 -- with fewer edges the ranks still fit
 
-pub fewer_edges : (old new : State) → ((outer inner : ℕ) → Carries new outer inner → Carries old outer inner) → Grounded old → Grounded new
+pub fewer_edges : (old new : State) → ((outer inner : ℕ) → Carries new outer inner → Carries old outer inner) → Acyclic old → Acyclic new
 fewer_edges old new less (rank, grows) = (rank, λ (outer inner : ℕ) (carries : Carries new outer inner). grows outer inner (less outer inner carries))
 
 -- a live port changes, and carries nothing more
@@ -91,19 +91,19 @@ notice_edges inner target (notice.NoSenders count) waits e = cc e
 notice_edges inner target notice.SendOnce waits e = cc e
 notice_edges inner target (notice.DeadName name) waits e = cc e
 
-notified_grounded : (state : State) (target : ℕ) (what : Notice) → IsWaiting (notify target what) → Grounded state → Grounded (notified state target what)
-notified_grounded state target what waits grounded =
+notified_acyclic : (state : State) (target : ℕ) (what : Notice) → IsWaiting (notify target what) → Acyclic state → Acyclic (notified state target what)
+notified_acyclic state target what waits acyclic =
     fewer_edges state (notified state target what) (λ (outer inner : ℕ) (edge : _). elim (queued_edges state target (notice_message what) outer inner edge) as (λ _. Carries state outer inner) [
       | inl before ↦ before
       | inr new ↦ absurd (notice_edges inner target what waits new.1)
-    ]) grounded
+    ]) acyclic
 
-told_grounded : (state : State) (serial : ℕ) (port : PortState) (target : Option ℕ) → Grounded state → Grounded (told_no_senders state serial port target)
-told_grounded state serial port None grounded = grounded
-told_grounded state serial port (Some target) grounded =
+told_acyclic : (state : State) (serial : ℕ) (port : PortState) (target : Option ℕ) → Acyclic state → Acyclic (notified_no_senders state serial port target)
+told_acyclic state serial port None acyclic = acyclic
+told_acyclic state serial port (Some target) acyclic =
     let change : PortState → PortState = λ p. record p { no_senders_target = None } in
-    notified_grounded (with_port state serial change) target (notice.NoSenders port.make_send_count) tt
-    (fewer_edges state (with_port state serial change) (changed_edges state serial change (λ (inner : ℕ) (p : PortState) (e : _). e)) grounded)
+    notified_acyclic (with_port state serial change) target (notice.NoSenders port.make_send_count) tt
+    (fewer_edges state (with_port state serial change) (changed_edges state serial change (λ (inner : ℕ) (p : PortState) (e : _). e)) acyclic)
 
 -- a death only removes edges
 
@@ -155,9 +155,9 @@ sent_edges state serial target outer inner edge =
       | inr new ↦ inr (new.0, sym (number_same serial inner (only_one (serial == inner) new.1)))
     ]
 
-sent_grounded : (state : State) (serial target : ℕ) → TravelsOnce state → is_circular state serial target ≡ false → Grounded state → Grounded (sent_to_target state serial target)
+sent_acyclic : (state : State) (serial target : ℕ) → TravelsOnce state → is_circular state serial target ≡ false → Acyclic state → Acyclic (sent_to_target state serial target)
 unfolding raise is_circular
-sent_grounded state serial target once free (rank, grows) =
+sent_acyclic state serial target once free (rank, grows) =
     let n : ℕ = finmap.len state.ports in (
       raise state rank serial target,
       λ (outer inner : ℕ) (edge : _). elim (sent_edges state serial target outer inner edge) as (λ _. raise state rank serial target inner < raise state rank serial target outer) [
@@ -265,41 +265,41 @@ not_false : (b : Bool) → not b ≡ true → b ≡ false
 not_false true e = absurd (cc e)
 not_false false e = refl
 
-receive_grounded : (state : State) (serial : ℕ) (port : PortState) (target : Option ℕ) → TravelsOnce state → Grounded state → Grounded (receive_released_to state serial port target).0
-receive_grounded state serial port None once grounded = fewer_edges state (after_death state serial) (death_edges state serial) grounded
-receive_grounded state serial port (Some target) once grounded =
-    elim (lives state target) as (λ (b : Bool). Grounded (sent_or_died (b && not (is_circular state serial target)) state serial port target).0) [
-      | true ↦ elim (not (is_circular state serial target)) as (λ (b : Bool). not (is_circular state serial target) ≡ b → Grounded (sent_or_died b state serial port target).0) [
-        | true ↦ λ (free : _). sent_grounded state serial target once (not_false (is_circular state serial target) free) grounded
-        | false ↦ λ (round : _). fewer_edges state (after_death state serial) (death_edges state serial) grounded
+receive_acyclic : (state : State) (serial : ℕ) (port : PortState) (target : Option ℕ) → TravelsOnce state → Acyclic state → Acyclic (receive_released_to state serial port target).0
+receive_acyclic state serial port None once acyclic = fewer_edges state (after_death state serial) (death_edges state serial) acyclic
+receive_acyclic state serial port (Some target) once acyclic =
+    elim (lives state target) as (λ (b : Bool). Acyclic (sent_or_died (b && not (is_circular state serial target)) state serial port target).0) [
+      | true ↦ elim (not (is_circular state serial target)) as (λ (b : Bool). not (is_circular state serial target) ≡ b → Acyclic (sent_or_died b state serial port target).0) [
+        | true ↦ λ (free : _). sent_acyclic state serial target once (not_false (is_circular state serial target) free) acyclic
+        | false ↦ λ (round : _). fewer_edges state (after_death state serial) (death_edges state serial) acyclic
       ] refl
-      | false ↦ fewer_edges state (after_death state serial) (death_edges state serial) grounded
+      | false ↦ fewer_edges state (after_death state serial) (death_edges state serial) acyclic
     ]
 
-released_grounded : (state : State) (serial : ℕ) (port : PortState) (what : RightKind) → TravelsOnce state → Grounded state → Grounded (released state serial port what).0
-released_grounded state serial port kind.Send once grounded =
-    elim (send_count state serial == 0) as (λ (b : Bool). Grounded (if b then told_no_senders state serial port port.no_senders_target else state)) [ true ↦ told_grounded state serial port port.no_senders_target grounded | false ↦ grounded ]
-released_grounded state serial port kind.SendOnce once grounded = notified_grounded state serial notice.SendOnce tt grounded
-released_grounded state serial port kind.Receive once grounded = receive_grounded state serial port port.port_destroyed_target once grounded
+released_acyclic : (state : State) (serial : ℕ) (port : PortState) (what : RightKind) → TravelsOnce state → Acyclic state → Acyclic (released state serial port what).0
+released_acyclic state serial port kind.Send once acyclic =
+    elim (send_count state serial == 0) as (λ (b : Bool). Acyclic (if b then notified_no_senders state serial port port.no_senders_target else state)) [ true ↦ told_acyclic state serial port port.no_senders_target acyclic | false ↦ acyclic ]
+released_acyclic state serial port kind.SendOnce once acyclic = notified_acyclic state serial notice.SendOnce tt acyclic
+released_acyclic state serial port kind.Receive once acyclic = receive_acyclic state serial port port.port_destroyed_target once acyclic
 
-effect_grounded : (state : State) (first : Effect) → IsWaiting first → TravelsOnce state → Grounded state → Grounded (effect state first).0
+effect_acyclic : (state : State) (first : Effect) → IsWaiting first → TravelsOnce state → Acyclic state → Acyclic (effect state first).0
 unfolding effect
-effect_grounded state (release what serial) waits once grounded =
-    elim (finmap.get state.ports serial) as (λ (o : Option PortState). Grounded (released_if_live state serial what o).0) [ None ↦ grounded | Some port ↦ released_grounded state serial port what once grounded ]
-effect_grounded state (notify target what) waits once grounded = notified_grounded state target what waits grounded
+effect_acyclic state (release what serial) waits once acyclic =
+    elim (finmap.get state.ports serial) as (λ (o : Option PortState). Acyclic (released_if_live state serial what o).0) [ None ↦ acyclic | Some port ↦ released_acyclic state serial port what once acyclic ]
+effect_acyclic state (notify target what) waits once acyclic = notified_acyclic state target what waits acyclic
 
 -- Each effect keeps a lawful state acyclic.
-abbrev pub EffectsKeepGrounded : Type 0
-EffectsKeepGrounded = (state : State) (first : Effect) (rest : List Effect) → LawfulBut state (first ∷ rest) → Grounded state → Grounded (effect state first).0
+abbrev pub EffectsKeepAcyclic : Type 0
+EffectsKeepAcyclic = (state : State) (first : Effect) (rest : List Effect) → LawfulBut state (first ∷ rest) → Acyclic state → Acyclic (effect state first).0
 
-pub effects_keep_grounded : EffectsKeepGrounded
-effects_keep_grounded state first rest lawful grounded = effect_grounded state first lawful.waits.0 (travels_once state (first ∷ rest) lawful) grounded
+pub effects_keep_acyclic : EffectsKeepAcyclic
+effects_keep_acyclic state first rest lawful acyclic = effect_acyclic state first lawful.waits.0 (travels_once state (first ∷ rest) lawful) acyclic
 
 -- So what effects settle in is lawful and acyclic.
 abbrev pub SettledIsLawful : Type 0
-SettledIsLawful = (state : State) (effects : List Effect) (end : State) → LawfulBut state effects → Grounded state → Settles state effects end → Lawful end × Grounded end
+SettledIsLawful = (state : State) (effects : List Effect) (end : State) → LawfulBut state effects → Acyclic state → Settles state effects end → Lawful end × Acyclic end
 
 pub settled_is_lawful : SettledIsLawful
-settled_is_lawful state [] end lawful grounded settled = (alone state lawful, grounded)
-settled_is_lawful state (first ∷ rest) end lawful grounded (next_effect later) =
-    settled_is_lawful (effect state first).0 (rest ++ (effect state first).1) end (effects_keep_lawful state first rest lawful) (effects_keep_grounded state first rest lawful grounded) later
+settled_is_lawful state [] end lawful acyclic settled = (alone state lawful, acyclic)
+settled_is_lawful state (first ∷ rest) end lawful acyclic (next_effect later) =
+    settled_is_lawful (effect state first).0 (rest ++ (effect state first).1) end (effects_keep_lawful state first rest lawful) (effects_keep_acyclic state first rest lawful acyclic) later

@@ -14,7 +14,7 @@ use Rattle.ipc_model.specs.declared.message.RightKind.{RightKind}
 use Rattle.ipc_model.specs.declared.message.RightKind.TheVariants as kind
 use Rattle.ipc_model.specs.declared.port.PortState.{PortState}
 use Rattle.ipc_model.specs.state.Circular.{is_circular}
-use Rattle.ipc_model.specs.effects.Effects.{Effect, release, notify, effect, releases_of, release_of, release_of_reply, release_of_port, queued, entry_after_death, port_after_death, message_after_death, right_after_death, carried_after_death, without_target, one_more_if, dead_name_of_entry, dead_name_notice, dead_name_notices, is_name_of, after_death, effects_of_death, release_of_target, map_values, died, told_no_senders, sent_to_target, receive_released_to, released, released_if_live}
+use Rattle.ipc_model.specs.effects.Effects.{Effect, release, notify, effect, releases_of, release_of, release_of_reply, release_of_port, queued, entry_after_death, port_after_death, message_after_death, right_after_death, carried_after_death, without_target, one_more_if, dead_name_of_entry, dead_name_notice, dead_name_notices, is_name_of, after_death, effects_of_death, release_of_target, map_values, died, notified_no_senders, sent_to_target, receive_released_to, released, released_if_live}
 use Rattle.ipc_model.specs.state.Lawful.{IsWaiting}
 use Rattle.ipc_laws.specs.MapLaws.{get-here, get-there}
 use Rattle.ipc_laws.specs.MapSums.{weigh, total, weight, weigh-append, weigh-map, weigh-flat_map, weigh-same, weigh-zero, total-insert, total-remove, total-map_values}
@@ -69,7 +69,7 @@ queued_receive q state serial message none =
     ] refl
 
 told_receive : (q : ℕ) (state : State) (serial : ℕ) (port : PortState) (target : Option ℕ) → finmap.get state.ports serial ≡ Some port
-    → state_weigh (receive_of q) (told_no_senders state serial port target) ≡ state_weigh (receive_of q) state
+    → state_weigh (receive_of q) (notified_no_senders state serial port target) ≡ state_weigh (receive_of q) state
 told_receive q state serial port None there = refl
 told_receive q state serial port (Some target) there =
     let taken : State = with_port state serial (λ (p : PortState). record p { no_senders_target = None }) in
@@ -286,7 +286,7 @@ receive_released q state serial port (Some target) there live =
 released_receive : (q : ℕ) (state : State) (serial : ℕ) (port : PortState) (kind : RightKind) → finmap.get state.ports serial ≡ Some port → lives (released state serial port kind).0 q ≡ true
     → outcome_weigh (receive_of q) (released state serial port kind) ≡ state_weigh (receive_of q) state + receive_of q kind serial
 released_receive q state serial port kind.Send there live =
-    elim (send_count state serial == 0) as (λ (b : Bool). state_weigh (receive_of q) (if b then told_no_senders state serial port port.no_senders_target else state) + 0 ≡ state_weigh (receive_of q) state + 0) [
+    elim (send_count state serial == 0) as (λ (b : Bool). state_weigh (receive_of q) (if b then notified_no_senders state serial port port.no_senders_target else state) + 0 ≡ state_weigh (receive_of q) state + 0) [
       | true ↦ omega (arith, told_receive q state serial port port.no_senders_target there)
       | false ↦ refl
     ]

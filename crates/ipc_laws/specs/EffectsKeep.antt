@@ -17,10 +17,10 @@ use Rattle.ipc_model.specs.declared.port.PortState.{PortState}
 use Rattle.ipc_model.specs.state.Circular.{is_circular}
 use Rattle.ipc_laws.specs.Dangling.{effect_leaves, NoneDangles, left_apart}
 use Rattle.ipc_laws.specs.ListLaws.{some_same}
-use Rattle.ipc_model.specs.effects.Effects.{Effect, release, notify, effect, notified, releases_of, release_of, release_of_reply, release_of_port, release_of_target, entry_after_death, port_after_death, dead_name_of_entry, dead_name_notice, without_target, one_more_if, dead_name_notices, is_name_of, after_death, effects_of_death, map_values, told_no_senders, receive_released_to, released, released_if_live}
+use Rattle.ipc_model.specs.effects.Effects.{Effect, release, notify, effect, notified, releases_of, release_of, release_of_reply, release_of_port, release_of_target, entry_after_death, port_after_death, dead_name_of_entry, dead_name_notice, without_target, one_more_if, dead_name_notices, is_name_of, after_death, effects_of_death, map_values, notified_no_senders, receive_released_to, released, released_if_live}
 use Rattle.ipc_laws.specs.EffectParts.{Parts, NotReceived, effect_parts, mapped_some}
 use Rattle.ipc_laws.specs.EffectWeights.{effect_receive, moved_out, sent_or_died}
-use Rattle.ipc_model.specs.state.Lawful.{LawfulBut, count_with, AllWaiting, IsHeldBesideSet, IsReleased}
+use Rattle.ipc_model.specs.state.Lawful.{LawfulBut, count_with, AllWaiting, IsHeldAlongsideSet, IsReleased}
 use Rattle.ipc_laws.specs.MapLaws.{get-here, get-there, get-left, get-map_values}
 use Rattle.ipc_laws.specs.MapSums.{weigh, total, weight, weigh-append, total-remove}
 use Rattle.ipc_model.specs.messages.Notices.{Notice, notice_message}
@@ -114,7 +114,7 @@ not_received state serial none space name names rights there at is =
 -- sets: a member is held in its set's space, or its receive right waits
 
 abbrev pub Members : State → List Effect → Type 0
-Members state effects = (serial set : ℕ) (port : PortState) → finmap.get state.ports serial ≡ Some port → port.set ≡ Some set → IsHeldBesideSet state serial set ⊎ IsReleased effects serial
+Members state effects = (serial set : ℕ) (port : PortState) → finmap.get state.ports serial ≡ Some port → port.set ≡ Some set → IsHeldAlongsideSet state serial set ⊎ IsReleased effects serial
 
 here_or_later : {X : Type 0} (x first : X) (rest : List X) → Contains (first ∷ rest) x → (first ≡ x) ⊎ Contains rest x
 here_or_later x first rest (zero, less, is) = inl is
@@ -126,16 +126,16 @@ still_contains x (y ∷ xs) ys (zero, less, is) = (zero, omega arith, is)
 still_contains x (y ∷ xs) ys (suc k, less, is) = let later = still_contains x xs ys (k, omega (arith, less), is) in (suc later.0, omega (arith, later.1), later.2)
 
 more_effects : (state : State) (rest added : List Effect) → Members state rest → Members state (rest ++ added)
-more_effects state rest added members serial set port there is = elim (members serial set port there is) as (λ _. IsHeldBesideSet state serial set ⊎ IsReleased (rest ++ added) serial) [
+more_effects state rest added members serial set port there is = elim (members serial set port there is) as (λ _. IsHeldAlongsideSet state serial set ⊎ IsReleased (rest ++ added) serial) [
   | inl held ↦ inl held
   | inr waits ↦ inr (still_contains (release kind.Receive serial) rest added waits)
 ]
 
 -- an effect that isn't the release of a receive right is done
 without_first : (state : State) (first : Effect) (rest : List Effect) → ((serial : ℕ) → first ≡ release kind.Receive serial → ⊥) → Members state (first ∷ rest) → Members state rest
-without_first state first rest other members serial set port there is = elim (members serial set port there is) as (λ _. IsHeldBesideSet state serial set ⊎ IsReleased rest serial) [
+without_first state first rest other members serial set port there is = elim (members serial set port there is) as (λ _. IsHeldAlongsideSet state serial set ⊎ IsReleased rest serial) [
   | inl held ↦ inl held
-  | inr waits ↦ elim (here_or_later (release kind.Receive serial) first rest waits) as (λ _. IsHeldBesideSet state serial set ⊎ IsReleased rest serial) [
+  | inr waits ↦ elim (here_or_later (release kind.Receive serial) first rest waits) as (λ _. IsHeldAlongsideSet state serial set ⊎ IsReleased rest serial) [
     | inl same ↦ absurd (other serial same)
     | inr later ↦ inr later
   ]
@@ -147,7 +147,7 @@ port_members state serial change effects keeps members =
     elim (finmap.get state.ports serial) as (λ (o : Option PortState). finmap.get state.ports serial ≡ o
     → Members (elim o as (λ _. State) [ None ↦ state | Some p ↦ record state { ports = finmap.insert state.ports serial (change p) } ]) effects) [
       | None ↦ λ (none : _). members
-      | Some p ↦ λ (there : _) (other set : ℕ) (port : PortState) (at : _) (is : _). elim (number_decided other serial) as (λ _. IsHeldBesideSet state other set ⊎ IsReleased effects other) [
+      | Some p ↦ λ (there : _) (other set : ℕ) (port : PortState) (at : _) (is : _). elim (number_decided other serial) as (λ _. IsHeldAlongsideSet state other set ⊎ IsReleased effects other) [
         | inl apart ↦ members other set port (sym (get-there state.ports serial (change p) other apart) ∙ at) is
         | inr same ↦
             let changed : change p ≡ port = some_same (change p) port (sym (get-here state.ports serial (change p)) ∙ ap (finmap.get (finmap.insert state.ports serial (change p))) (sym same) ∙ at) in
@@ -158,7 +158,7 @@ port_members state serial change effects keeps members =
 notified_members : (state : State) (target : ℕ) (what : Notice) (effects : List Effect) → Members state effects → Members (notified state target what) effects
 notified_members state target what effects members = port_members state target (λ (p : PortState). record p { messages = p.messages ++ notice_message what ∷ [] }) effects (λ (p : PortState). refl) members
 
-told_members : (state : State) (serial : ℕ) (port : PortState) (target : Option ℕ) (effects : List Effect) → Members state effects → Members (told_no_senders state serial port target) effects
+told_members : (state : State) (serial : ℕ) (port : PortState) (target : Option ℕ) (effects : List Effect) → Members state effects → Members (notified_no_senders state serial port target) effects
 told_members state serial port None effects members = members
 told_members state serial port (Some target) effects members =
     notified_members (with_port state serial (λ (p : PortState). record p { no_senders_target = None })) target (notice.NoSenders port.make_send_count) effects
@@ -196,10 +196,10 @@ moved_members state serial port rest there members =
     let moved : State = record state { ports = finmap.insert state.ports serial (moved_out port) } in
     let is_moved : with_port state serial moved_out ≡ moved =
     ap (λ (o : Option PortState). elim o as (λ _. State) [ None ↦ state | Some p ↦ record state { ports = finmap.insert state.ports serial (moved_out p) } ]) there in
-    subst (λ (s : State). Members s rest) (sym is_moved) (λ (other set : ℕ) (p : PortState) (at : _) (is : _). elim (number_decided other serial) as (λ _. IsHeldBesideSet state other set ⊎ IsReleased rest other) [
-      | inl apart ↦ elim (members other set p (sym (get-there state.ports serial (moved_out port) other apart) ∙ at) is) as (λ _. IsHeldBesideSet state other set ⊎ IsReleased rest other) [
+    subst (λ (s : State). Members s rest) (sym is_moved) (λ (other set : ℕ) (p : PortState) (at : _) (is : _). elim (number_decided other serial) as (λ _. IsHeldAlongsideSet state other set ⊎ IsReleased rest other) [
+      | inl apart ↦ elim (members other set p (sym (get-there state.ports serial (moved_out port) other apart) ∙ at) is) as (λ _. IsHeldAlongsideSet state other set ⊎ IsReleased rest other) [
         | inl held ↦ inl held
-        | inr waits ↦ elim (here_or_later (release kind.Receive other) (release kind.Receive serial) rest waits) as (λ _. IsHeldBesideSet state other set ⊎ IsReleased rest other) [
+        | inr waits ↦ elim (here_or_later (release kind.Receive other) (release kind.Receive serial) rest waits) as (λ _. IsHeldAlongsideSet state other set ⊎ IsReleased rest other) [
           | inl same ↦ absurd (apart (sym (same_serial serial other same)))
           | inr later ↦ inr later
         ]
@@ -227,8 +227,8 @@ received_after serial other (SendOnce port target) apart is = absurd (cc is)
 received_after serial other Set apart is = absurd (cc is)
 received_after serial other (Dead references) apart is = absurd (cc is)
 
-held_after_death : (state : State) (serial other set : ℕ) → other ≢ serial → IsHeldBesideSet state other set → IsHeldBesideSet (after_death state serial) other set
-held_after_death state serial other set apart (space, names, name, entry, there, at, is, beside) = (
+held_after_death : (state : State) (serial other set : ℕ) → other ≢ serial → IsHeldAlongsideSet state other set → IsHeldAlongsideSet (after_death state serial) other set
+held_after_death state serial other set apart (space, names, name, entry, there, at, is, alongside) = (
   space,
   map_values (entry_after_death serial) names,
   name,
@@ -236,7 +236,7 @@ held_after_death state serial other set apart (space, names, name, entry, there,
   get-map_values (map_values (entry_after_death serial)) state.spaces space ∙ ap (option_map (map_values (entry_after_death serial))) there,
   get-map_values (entry_after_death serial) names name ∙ ap (option_map (entry_after_death serial)) at,
   received_after serial other entry apart is,
-  get-map_values (entry_after_death serial) names set ∙ ap (option_map (entry_after_death serial)) beside,
+  get-map_values (entry_after_death serial) names set ∙ ap (option_map (entry_after_death serial)) alongside,
 )
 
 died_members : (state : State) (serial : ℕ) (rest : List Effect) → Members state (release kind.Receive serial ∷ rest) → Members (after_death state serial) rest
@@ -244,9 +244,9 @@ died_members state serial rest members other set port at is =
     let was = mapped_some (port_after_death serial) (finmap.get (finmap.remove state.ports serial) other) port (sym (get-map_values (port_after_death serial) (finmap.remove state.ports serial) other) ∙ at) in
     let apart : other ≢ serial = left_apart state.ports serial other was.0 was.1 in
     let before : finmap.get state.ports other ≡ Some was.0 = sym (get-left state.ports serial other apart) ∙ was.1 in
-    elim (members other set was.0 before (ap (λ (q : PortState). q.set) was.2 ∙ is)) as (λ _. IsHeldBesideSet (after_death state serial) other set ⊎ IsReleased rest other) [
+    elim (members other set was.0 before (ap (λ (q : PortState). q.set) was.2 ∙ is)) as (λ _. IsHeldAlongsideSet (after_death state serial) other set ⊎ IsReleased rest other) [
       | inl held ↦ inl (held_after_death state serial other set apart held)
-      | inr waits ↦ elim (here_or_later (release kind.Receive other) (release kind.Receive serial) rest waits) as (λ _. IsHeldBesideSet (after_death state serial) other set ⊎ IsReleased rest other) [
+      | inr waits ↦ elim (here_or_later (release kind.Receive other) (release kind.Receive serial) rest waits) as (λ _. IsHeldAlongsideSet (after_death state serial) other set ⊎ IsReleased rest other) [
         | inl same ↦ absurd (apart (sym (same_serial serial other same)))
         | inr later ↦ inr later
       ]
@@ -264,9 +264,9 @@ receive_members state serial port (Some target) rest there members =
 -- the release of a dead port's receive right changes nothing
 dead_members : (state : State) (what : RightKind) (serial : ℕ) (rest : List Effect) → finmap.get state.ports serial ≡ None → Members state (release what serial ∷ rest) → Members state rest
 unfolding serial_of
-dead_members state what serial rest none members other set port there is = elim (members other set port there is) as (λ _. IsHeldBesideSet state other set ⊎ IsReleased rest other) [
+dead_members state what serial rest none members other set port there is = elim (members other set port there is) as (λ _. IsHeldAlongsideSet state other set ⊎ IsReleased rest other) [
   | inl held ↦ inl held
-  | inr waits ↦ elim (here_or_later (release kind.Receive other) (release what serial) rest waits) as (λ _. IsHeldBesideSet state other set ⊎ IsReleased rest other) [
+  | inr waits ↦ elim (here_or_later (release kind.Receive other) (release what serial) rest waits) as (λ _. IsHeldAlongsideSet state other set ⊎ IsReleased rest other) [
     | inl same ↦ absurd (cc (sym none ∙ ap (finmap.get state.ports) (ap serial_of same) ∙ there))
     | inr later ↦ inr later
   ]
@@ -274,7 +274,7 @@ dead_members state what serial rest none members other set port there is = elim 
 
 released_members : (state : State) (serial : ℕ) (port : PortState) (what : RightKind) (rest : List Effect) → finmap.get state.ports serial ≡ Some port → Members state (release what serial ∷ rest) → Members (released state serial port what).0 rest
 released_members state serial port kind.Send rest there members =
-    elim (send_count state serial == 0) as (λ (b : Bool). Members (if b then told_no_senders state serial port port.no_senders_target else state) rest) [
+    elim (send_count state serial == 0) as (λ (b : Bool). Members (if b then notified_no_senders state serial port port.no_senders_target else state) rest) [
       | true ↦ told_members state serial port port.no_senders_target rest (without_first state (release kind.Send serial) rest (λ (s : ℕ) (e : _). send_is_not_receive serial s e) members)
       | false ↦ without_first state (release kind.Send serial) rest (λ (s : ℕ) (e : _). send_is_not_receive serial s e) members
     ]

@@ -6,7 +6,7 @@ use Rattle.ipc_model.specs.declared.entry.Entry.{Entry}
 use Rattle.ipc_model.specs.declared.entry.Entry.TheVariants.{Set}
 use Rattle.ipc_model.specs.declared.port.PortState.{PortState}
 use Rattle.ipc_model.specs.effects.Effects.{Effect}
-use Rattle.ipc_model.specs.state.Lawful.{LawfulNames, AllWaiting, IsHeldBesideSet, IsReleased}
+use Rattle.ipc_model.specs.state.Lawful.{LawfulNames, AllWaiting, IsHeldAlongsideSet, IsReleased}
 use Rattle.ipc_laws.specs.ListLaws.{some_same}
 use Rattle.ipc_laws.specs.MapLaws.{get-here, get-there, get-gone, get-left}
 use Rattle.ipc_laws.specs.MapSums.{weigh, weight, total-insert, total-remove}
@@ -71,25 +71,25 @@ entry_of None serial is = absurd (cc is)
 entry_of (Some entry) serial is = (entry, refl, is)
 
 -- a member is still held in its set's space, or its receive right waits
-still_beside : (state : State) (space name : ℕ) (names : Names) (before after : Option Entry) (effects later : List Effect) → EntryMove state space name names before after effects later
-    → (serial set : ℕ) → IsHeldBesideSet state serial set → IsHeldBesideSet (with_names state space (changed names name after)) serial set ⊎ IsReleased later serial
-still_beside state space name names before after effects later move serial set (other, held_names, held_name, entry, there, at, is, beside) =
-    elim (number_decided other space) as (λ _. IsHeldBesideSet (with_names state space (changed names name after)) serial set ⊎ IsReleased later serial) [
-      | inl apart ↦ inl (other, held_names, held_name, entry, get-there state.spaces space (changed names name after) other apart ∙ there, at, is, beside)
+still_alongside : (state : State) (space name : ℕ) (names : Names) (before after : Option Entry) (effects later : List Effect) → EntryMove state space name names before after effects later
+    → (serial set : ℕ) → IsHeldAlongsideSet state serial set → IsHeldAlongsideSet (with_names state space (changed names name after)) serial set ⊎ IsReleased later serial
+still_alongside state space name names before after effects later move serial set (other, held_names, held_name, entry, there, at, is, alongside) =
+    elim (number_decided other space) as (λ _. IsHeldAlongsideSet (with_names state space (changed names name after)) serial set ⊎ IsReleased later serial) [
+      | inl apart ↦ inl (other, held_names, held_name, entry, get-there state.spaces space (changed names name after) other apart ∙ there, at, is, alongside)
       | inr same ↦
           let same_names : held_names ≡ names = some_same held_names names (sym there ∙ ap (finmap.get state.spaces) same ∙ move.there) in
-          let beside_here : finmap.get names set ≡ Some Set = ap (λ (n : Names). finmap.get n set) (sym same_names) ∙ beside in
+          let alongside_here : finmap.get names set ≡ Some Set = ap (λ (n : Names). finmap.get n set) (sym same_names) ∙ alongside in
           let at_here : finmap.get names held_name ≡ Some entry = ap (λ (n : Names). finmap.get n held_name) (sym same_names) ∙ at in
           let space_there : finmap.get (finmap.insert state.spaces space (changed names name after)) space ≡ Some (changed names name after) = get-here state.spaces space (changed names name after) in
           let set_stays : finmap.get (changed names name after) set ≡ Some Set = elim (number_decided set name) as (λ _. finmap.get (changed names name after) set ≡ Some Set) [
-            | inl apart ↦ changed_there names name set after apart ∙ beside_here
-            | inr named ↦ ap (finmap.get (changed names name after)) named ∙ changed_here names name after ∙ move.set (sym move.at ∙ ap (finmap.get names) (sym named) ∙ beside_here)
+            | inl apart ↦ changed_there names name set after apart ∙ alongside_here
+            | inr named ↦ ap (finmap.get (changed names name after)) named ∙ changed_here names name after ∙ move.set (sym move.at ∙ ap (finmap.get names) (sym named) ∙ alongside_here)
           ] in
-          elim (number_decided held_name name) as (λ _. IsHeldBesideSet (with_names state space (changed names name after)) serial set ⊎ IsReleased later serial) [
+          elim (number_decided held_name name) as (λ _. IsHeldAlongsideSet (with_names state space (changed names name after)) serial set ⊎ IsReleased later serial) [
             | inl apart ↦ inl (space, changed names name after, held_name, entry, space_there, changed_there names name held_name after apart ∙ at_here, is, set_stays)
             | inr named ↦
                 let was : before ≡ Some entry = sym move.at ∙ ap (finmap.get names) (sym named) ∙ at_here in
-                elim (move.held serial (ap received_under was ∙ is)) as (λ _. IsHeldBesideSet (with_names state space (changed names name after)) serial set ⊎ IsReleased later serial) [
+                elim (move.held serial (ap received_under was ∙ is)) as (λ _. IsHeldAlongsideSet (with_names state space (changed names name after)) serial set ⊎ IsReleased later serial) [
                   | inl stays ↦
                       let now = entry_of after serial stays in
                       inl (space, changed names name after, name, now.0, space_there, changed_here names name after ∙ now.1, now.2, set_stays)
@@ -107,8 +107,8 @@ entry_moves state space name names before after effects later move lawful = reco
   receives = λ (q : ℕ). omega (arith, changed_weight (receive_of q) names name before after move.at, move.receives q);
   none_dead = λ (q : ℕ) (dead : _). omega (arith, changed_weight (any_of q) names name before after move.at, move.none_dead q dead);
   waits = move.waits;
-  members = λ (serial set : ℕ) (port : PortState) (live : _) (is : _) (member : _). elim member as (λ _. IsHeldBesideSet (with_names state space (changed names name after)) serial set ⊎ IsReleased later serial) [
-    | inl beside ↦ still_beside state space name names before after effects later move serial set beside
+  members = λ (serial set : ℕ) (port : PortState) (live : _) (is : _) (member : _). elim member as (λ _. IsHeldAlongsideSet (with_names state space (changed names name after)) serial set ⊎ IsReleased later serial) [
+    | inl alongside ↦ still_alongside state space name names before after effects later move serial set alongside
     | inr waits ↦ inr (move.released serial set port live is waits)
   ];
 }

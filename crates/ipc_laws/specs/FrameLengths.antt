@@ -25,20 +25,20 @@ use Rattle.ipc_model.specs.state.State.{State, Names, is_member, members_of, typ
 use Rattle.ipc_model.specs.calls.Step.{ActsFrom, refused, number_of_call}
 use Rattle.ipc_laws.specs.StepLaws.{Called}
 use Rattle.ipc_model.specs.calls.Tests.{first_failing}
-use Rattle.ipc_model.specs.texts.Texts.{call_text, reply_text, done_text, status_text, receive_option, number_of_bool, number_of_reply}
+use Rattle.ipc_model.specs.encodings.Encodings.{call_encoding, reply_encoding, done_encoding, status_encoding, receive_option, number_of_bool, number_of_reply}
 use Rattle.ipc_laws.specs.PortCallLaws.{as_called, answers_done, is_port_call, is_short, answer_number}
 use Rattle.words.specs.WordLaws.{length-word}
 use Rattle.words.specs.Words.{word}
 
 -- a reply of at most this many bytes
 pub record IsWithin (most : ℕ) (answer : Reply) : Type 0 where
-  pub bytes : length (reply_text answer) ≤ most
+  pub bytes : length (reply_encoding answer) ≤ most
 
 pub within : (most : ℕ) (given answer : Reply) → answer ≡ given → IsWithin most given → IsWithin most answer
 within most given answer is holds = subst (IsWithin most) (sym is) holds
 
 -- The length of a reply, from the number of bytes of its results.
-done_length : (number : ℕ) (results : List ℕ) → length (done_text number results) ≡ 8 + length results
+done_length : (number : ℕ) (results : List ℕ) → length (done_encoding number results) ≡ 8 + length results
 done_length number results = omega (arith, length-append (word number) (word 0 ++ results), length-append (word 0) results, length-word number, length-word 0)
 
 two_words : (a b : ℕ) → length (word a ++ word b) ≡ 8
@@ -54,20 +54,20 @@ nine_words : (a b c d e f g h i : ℕ) → length (word a ++ (word b ++ (word c 
 nine_words a b c d e f g h i =
     omega (arith, three_more a b c (word d ++ (word e ++ (word f ++ (word g ++ (word h ++ word i))))), three_more d e f (word g ++ (word h ++ word i)), three_words g h i)
 
-status_length : (status : ReceiveStatus) → length (status_text status) ≡ 36
+status_length : (status : ReceiveStatus) → length (status_encoding status) ≡ 36
 status_length status =
     nine_words status.set status.sequence_number status.make_send_count status.limit status.messages status.send_once_count
     (number_of_bool status.has_senders) (number_of_bool status.has_port_destroyed_request) (number_of_bool status.has_no_senders_request)
 
 short_within : (answer : Reply) → is_short answer ≡ true → IsWithin 44 answer
-unfolding reply_text
+unfolding reply_encoding
 short_within (reply.Refused number code) short = record { bytes = omega (arith, two_words number (number_of code)) }
 short_within (reply.Done number) short = record { bytes = omega (arith, done_length number []) }
 short_within (reply.Names names) short = absurd (cc short)
 short_within (reply.Type bits) short = record { bytes = omega (arith, done_length 2 (word bits), length-word bits) }
 short_within (reply.Allocate name) short = record { bytes = omega (arith, done_length 5 (word name), length-word name) }
 short_within (reply.References count) short = record { bytes = omega (arith, done_length 8 (word count), length-word count) }
-short_within (reply.ReceiveStatus status) short = record { bytes = omega (arith, done_length 13 (status_text status), status_length status) }
+short_within (reply.ReceiveStatus status) short = record { bytes = omega (arith, done_length 13 (status_encoding status), status_length status) }
 short_within (reply.SetStatus members) short = absurd (cc short)
 short_within (reply.PreviousTarget name) short = record { bytes = omega (arith, done_length 16 (word name), length-word name) }
 short_within (reply.Extracted name kind) short = record { bytes = omega (arith, done_length 18 (word name ++ word (number_of_kind kind)), two_words name (number_of_kind kind)) }
@@ -94,13 +94,13 @@ named_length : (n : NamedType) → length (word n.name ++ word n.bits) ≡ 8
 named_length n = two_words n.name n.bits
 
 listed_within : (names : List NamedType) → length names ≤ MAX_NAMES → IsWithin 32780 (reply.Names names)
-unfolding reply_text
+unfolding reply_encoding
 listed_within names few =
     let pairs : List ℕ = flat_map (λ (n : NamedType). word n.name ++ word n.bits) names in
     record { bytes = omega (arith, done_length 1 (word (length names) ++ pairs), length-append (word (length names)) pairs, length-word (length names), flat_length 8 (λ (n : NamedType). word n.name ++ word n.bits) named_length names, few) }
 
 members_within : (members : List ℕ) → length members ≤ MAX_NAMES → IsWithin 32780 (reply.SetStatus members)
-unfolding reply_text
+unfolding reply_encoding
 members_within members few =
     record { bytes = omega (arith, done_length 14 (word (length members) ++ flat_map word members), length-append (word (length members)) (flat_map word members), length-word (length members), flat_length 4 word length-word members, few) }
 
@@ -151,7 +151,7 @@ called_within None old space names c answer new effects few acts = done_within o
 called_within (Some code) old space names c answer new effects few acts = within 32780 _ answer acts.0 (wide _ (short_within (reply.Refused (number_of_call c) code) refl))
 
 message_within : (code : KernReturn) → IsWithin 44 (without_message code 0 0)
-unfolding reply_text
+unfolding reply_encoding
 message_within code =
     let results : List ℕ = word 0 ++ (word 0 ++ []) in
     record { bytes = omega (arith, length-append (word 19) (word (number_of code) ++ results), length-append (word (number_of code)) results, length-append (word 0) (word 0 ++ []), length-append (word 0) [], length-word 19, length-word (number_of code), length-word 0) }
@@ -189,8 +189,8 @@ six_words : (a b c d e f : ℕ) → length (word a ++ (word b ++ (word c ++ (wor
 six_words a b c d e f = omega (arith, three_more a b c (word d ++ (word e ++ word f)), three_words d e f)
 
 -- a call of at most five arguments
-pub arguments_within : (c : Call) → is_port_call c ≡ true → length (call_text c) ≤ 24
-unfolding call_text
+pub arguments_within : (c : Call) → is_port_call c ≡ true → length (call_encoding c) ≤ 24
+unfolding call_encoding
 arguments_within (call.Attach space) port = omega (arith, two_words 0 space)
 arguments_within call.Names port = omega (arith, one_word 1)
 arguments_within (call.Type name) port = omega (arith, two_words 2 name)
@@ -216,17 +216,17 @@ arguments_within (call.SpaceCreate name disposition) port = omega (arith, three_
 arguments_within call.SpaceDestroy port = omega (arith, one_word 21)
 
 -- A send's frame, and those of a receive and of what it brings.
-pub send_length : (message : List ℕ) → length (call_text (call.Send message)) ≡ 20 + length message
-unfolding call_text
+pub send_length : (message : List ℕ) → length (call_encoding (call.Send message)) ≡ 20 + length message
+unfolding call_encoding
 send_length message =
     let behind : List ℕ = word 0 ++ (word 0 ++ message) in
     omega (arith, three_more 19 1 0 behind, length-append (word 0) (word 0 ++ message), length-append (word 0) message, length-word 0)
 
-pub receive_length : (limit name : ℕ) (large waited : Bool) → length (call_text (call.Receive limit large name waited)) ≡ 20
-unfolding call_text
+pub receive_length : (limit name : ℕ) (large waited : Bool) → length (call_encoding (call.Receive limit large name waited)) ≡ 20
+unfolding call_encoding
 receive_length limit name large waited =
     omega (arith, three_more 19 (receive_option large) limit (word name ++ word (number_of_bool waited)), two_words name (number_of_bool waited))
 
-pub message_length : (code : KernReturn) (size member : ℕ) (message : List ℕ) → length (reply_text (reply.Message code size member message)) ≡ 16 + length message
-unfolding reply_text
+pub message_length : (code : KernReturn) (size member : ℕ) (message : List ℕ) → length (reply_encoding (reply.Message code size member message)) ≡ 16 + length message
+unfolding reply_encoding
 message_length code size member message = omega (arith, three_more 19 (number_of code) size (word member ++ message), length-append (word member) message, length-word member)

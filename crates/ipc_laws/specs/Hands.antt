@@ -7,7 +7,7 @@ use Rattle.ipc_model.specs.declared.entry.Entry.{Entry}
 use Rattle.ipc_model.specs.declared.entry.Entry.TheVariants.{Set}
 use Rattle.ipc_model.specs.declared.port.PortState.{PortState}
 use Rattle.ipc_laws.specs.CallsKeep.{Kept}
-use Rattle.ipc_model.specs.state.Circular.{Grounded}
+use Rattle.ipc_model.specs.state.Circular.{Acyclic}
 use Rattle.ipc_laws.specs.Dangling.{NoneDangles, dead_before, port_part}
 use Rattle.ipc_model.specs.effects.Effects.{Effect}
 use Rattle.ipc_laws.specs.EffectParts.{Parts, with_port_there, inserted_parts}
@@ -15,7 +15,7 @@ use Rattle.ipc_laws.specs.EffectRanks.{receive_is_any, ports_in_state, ports_les
 use Rattle.ipc_laws.specs.EffectWeights.{with_port_weigh}
 use Rattle.ipc_laws.specs.EffectsKeep.{dangles_none, parts_of}
 use Rattle.ipc_laws.specs.EntryChanges.{changed, under, received_under, changed_weight, changed_here, changed_there, entry_of}
-use Rattle.ipc_model.specs.state.Lawful.{LawfulNames, LawfulPort, AllWaiting, IsHeldBesideSet}
+use Rattle.ipc_model.specs.state.Lawful.{LawfulNames, LawfulPort, AllWaiting, IsHeldAlongsideSet}
 use Rattle.ipc_laws.specs.LawfulLaws.{LawfulAtRest}
 use Rattle.ipc_laws.specs.ListLaws.{some_same}
 use Rattle.ipc_laws.specs.MapLaws.{get-here, get-there}
@@ -41,21 +41,21 @@ pub record MidCall (state : State) (hand : Hand) : Type 0 where
   pub one_receive : (q : ℕ) → lives state q ≡ true → state_weigh (receive_of q) state + hand (receive_of q) ≡ 1
   pub none_dangles : NoneDangles state
   pub in_hand : (q : ℕ) → lives state q ≡ false → hand (any_of q) ≡ 0
-  pub members : (serial set : ℕ) (port : PortState) → finmap.get state.ports serial ≡ Some port → port.set ≡ Some set → IsHeldBesideSet state serial set
-  pub grounded : Grounded state
+  pub members : (serial set : ℕ) (port : PortState) → finmap.get state.ports serial ≡ Some port → port.set ≡ Some set → IsHeldAlongsideSet state serial set
+  pub acyclic : Acyclic state
 
 -- a call begins with nothing in hand
-pub mid_of : (state : State) → LawfulAtRest state → Grounded state → MidCall state empty_hand
-mid_of state lawful grounded = record {
+pub mid_of : (state : State) → LawfulAtRest state → Acyclic state → MidCall state empty_hand
+mid_of state lawful acyclic = record {
   parts = parts_of state [] lawful;
   one_receive = λ (q : ℕ) (live : _). omega (arith, count-receive state [] q, lawful.one_receive q live);
   none_dangles = dangles_none state [] lawful;
   in_hand = λ (q : ℕ) (dead : _). refl;
-  members = λ (serial set : ℕ) (port : PortState) (at : _) (is : _). elim (lawful.sets serial set port at is) as (λ _. IsHeldBesideSet state serial set) [
+  members = λ (serial set : ℕ) (port : PortState) (at : _) (is : _). elim (lawful.sets serial set port at is) as (λ _. IsHeldAlongsideSet state serial set) [
     | inl held ↦ held
     | inr waits ↦ absurd (none_released serial waits)
   ];
-  grounded = grounded;
+  acyclic = acyclic;
 }
 
 -- and ends where all receive rights in hand wait among its effects
@@ -72,7 +72,7 @@ kept_of_mid state hand effects mid waits receives = record {
     waits = waits;
     sets = λ (serial set : ℕ) (port : PortState) (at : _) (is : _). inl (mid.members serial set port at is);
   };
-  grounded = mid.grounded;
+  acyclic = mid.acyclic;
 }
 
 -- another hand over the same state
@@ -83,7 +83,7 @@ mid_hand state hand later mid receives less = record {
   none_dangles = mid.none_dangles;
   in_hand = λ (q : ℕ) (dead : _). omega (arith, mid.in_hand q dead, less q dead);
   members = mid.members;
-  grounded = mid.grounded;
+  acyclic = mid.acyclic;
 }
 
 -- what stands under names weighs no more than the state
@@ -109,7 +109,7 @@ pub record NamesStep (state : State) (space : ℕ) (names after : Names) (hand l
   pub lawful : LawfulNames after
   pub receives : (q : ℕ) → names_weigh (receive_of q) after + later (receive_of q) ≡ names_weigh (receive_of q) names + hand (receive_of q)
   pub none_dead : (q : ℕ) → lives state q ≡ false → names_weigh (any_of q) after + later (any_of q) ≤ names_weigh (any_of q) names + hand (any_of q)
-  pub members : (serial set : ℕ) (port : PortState) → finmap.get state.ports serial ≡ Some port → port.set ≡ Some set → IsHeldBesideSet state serial set → IsHeldBesideSet (with_names state space after) serial set
+  pub members : (serial set : ℕ) (port : PortState) → finmap.get state.ports serial ≡ Some port → port.set ≡ Some set → IsHeldAlongsideSet state serial set → IsHeldAlongsideSet (with_names state space after) serial set
 
 pub named_parts : (state : State) (space : ℕ) (names after : Names) → finmap.get state.spaces space ≡ Some names → LawfulNames after → Parts state → Parts (with_names state space after)
 named_parts state space names after there lawful parts = record {
@@ -134,7 +134,7 @@ mid_names state space names after hand later step mid = record {
   in_hand = λ (q : ℕ) (dead : _).
       omega (arith, mid.none_dangles q dead, mid.in_hand q dead, step.none_dead q dead, names_part (any_of q) state space names step.there);
   members = λ (serial set : ℕ) (port : PortState) (at : _) (is : _). step.members serial set port at is (mid.members serial set port at is);
-  grounded = mid.grounded;
+  acyclic = mid.acyclic;
 }
 
 -- Another entry under one name.
@@ -148,21 +148,21 @@ pub record EntryStep (state : State) (space name : ℕ) (names : Names) (before 
   pub held : (serial set : ℕ) (port : PortState) → finmap.get state.ports serial ≡ Some port → port.set ≡ Some set → received_under before ≡ Some serial → received_under after ≡ Some serial
   pub set : before ≡ Some Set → after ≡ Some Set
 
-beside_still : (state : State) (space name : ℕ) (names : Names) (before after : Option Entry) (hand later : Hand) → EntryStep state space name names before after hand later
-    → (serial set : ℕ) (port : PortState) → finmap.get state.ports serial ≡ Some port → port.set ≡ Some set → IsHeldBesideSet state serial set → IsHeldBesideSet (with_names state space (changed names name after)) serial set
-beside_still state space name names before after hand later step serial set port live is_in (other, held_names, held_name, entry, there, at, is, beside) =
-    elim (number_decided other space) as (λ _. IsHeldBesideSet (with_names state space (changed names name after)) serial set) [
-      | inl apart ↦ (other, held_names, held_name, entry, get-there state.spaces space (changed names name after) other apart ∙ there, at, is, beside)
+alongside_still : (state : State) (space name : ℕ) (names : Names) (before after : Option Entry) (hand later : Hand) → EntryStep state space name names before after hand later
+    → (serial set : ℕ) (port : PortState) → finmap.get state.ports serial ≡ Some port → port.set ≡ Some set → IsHeldAlongsideSet state serial set → IsHeldAlongsideSet (with_names state space (changed names name after)) serial set
+alongside_still state space name names before after hand later step serial set port live is_in (other, held_names, held_name, entry, there, at, is, alongside) =
+    elim (number_decided other space) as (λ _. IsHeldAlongsideSet (with_names state space (changed names name after)) serial set) [
+      | inl apart ↦ (other, held_names, held_name, entry, get-there state.spaces space (changed names name after) other apart ∙ there, at, is, alongside)
       | inr same ↦
           let same_names : held_names ≡ names = some_same held_names names (sym there ∙ ap (finmap.get state.spaces) same ∙ step.there) in
-          let beside_here : finmap.get names set ≡ Some Set = ap (λ (n : Names). finmap.get n set) (sym same_names) ∙ beside in
+          let alongside_here : finmap.get names set ≡ Some Set = ap (λ (n : Names). finmap.get n set) (sym same_names) ∙ alongside in
           let at_here : finmap.get names held_name ≡ Some entry = ap (λ (n : Names). finmap.get n held_name) (sym same_names) ∙ at in
           let space_there : finmap.get (finmap.insert state.spaces space (changed names name after)) space ≡ Some (changed names name after) = get-here state.spaces space (changed names name after) in
           let set_stays : finmap.get (changed names name after) set ≡ Some Set = elim (number_decided set name) as (λ _. finmap.get (changed names name after) set ≡ Some Set) [
-            | inl apart ↦ changed_there names name set after apart ∙ beside_here
-            | inr named ↦ ap (finmap.get (changed names name after)) named ∙ changed_here names name after ∙ step.set (sym step.at ∙ ap (finmap.get names) (sym named) ∙ beside_here)
+            | inl apart ↦ changed_there names name set after apart ∙ alongside_here
+            | inr named ↦ ap (finmap.get (changed names name after)) named ∙ changed_here names name after ∙ step.set (sym step.at ∙ ap (finmap.get names) (sym named) ∙ alongside_here)
           ] in
-          elim (number_decided held_name name) as (λ _. IsHeldBesideSet (with_names state space (changed names name after)) serial set) [
+          elim (number_decided held_name name) as (λ _. IsHeldAlongsideSet (with_names state space (changed names name after)) serial set) [
             | inl apart ↦ (space, changed names name after, held_name, entry, space_there, changed_there names name held_name after apart ∙ at_here, is, set_stays)
             | inr named ↦
                 let was : before ≡ Some entry = sym step.at ∙ ap (finmap.get names) (sym named) ∙ at_here in
@@ -179,7 +179,7 @@ mid_entry state space name names before after hand later step mid =
       lawful = step.lawful;
       receives = λ (q : ℕ). omega (arith, changed_weight (receive_of q) names name before after step.at, step.receives q);
       none_dead = λ (q : ℕ) (dead : _). omega (arith, changed_weight (any_of q) names name before after step.at, step.none_dead q dead);
-      members = beside_still state space name names before after hand later step;
+      members = alongside_still state space name names before after hand later step;
     }) mid
 
 -- Another state of one live port.
@@ -191,7 +191,7 @@ pub record PortStep (state : State) (serial : ℕ) (change : PortState → PortS
   pub receives : (q : ℕ) → port_weigh (receive_of q) serial (change port) + later (receive_of q) ≡ port_weigh (receive_of q) serial port + hand (receive_of q)
   pub none_dead : (q : ℕ) → lives state q ≡ false → port_weigh (any_of q) serial (change port) + later (any_of q) ≤ port_weigh (any_of q) serial port + hand (any_of q)
   pub set : (set : ℕ) → (change port).set ≡ Some set → port.set ≡ Some set
-  pub grounded : Grounded (with_port state serial change)
+  pub acyclic : Acyclic (with_port state serial change)
 
 live_before : (state : State) (serial q : ℕ) (change : PortState → PortState) (port : PortState) → finmap.get state.ports serial ≡ Some port → lives (with_port state serial change) q ≡ true → lives state q ≡ true
 live_before state serial q change port there live = elim (number_decided q serial) as (λ _. lives state q ≡ true) [
@@ -200,16 +200,16 @@ live_before state serial q change port there live = elim (number_decided q seria
 ]
 
 members_still : (state : State) (serial : ℕ) (change : PortState → PortState) (hand later : Hand) → PortStep state serial change hand later → MidCall state hand
-    → (other set : ℕ) (port : PortState) → finmap.get (with_port state serial change).ports other ≡ Some port → port.set ≡ Some set → IsHeldBesideSet (with_port state serial change) other set
+    → (other set : ℕ) (port : PortState) → finmap.get (with_port state serial change).ports other ≡ Some port → port.set ≡ Some set → IsHeldAlongsideSet (with_port state serial change) other set
 members_still state serial change hand later step mid other set port at is =
     let at_there : finmap.get (finmap.insert state.ports serial (change step.port)) other ≡ Some port = ap (λ (s : State). finmap.get s.ports other) (sym (with_port_there state serial change step.port step.there)) ∙ at in
-    let before : IsHeldBesideSet state other set = elim (number_decided other serial) as (λ _. IsHeldBesideSet state other set) [
+    let before : IsHeldAlongsideSet state other set = elim (number_decided other serial) as (λ _. IsHeldAlongsideSet state other set) [
       | inl apart ↦ mid.members other set port (sym (get-there state.ports serial (change step.port) other apart) ∙ at_there) is
       | inr same ↦
           let changed : change step.port ≡ port = some_same (change step.port) port (sym (get-here state.ports serial (change step.port)) ∙ ap (finmap.get (finmap.insert state.ports serial (change step.port))) (sym same) ∙ at_there) in
-          subst (λ (k : ℕ). IsHeldBesideSet state k set) (sym same) (mid.members serial set step.port step.there (step.set set (ap (λ (p : PortState). p.set) changed ∙ is)))
+          subst (λ (k : ℕ). IsHeldAlongsideSet state k set) (sym same) (mid.members serial set step.port step.there (step.set set (ap (λ (p : PortState). p.set) changed ∙ is)))
     ] in
-    subst (λ (s : finmap.FinMap _ Names). IsHeldBesideSet (record state { spaces = s }) other set) (sym (with_port_spaces state serial change)) before
+    subst (λ (s : finmap.FinMap _ Names). IsHeldAlongsideSet (record state { spaces = s }) other set) (sym (with_port_spaces state serial change)) before
 
 pub mid_port : (state : State) (serial : ℕ) (change : PortState → PortState) (hand later : Hand) → PortStep state serial change hand later → MidCall state hand → MidCall (with_port state serial change) later
 mid_port state serial change hand later step mid = record {
@@ -223,5 +223,5 @@ mid_port state serial change hand later step mid = record {
       let before : lives state q ≡ false = dead_before state serial q change dead in
       omega (arith, mid.none_dangles q before, mid.in_hand q before, step.none_dead q before, port_part (any_of q) state serial step.port step.there);
   members = members_still state serial change hand later step mid;
-  grounded = step.grounded;
+  acyclic = step.acyclic;
 }

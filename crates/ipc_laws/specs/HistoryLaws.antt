@@ -11,42 +11,42 @@ use Rattle.ipc_model.specs.state.State.{State}
 use Rattle.ipc_model.specs.history.History.{Session, Operation, called, redeemed, redeemed_for_another, looked, IsAnswered, IsTold, Leads, After, AfterAll, IsNew, Legal, Meet}
 
 -- places ascend, from a least one on, and lie below a number
-abbrev pub RiseWithin : ℕ → ℕ → List ℕ → Type 0
-RiseWithin least end [] = least ≤ end
-RiseWithin least end (place ∷ places) = (least ≤ place) × RiseWithin (place + 1) end places
+abbrev pub AscendWithin : ℕ → ℕ → List ℕ → Type 0
+AscendWithin least end [] = least ≤ end
+AscendWithin least end (place ∷ places) = (least ≤ place) × AscendWithin (place + 1) end places
 
-rise_further : (least end further : ℕ) (places : List ℕ) → end ≤ further → RiseWithin least end places → RiseWithin least further places
-rise_further least end further [] le rise = omega (arith, le, rise)
-rise_further least end further (place ∷ places) le rise = (rise.0, rise_further (place + 1) end further places le rise.1)
+ascend_further : (least end further : ℕ) (places : List ℕ) → end ≤ further → AscendWithin least end places → AscendWithin least further places
+ascend_further least end further [] le ascend = omega (arith, le, ascend)
+ascend_further least end further (place ∷ places) le ascend = (ascend.0, ascend_further (place + 1) end further places le ascend.1)
 
-rise_more : (least end further place : ℕ) (places : List ℕ) → end ≤ place → place < further → RiseWithin least end places → RiseWithin least further (places ++ place ∷ [])
-rise_more least end further place [] le below rise = (omega (arith, le, rise), omega (arith, below))
-rise_more least end further place (first ∷ places) le below rise = (rise.0, rise_more (first + 1) end further place places le below rise.1)
+ascend_more : (least end further place : ℕ) (places : List ℕ) → end ≤ place → place < further → AscendWithin least end places → AscendWithin least further (places ++ place ∷ [])
+ascend_more least end further place [] le below ascend = (omega (arith, le, ascend), omega (arith, below))
+ascend_more least end further place (first ∷ places) le below ascend = (ascend.0, ascend_more (first + 1) end further place places le below ascend.1)
 
 -- What holds of every legal session: it has seen a prefix of the history, no more was acknowledged to it than
 -- it saw, and its places ascend among the records that it saw.
 pub record IsInOrder (history : List Record) (session : Session) : Type 0 where
   pub seen : session.seen ≤ length history
-  pub told : session.told ≤ session.seen
-  pub places : RiseWithin 0 session.seen session.places
+  pub acknowledged : session.acknowledged ≤ session.seen
+  pub places : AscendWithin 0 session.seen session.places
 
 told_order : (history : List Record) (old : Session) (seen : ℕ) (new : Session) → old.seen ≤ new.seen → new.seen ≤ length history → IsTold old seen new → IsInOrder history old → IsInOrder history new
-told_order history old seen new more within told order =
-    subst (IsInOrder history) (sym told.1) (record { seen = within; told = omega (arith, more, order.told, told.0); places = rise_further 0 old.seen new.seen old.places more order.places })
+told_order history old seen new more within acknowledged order =
+    subst (IsInOrder history) (sym acknowledged.1) (record { seen = within; acknowledged = omega (arith, more, order.acknowledged, acknowledged.0); places = ascend_further 0 old.seen new.seen old.places more order.places })
 
 led_order : (base : State) (history : List Record) (old : Session) (operation : Operation) (new : Session) → old.seen ≤ new.seen → new.seen ≤ length history → Leads base history old operation new
     → IsInOrder history old → IsInOrder history new
 led_order base history old (called c answer) new more within (inl at) order = subst (IsInOrder history) (sym at.after) (record {
   seen = within;
-  told = omega (arith, more, order.told);
-  places = rise_more 0 old.seen new.seen at.place old.places at.unseen at.seen order.places;
+  acknowledged = omega (arith, more, order.acknowledged);
+  places = ascend_more 0 old.seen new.seen at.place old.places at.unseen at.seen order.places;
 })
 led_order base history old (called c answer) new more within (inr is) order =
-    subst (IsInOrder history) (sym is.after) (record { seen = within; told = omega (arith, more, order.told); places = rise_further 0 old.seen new.seen old.places more order.places })
+    subst (IsInOrder history) (sym is.after) (record { seen = within; acknowledged = omega (arith, more, order.acknowledged); places = ascend_further 0 old.seen new.seen old.places more order.places })
 led_order base history old (redeemed seen) new more within led order = told_order history old seen new more within led.1 order
 led_order base history old (redeemed_for_another seen) new more within led order = told_order history old seen new more within led order
 led_order base history old looked new more within led order =
-    subst (IsInOrder history) (sym led) (record { seen = within; told = omega (arith, more, order.told); places = rise_further 0 old.seen new.seen old.places more order.places })
+    subst (IsInOrder history) (sym led) (record { seen = within; acknowledged = omega (arith, more, order.acknowledged); places = ascend_further 0 old.seen new.seen old.places more order.places })
 
 lived_order : (base : State) (history : List Record) (old : Session) (operations : List Operation) (new : Session) → AfterAll base history old operations new → IsInOrder history old → IsInOrder history new
 lived_order base history old [] new after order = subst (IsInOrder history) (sym after) order
@@ -55,7 +55,7 @@ lived_order base history old (operation ∷ operations) new (mid, after, rest) o
 
 new_order : (history : List Record) (session : Session) → IsNew history session → IsInOrder history session
 new_order history session new =
-    record { seen = new.within; told = omega (arith, new.told); places = subst (RiseWithin 0 session.seen) (sym new.places) (omega arith) }
+    record { seen = new.within; acknowledged = omega (arith, new.acknowledged); places = subst (AscendWithin 0 session.seen) (sym new.places) (omega arith) }
 
 -- A legal session has seen a prefix of the history, no more was acknowledged to it than it saw, and its places ascend.
 abbrev pub LegalIsInOrder : Type 0
@@ -68,12 +68,12 @@ legal_is_in_order base history operations session legal = lived_order base histo
 -- after all that was acknowledged to its session.
 abbrev pub ReadsOwnWrites : Type 0
 ReadsOwnWrites = (base : State) (history : List Record) (operations : List Operation) (old : Session) (c : Call) (answer : Reply) (new : Session) → Legal base history operations old
-    → (answered : IsAnswered base history old c answer new) → RiseWithin 0 answered.beginning old.places × (old.told ≤ answered.beginning)
+    → (answered : IsAnswered base history old c answer new) → AscendWithin 0 answered.beginning old.places × (old.acknowledged ≤ answered.beginning)
 
 pub reads_own_writes : ReadsOwnWrites
 reads_own_writes base history operations old c answer new legal answered =
     let order = legal_is_in_order base history operations old legal in
-    (rise_further 0 old.seen answered.beginning old.places answered.unseen order.places, omega (arith, answered.unseen, order.told))
+    (ascend_further 0 old.seen answered.beginning old.places answered.unseen order.places, omega (arith, answered.unseen, order.acknowledged))
 
 -- the calls with records among a session's operations
 abbrev pub recorded_calls : List Operation → List (Call × Reply)
@@ -159,7 +159,7 @@ LegalStaysLegal = (base : State) (history more : List Record) (operations : List
 pub legal_stays_legal : LegalStaysLegal
 legal_stays_legal base history more operations session legal = record {
   start = legal.start;
-  new = record { space = legal.new.space; within = omega (arith, legal.new.within, length-append history more); told = legal.new.told; tickets = legal.new.tickets; places = legal.new.places };
+  new = record { space = legal.new.space; within = omega (arith, legal.new.within, length-append history more); acknowledged = legal.new.acknowledged; tickets = legal.new.tickets; places = legal.new.places };
   after = lived_further base history more legal.start operations session legal.after;
 }
 

@@ -7,7 +7,7 @@ use Rattle.words.specs.Numbers.{little_number, little_bytes, little_from-lt, lit
 use Rattle.codes.specs.declared.kern_return.KernReturn.{KernReturn}
 use Rattle.codes.specs.declared.kern_return.KernReturn.TheVariants.{SendMsgTooSmall, SendInvalidMemory, SendInvalidType}
 use Rattle.ipc_laws.specs.CallsKeep.{first_passes}
-use Rattle.ipc_model.specs.messages.Items.{Item, items_of, items_within, item_of, item_text, items_text, after_item, is_long_form, is_inline, has_other_bit, type_name_in, bits_in, number_in, descriptor_length, descriptor_text, data_length, padded, is_port_type, IsItem, AreItems, Tile, name_bound, number_bound}
+use Rattle.ipc_model.specs.messages.Items.{Item, items_of, items_within, item_of, item_encoding, items_encoding, after_item, is_long_form, is_inline, has_other_bit, type_name_in, bits_in, number_in, descriptor_length, descriptor_encoding, data_length, padded, is_port_type, IsItem, AreItems, Tile, name_bound, number_bound}
 use Rattle.ipc_model.specs.calls.Tests.{Tests, first_failing, and_then, unless_failing}
 use Rattle.words.specs.WordLaws.{little_number-word, length-word, word-little_number}
 use Rattle.words.specs.Words.{AreBytes, word}
@@ -65,11 +65,11 @@ record Finds (w : ℕ) (bytes : List ℕ) (item : Item) (rest : List ℕ) : Type
 
 step_on : (n w b : ℕ) (bytes rest : List ℕ) (item : Item) → Finds w (b ∷ bytes) item rest → items_within (suc n) (b ∷ bytes) ≡ and_then (items_within n rest) (λ items. Ok (item ∷ items))
 step_on n w b bytes rest item finds =
-    let text : List ℕ = b ∷ bytes in
-    let with_form : items_within (suc n) text ≡ unless_failing (tests_with w item.is_long text) (and_then (items_within n (after_item text item.is_long)) (λ items. Ok (item_of text item.is_long ∷ items))) =
-    (λ i. unless_failing (tests_with (finds.reads i) (is_long_form (finds.reads i)) text) (and_then (items_within n (after_item text (is_long_form (finds.reads i)))) (λ items. Ok (item_of text (is_long_form (finds.reads i)) ∷ items))))
-    ∙ (λ i. unless_failing (tests_with w (finds.form i) text) (and_then (items_within n (after_item text (finds.form i))) (λ items. Ok (item_of text (finds.form i) ∷ items)))) in
-    with_form ∙ pass_on (tests_with w item.is_long text) _ finds.passes ∙ (λ i. and_then (items_within n (finds.after i)) (λ items. Ok (finds.is i ∷ items)))
+    let encoding : List ℕ = b ∷ bytes in
+    let with_form : items_within (suc n) encoding ≡ unless_failing (tests_with w item.is_long encoding) (and_then (items_within n (after_item encoding item.is_long)) (λ items. Ok (item_of encoding item.is_long ∷ items))) =
+    (λ i. unless_failing (tests_with (finds.reads i) (is_long_form (finds.reads i)) encoding) (and_then (items_within n (after_item encoding (is_long_form (finds.reads i)))) (λ items. Ok (item_of encoding (is_long_form (finds.reads i)) ∷ items))))
+    ∙ (λ i. unless_failing (tests_with w (finds.form i) encoding) (and_then (items_within n (after_item encoding (finds.form i))) (λ items. Ok (item_of encoding (finds.form i) ∷ items)))) in
+    with_form ∙ pass_on (tests_with w item.is_long encoding) _ finds.passes ∙ (λ i. and_then (items_within n (finds.after i)) (λ items. Ok (finds.is i ∷ items)))
 
 -- a bit is set, or isn't
 bit_is : (n : ℕ) → n ≡ 1 → (n == 1) ≡ true
@@ -102,23 +102,23 @@ finds_short : (type_name bits number : ℕ) (content rest : List ℕ) → IsItem
     → Finds (short_word type_name bits number) (word (short_word type_name bits number) ++ (content ++ rest)) (record { type_name = type_name; bits = bits; number = number; is_long = false; content = content }) rest
 finds_short type_name bits number content rest fits =
     let w : ℕ = short_word type_name bits number in
-    let text : List ℕ = word w ++ (content ++ rest) in
-    let reads : little_number 4 text ≡ w = little_number-word w (content ++ rest) (omega (arith, fits.type_name, fits.bits, fits.number)) in
-    let type_is : type_name_in text false ≡ type_name = ap (λ (n : ℕ). n % 2 ^ 8) reads ∙ omega (arith, fits.type_name) in
-    let bits_is : bits_in text false ≡ bits = ap (λ (n : ℕ). (n / 2 ^ 8) % 2 ^ 8) reads ∙ omega (arith, fits.type_name, fits.bits) in
-    let number_is : number_in text false ≡ number = ap (λ (n : ℕ). (n / 2 ^ 16) % 2 ^ 12) reads ∙ omega (arith, fits.type_name, fits.bits, fits.number) in
-    let long_is : data_length text false ≡ length content = (λ i. padded (number_is i * bits_is i)) ∙ sym fits.long in
-    let whole : length text ≡ 4 + (length content + length rest) = length-append (word w) (content ++ rest) ∙ omega (arith, length-word w, length-append content rest) in
+    let encoding : List ℕ = word w ++ (content ++ rest) in
+    let reads : little_number 4 encoding ≡ w = little_number-word w (content ++ rest) (omega (arith, fits.type_name, fits.bits, fits.number)) in
+    let type_is : type_name_in encoding false ≡ type_name = ap (λ (n : ℕ). n % 2 ^ 8) reads ∙ omega (arith, fits.type_name) in
+    let bits_is : bits_in encoding false ≡ bits = ap (λ (n : ℕ). (n / 2 ^ 8) % 2 ^ 8) reads ∙ omega (arith, fits.type_name, fits.bits) in
+    let number_is : number_in encoding false ≡ number = ap (λ (n : ℕ). (n / 2 ^ 16) % 2 ^ 12) reads ∙ omega (arith, fits.type_name, fits.bits, fits.number) in
+    let long_is : data_length encoding false ≡ length content = (λ i. padded (number_is i * bits_is i)) ∙ sym fits.long in
+    let whole : length encoding ≡ 4 + (length content + length rest) = length-append (word w) (content ++ rest) ∙ omega (arith, length-word w, length-append content rest) in
     record {
       reads = reads;
       form = bit_isnt ((w / 2 ^ 29) % 2) (omega (arith, fits.type_name, fits.bits, fits.number));
-      passes = all_pass (nat_lt (length text) 4) false (not (is_inline w)) (has_other_bit w || false || (is_port_type (type_name_in text false) && not (bits_in text false == 32))) (nat_lt (length text) (4 + data_length text false))
+      passes = all_pass (nat_lt (length encoding) 4) false (not (is_inline w)) (has_other_bit w || false || (is_port_type (type_name_in encoding false) && not (bits_in encoding false == 32))) (nat_lt (length encoding) (4 + data_length encoding false))
           SendMsgTooSmall SendMsgTooSmall SendInvalidMemory SendInvalidType SendMsgTooSmall
-          (not_less (length text) 4 (omega (arith, whole))) refl (ap (λ (b : Bool). not b) (bit_is ((w / 2 ^ 28) % 2) (omega (arith, fits.type_name, fits.bits, fits.number))))
-          (ap (λ (b : Bool). b || ((w / 2 ^ 31) % 2 == 1) || false || (is_port_type (type_name_in text false) && not (bits_in text false == 32))) (bit_isnt ((w / 2 ^ 30) % 2) (omega (arith, fits.type_name, fits.bits, fits.number)))
-          ∙ ap (λ (b : Bool). b || false || (is_port_type (type_name_in text false) && not (bits_in text false == 32))) (bit_isnt ((w / 2 ^ 31) % 2) (omega (arith, fits.type_name, fits.bits, fits.number)))
+          (not_less (length encoding) 4 (omega (arith, whole))) refl (ap (λ (b : Bool). not b) (bit_is ((w / 2 ^ 28) % 2) (omega (arith, fits.type_name, fits.bits, fits.number))))
+          (ap (λ (b : Bool). b || ((w / 2 ^ 31) % 2 == 1) || false || (is_port_type (type_name_in encoding false) && not (bits_in encoding false == 32))) (bit_isnt ((w / 2 ^ 30) % 2) (omega (arith, fits.type_name, fits.bits, fits.number)))
+          ∙ ap (λ (b : Bool). b || false || (is_port_type (type_name_in encoding false) && not (bits_in encoding false == 32))) (bit_isnt ((w / 2 ^ 31) % 2) (omega (arith, fits.type_name, fits.bits, fits.number)))
           ∙ (λ i. is_port_type (type_is i) && not (bits_is i == 32)) ∙ port_passes (is_port_type type_name) bits fits.ports)
-          (not_less (length text) (4 + data_length text false) (omega (arith, whole, long_is)));
+          (not_less (length encoding) (4 + data_length encoding false) (omega (arith, whole, long_is)));
       is = λ i. record {
         type_name = type_is i;
         bits = bits_is i;
@@ -126,34 +126,34 @@ finds_short type_name bits number content rest fits =
         is_long = false;
         content = (ap (λ (n : ℕ). take n (content ++ rest)) long_is ∙ take_at content rest (length content) refl) i;
       };
-      after = ap (λ (n : ℕ). drop (4 + n) text) long_is ∙ (append_back (word w) content rest (4 + length content) (omega (arith, length-word w)));
+      after = ap (λ (n : ℕ). drop (4 + n) encoding) long_is ∙ (append_back (word w) content rest (4 + length content) (omega (arith, length-word w)));
     }
 
 -- A long descriptor is read back.
 
-abbrev long_text : ℕ → ℕ → ℕ → List ℕ → List ℕ
-long_text type_name bits number behind = word (2 ^ 28 + 2 ^ 29) ++ (little_bytes 2 type_name ++ (little_bytes 2 bits ++ (word number ++ behind)))
+abbrev long_encoding : ℕ → ℕ → ℕ → List ℕ → List ℕ
+long_encoding type_name bits number behind = word (2 ^ 28 + 2 ^ 29) ++ (little_bytes 2 type_name ++ (little_bytes 2 bits ++ (word number ++ behind)))
 
-long_length : (type_name bits number : ℕ) (behind : List ℕ) → length (long_text type_name bits number behind) ≡ 12 + length behind
+long_length : (type_name bits number : ℕ) (behind : List ℕ) → length (long_encoding type_name bits number behind) ≡ 12 + length behind
 long_length type_name bits number behind = omega arith
 
 finds_long : (type_name bits number : ℕ) (content rest : List ℕ) → IsItem (record { type_name = type_name; bits = bits; number = number; is_long = true; content = content })
-    → Finds (2 ^ 28 + 2 ^ 29) (long_text type_name bits number (content ++ rest)) (record { type_name = type_name; bits = bits; number = number; is_long = true; content = content }) rest
+    → Finds (2 ^ 28 + 2 ^ 29) (long_encoding type_name bits number (content ++ rest)) (record { type_name = type_name; bits = bits; number = number; is_long = true; content = content }) rest
 finds_long type_name bits number content rest fits =
-    let text : List ℕ = long_text type_name bits number (content ++ rest) in
-    let type_is : type_name_in text true ≡ type_name = little_number-reads_back 2 type_name (little_bytes 2 bits ++ (word number ++ (content ++ rest))) fits.type_name in
-    let bits_is : bits_in text true ≡ bits = little_number-reads_back 2 bits (word number ++ (content ++ rest)) fits.bits in
-    let number_is : number_in text true ≡ number = little_number-reads_back 4 number (content ++ rest) fits.number in
-    let long_is : data_length text true ≡ length content = (λ i. padded (number_is i * bits_is i)) ∙ sym fits.long in
-    let whole : length text ≡ 12 + (length content + length rest) = long_length type_name bits number (content ++ rest) ∙ omega (arith, length-append content rest) in
+    let encoding : List ℕ = long_encoding type_name bits number (content ++ rest) in
+    let type_is : type_name_in encoding true ≡ type_name = little_number-reads_back 2 type_name (little_bytes 2 bits ++ (word number ++ (content ++ rest))) fits.type_name in
+    let bits_is : bits_in encoding true ≡ bits = little_number-reads_back 2 bits (word number ++ (content ++ rest)) fits.bits in
+    let number_is : number_in encoding true ≡ number = little_number-reads_back 4 number (content ++ rest) fits.number in
+    let long_is : data_length encoding true ≡ length content = (λ i. padded (number_is i * bits_is i)) ∙ sym fits.long in
+    let whole : length encoding ≡ 12 + (length content + length rest) = long_length type_name bits number (content ++ rest) ∙ omega (arith, length-append content rest) in
     record {
       reads = refl;
       form = refl;
-      passes = all_pass (nat_lt (length text) 4) (nat_lt (length text) 12) false (is_port_type (type_name_in text true) && not (bits_in text true == 32)) (nat_lt (length text) (12 + data_length text true))
+      passes = all_pass (nat_lt (length encoding) 4) (nat_lt (length encoding) 12) false (is_port_type (type_name_in encoding true) && not (bits_in encoding true == 32)) (nat_lt (length encoding) (12 + data_length encoding true))
           SendMsgTooSmall SendMsgTooSmall SendInvalidMemory SendInvalidType SendMsgTooSmall
-          (not_less (length text) 4 (omega (arith, whole))) (not_less (length text) 12 (omega (arith, whole))) refl
+          (not_less (length encoding) 4 (omega (arith, whole))) (not_less (length encoding) 12 (omega (arith, whole))) refl
           ((λ i. is_port_type (type_is i) && not (bits_is i == 32)) ∙ port_passes (is_port_type type_name) bits fits.ports)
-          (not_less (length text) (12 + data_length text true) (omega (arith, whole, long_is)));
+          (not_less (length encoding) (12 + data_length encoding true) (omega (arith, whole, long_is)));
       is = λ i. record {
         type_name = type_is i;
         bits = bits_is i;
@@ -161,38 +161,38 @@ finds_long type_name bits number content rest fits =
         is_long = true;
         content = (ap (λ (n : ℕ). take n (content ++ rest)) long_is ∙ take_at content rest (length content) refl) i;
       };
-      after = ap (λ (n : ℕ). drop (12 + n) text) long_is
+      after = ap (λ (n : ℕ). drop (12 + n) encoding) long_is
           ∙ append_back (word (2 ^ 28 + 2 ^ 29) ++ (little_bytes 2 type_name ++ (little_bytes 2 bits ++ word number))) content rest (12 + length content) (omega arith);
     }
 
 -- An item that fits is read back, whatever follows it.
-item_back : (n : ℕ) (item : Item) (rest : List ℕ) → IsItem item → items_within (suc n) (item_text item ++ rest) ≡ and_then (items_within n rest) (λ items. Ok (item ∷ items))
+item_back : (n : ℕ) (item : Item) (rest : List ℕ) → IsItem item → items_within (suc n) (item_encoding item ++ rest) ≡ and_then (items_within n rest) (λ items. Ok (item ∷ items))
 item_back n item rest fits =
     elim item.is_long as (λ (b : Bool). IsItem (record { type_name = item.type_name; bits = item.bits; number = item.number; is_long = b; content = item.content })
-    → items_within (suc n) ((descriptor_text item b ++ item.content) ++ rest) ≡ and_then (items_within n rest) (λ items. Ok ((record { type_name = item.type_name; bits = item.bits; number = item.number; is_long = b; content = item.content }) ∷ items))) [
+    → items_within (suc n) ((descriptor_encoding item b ++ item.content) ++ rest) ≡ and_then (items_within n rest) (λ items. Ok ((record { type_name = item.type_name; bits = item.bits; number = item.number; is_long = b; content = item.content }) ∷ items))) [
       | true ↦ λ (f : _). step_on n (2 ^ 28 + 2 ^ 29) _ _ rest _ (finds_long item.type_name item.bits item.number item.content rest f)
       | false ↦ λ (f : _). step_on n (short_word item.type_name item.bits item.number) _ _ rest _ (finds_short item.type_name item.bits item.number item.content rest f)
     ] fits
 
-pub item_length : (item : Item) → length (item_text item) ≡ descriptor_length item.is_long + length item.content
-item_length item = elim item.is_long as (λ (b : Bool). length (descriptor_text item b ++ item.content) ≡ descriptor_length b + length item.content) [ true ↦ omega arith | false ↦ omega arith ]
+pub item_length : (item : Item) → length (item_encoding item) ≡ descriptor_length item.is_long + length item.content
+item_length item = elim item.is_long as (λ (b : Bool). length (descriptor_encoding item b ++ item.content) ≡ descriptor_length b + length item.content) [ true ↦ omega arith | false ↦ omega arith ]
 
 at_least_four : (b : Bool) → 4 ≤ descriptor_length b
 at_least_four true = omega arith
 at_least_four false = omega arith
 
-pub all_back : (n : ℕ) (items : List Item) → AreItems items → length (items_text items) ≤ n → items_within n (items_text items) ≡ Ok items
+pub all_back : (n : ℕ) (items : List Item) → AreItems items → length (items_encoding items) ≤ n → items_within n (items_encoding items) ≡ Ok items
 all_back zero [] fits few = refl
 all_back (suc n) [] fits few = refl
-all_back zero (item ∷ items) fits few = absurd (omega (arith, few, length-append (item_text item) (items_text items), item_length item, at_least_four item.is_long))
+all_back zero (item ∷ items) fits few = absurd (omega (arith, few, length-append (item_encoding item) (items_encoding items), item_length item, at_least_four item.is_long))
 all_back (suc n) (item ∷ items) fits few =
-    item_back n item (items_text items) fits.0
+    item_back n item (items_encoding items) fits.0
     ∙ ap (λ (r : Result (List Item) KernReturn). and_then r (λ items. Ok (item ∷ items)))
-    (all_back n items fits.1 (omega (arith, few, length-append (item_text item) (items_text items), item_length item, at_least_four item.is_long)))
+    (all_back n items fits.1 (omega (arith, few, length-append (item_encoding item) (items_encoding items), item_length item, at_least_four item.is_long)))
 
-pub items_back : (items : List Item) → AreItems items → items_of (items_text items) ≡ Ok items
+pub items_back : (items : List Item) → AreItems items → items_of (items_encoding items) ≡ Ok items
 unfolding items_of
-items_back items fits = all_back (length (items_text items)) items fits (omega arith)
+items_back items fits = all_back (length (items_encoding items)) items fits (omega arith)
 
 -- What is read fits.
 
@@ -273,7 +273,7 @@ long_word_is : (w : ℕ) → w < 2 ^ 32 → (w / 2 ^ 28) % 2 ≡ 1 → (w / 2 ^ 
 long_word_is w small in_line long kept used plain = omega (arith, small, in_line, long, kept, used, plain)
 
 descriptor_back : (bytes : List ℕ) (long : Bool) → AreBytes bytes → is_long_form (little_number 4 bytes) ≡ long → Passed (little_number 4 bytes) bytes long
-    → descriptor_text (item_of bytes long) long ≡ take (descriptor_length long) bytes
+    → descriptor_encoding (item_of bytes long) long ≡ take (descriptor_length long) bytes
 descriptor_back bytes false fits form tests =
     let w : ℕ = little_number 4 bytes in
     ap word (fields_of w (little_from-lt 0 4 bytes fits) (eqb-true ((w / 2 ^ 28) % 2) 1 tests.is_inline) (eqb-false ((w / 2 ^ 29) % 2) 1 form) (eqb-false ((w / 2 ^ 30) % 2) 1 tests.deallocate) (eqb-false ((w / 2 ^ 31) % 2) 1 tests.unused))
@@ -294,11 +294,11 @@ descriptor_back bytes true fits form tests =
 
 -- what is read of bytes and what follows it are these
 item_and_rest : (bytes : List ℕ) (long : Bool) → AreBytes bytes → is_long_form (little_number 4 bytes) ≡ long → Passed (little_number 4 bytes) bytes long
-    → item_text (item_of bytes long) ++ after_item bytes long ≡ bytes
+    → item_encoding (item_of bytes long) ++ after_item bytes long ≡ bytes
 item_and_rest bytes long fits form tests =
     let d : ℕ = descriptor_length long in
     let n : ℕ = data_length bytes long in
-    append_assoc (descriptor_text (item_of bytes long) long) (take n (drop d bytes)) (drop (d + n) bytes)
+    append_assoc (descriptor_encoding (item_of bytes long) long) (take n (drop d bytes)) (drop (d + n) bytes)
     ∙ ap (λ (l : List ℕ). l ++ (take n (drop d bytes) ++ drop (d + n) bytes)) (descriptor_back bytes long fits form tests)
     ∙ ap (λ (l : List ℕ). take d bytes ++ (take n (drop d bytes) ++ l)) (sym (drop-drop n d bytes))
     ∙ ap (λ (l : List ℕ). take d bytes ++ l) (take-append-drop n (drop d bytes)) ∙ take-append-drop d bytes
@@ -320,14 +320,14 @@ read_fits w bytes long fits tests = record {
 -- items that are read fit, and tile the body
 pub record ItemsRead (body : List ℕ) (items : List Item) : Type 0 where
   pub fit : AreItems items
-  pub tile : items_text items ≡ body
-  pub long : length (items_text items) ≡ length body
+  pub tile : items_encoding items ≡ body
+  pub long : length (items_encoding items) ≡ length body
 
 one_more_read : (bytes : List ℕ) (items : List Item) → AreBytes bytes → Passed (little_number 4 bytes) bytes (is_long_form (little_number 4 bytes)) → ItemsRead (after_item bytes (is_long_form (little_number 4 bytes))) items
     → ItemsRead bytes (item_of bytes (is_long_form (little_number 4 bytes)) ∷ items)
 one_more_read bytes items fits tests rest =
     let long : Bool = is_long_form (little_number 4 bytes) in
-    let tile : item_text (item_of bytes long) ++ items_text items ≡ bytes = ap (λ (l : List ℕ). item_text (item_of bytes long) ++ l) rest.tile ∙ item_and_rest bytes long fits refl tests in
+    let tile : item_encoding (item_of bytes long) ++ items_encoding items ≡ bytes = ap (λ (l : List ℕ). item_encoding (item_of bytes long) ++ l) rest.tile ∙ item_and_rest bytes long fits refl tests in
     record {
       fit = (read_fits (little_number 4 bytes) bytes long fits tests, rest.fit);
       tile = tile;
@@ -351,15 +351,15 @@ within_read zero [] items few fits is = subst (ItemsRead []) (same_items [] item
 within_read zero (b ∷ bytes) items few fits is = absurd (omega (arith, few))
 within_read (suc n) [] items few fits is = subst (ItemsRead []) (same_items [] items is) (record { fit = tt; tile = refl; long = refl })
 within_read (suc n) (b ∷ bytes) items few fits is =
-    let text : List ℕ = b ∷ bytes in
-    let w : ℕ = little_number 4 text in
+    let encoding : List ℕ = b ∷ bytes in
+    let w : ℕ = little_number 4 encoding in
     let long : Bool = is_long_form w in
-    let tests = passed_tests (tests_with w long text) (and_then (items_within n (after_item text long)) (λ items. Ok (item_of text long ∷ items))) items is in
-    let rest = ok_of (items_within n (after_item text long)) (λ items. Ok (item_of text long ∷ items)) items tests.1 in
-    let pass : Passed w text long = passed w long text tests.0 in
-    let shorter : length (after_item text long) ≤ n = omega (arith, few, length-drop (descriptor_length long + data_length text long) text, at_least_four long) in
-    subst (ItemsRead text) (same_items (item_of text long ∷ rest.0) items rest.2)
-    (one_more_read text rest.0 fits pass (within_read n (after_item text long) rest.0 shorter (back_bytes (descriptor_length long + data_length text long) text fits) rest.1))
+    let tests = passed_tests (tests_with w long encoding) (and_then (items_within n (after_item encoding long)) (λ items. Ok (item_of encoding long ∷ items))) items is in
+    let rest = ok_of (items_within n (after_item encoding long)) (λ items. Ok (item_of encoding long ∷ items)) items tests.1 in
+    let pass : Passed w encoding long = passed w long encoding tests.0 in
+    let shorter : length (after_item encoding long) ≤ n = omega (arith, few, length-drop (descriptor_length long + data_length encoding long) encoding, at_least_four long) in
+    subst (ItemsRead encoding) (same_items (item_of encoding long ∷ rest.0) items rest.2)
+    (one_more_read encoding rest.0 fits pass (within_read n (after_item encoding long) rest.0 shorter (back_bytes (descriptor_length long + data_length encoding long) encoding fits) rest.1))
 
 pub items_read : (body : List ℕ) (items : List Item) → AreBytes body → items_of body ≡ Ok items → ItemsRead body items
 unfolding items_of
@@ -367,7 +367,7 @@ items_read body items fits is = within_read (length body) body items (omega arit
 
 -- The items that are found in a body of bytes are all of it, in order: their encodings joined are the body.
 abbrev pub ItemsTileBodies : Type 0
-ItemsTileBodies = (body : List ℕ) (items : List Item) → AreBytes body → items_of body ≡ Ok items → items_text items ≡ body
+ItemsTileBodies = (body : List ℕ) (items : List Item) → AreBytes body → items_of body ≡ Ok items → items_encoding items ≡ body
 
 pub items_tile_bodies : ItemsTileBodies
 items_tile_bodies body items fits is = (items_read body items fits is).tile

@@ -4,7 +4,7 @@ use Rattle.std.proofs.Common.{sym, ◌∙◌, ap, inl, inr, arith}
 use Rattle.std.proofs.lemmas.List.{append-nil}
 use Rattle.ipc_model.specs.declared.port.PortState.{PortState}
 use Rattle.ipc_model.specs.declared.message.RightKind.TheVariants as kind
-use Rattle.ipc_model.specs.state.Lawful.{Lawful, LawfulBut, IsHeldBesideSet, IsReleased, count_with}
+use Rattle.ipc_model.specs.state.Lawful.{Lawful, LawfulBut, IsHeldAlongsideSet, IsReleased, count_with}
 use Rattle.ipc_model.specs.state.Placed.{Right, placed, receive_count, same_kind}
 use Rattle.ipc_model.specs.state.State.{State}
 
@@ -40,7 +40,7 @@ alone state lawful = record {
   next = lawful.next;
   one_receive = λ (serial : ℕ) (live : _). sym (none_waits state serial) ∙ lawful.one_receive serial live;
   live = lawful.live;
-  sets = λ (serial set : ℕ) (port : PortState) (at : _) (is : _). elim (lawful.sets serial set port at is) as (λ _. IsHeldBesideSet state serial set) [
+  sets = λ (serial set : ℕ) (port : PortState) (at : _) (is : _). elim (lawful.sets serial set port at is) as (λ _. IsHeldAlongsideSet state serial set) [
     | inl held ↦ held
     | inr waits ↦ absurd (none_released serial waits)
   ];

@@ -13,7 +13,7 @@ use Rattle.ipc_model.specs.declared.message.RightKind.TheVariants as kind
 use Rattle.ipc_model.specs.declared.port.PortState.{PortState}
 use Rattle.ipc_model.specs.calls.Actions as actions
 use Rattle.ipc_laws.specs.CallsKeep.{Kept, first_passes}
-use Rattle.ipc_model.specs.state.Circular.{Grounded}
+use Rattle.ipc_model.specs.state.Circular.{Acyclic}
 use Rattle.ipc_model.specs.rights.CopyIn.{notices_of_left}
 use Rattle.ipc_model.specs.effects.Effects.{Effect, release}
 use Rattle.ipc_laws.specs.EntryChanges.{EntryMove, changed, under}
@@ -36,9 +36,9 @@ without_receive w rights =
       | false ↦ omega arith
     ]
 
-pub receive_gone_kept : (old : State) (space name : ℕ) (names : Names) (rights : PortRights) → LawfulAtRest old → Grounded old → finmap.get old.spaces space ≡ Some names → finmap.get names name ≡ Some (Port rights) → rights.receive ≡ true
+pub receive_gone_kept : (old : State) (space name : ℕ) (names : Names) (rights : PortRights) → LawfulAtRest old → Acyclic old → finmap.get old.spaces space ≡ Some names → finmap.get names name ≡ Some (Port rights) → rights.receive ≡ true
     → Kept (actions.receive_gone old space name rights).state (actions.receive_gone old space name rights).effects
-receive_gone_kept old space name names rights lawful grounded there at holds =
+receive_gone_kept old space name names rights lawful acyclic there at holds =
     let entry : Entry = Port (record rights { receive = false }) in
     let later : List Effect = release kind.Receive rights.port ∷ notices_of_left name entry in
     let move : EntryMove old space name names (Some (Port rights)) (left_of entry) [] later = record {
@@ -62,7 +62,7 @@ receive_gone_kept old space name names rights lawful grounded there at holds =
     let own = lawful.spaces space names there in
     let bounds = (own.2.named name (Port rights) at).2 in
     let lawful_names : LawfulNames (changed names name (left_of entry)) = left_lawful names name rights entry own.2 at refl (λ (some_left : _). (not_empty false rights.send some_left, bounds.1)) in
-    subst (λ (s : State). Kept s later) (sym (left_state old space name names entry there)) (entry_kept old space name names (Some (Port rights)) (left_of entry) later lawful grounded move lawful_names)
+    subst (λ (s : State). Kept s later) (sym (left_state old space name names entry there)) (entry_kept old space name names (Some (Port rights)) (left_of entry) later lawful acyclic move lawful_names)
 
 -- what the tests of a delta have shown
 
@@ -73,8 +73,8 @@ delta_bound which references delta counted passes =
     let second = (first_passes (sum_is_negative references delta, InvalidValue) ((nat_lt (bound_of which) (sum_of references delta), UrefsOverflow) ∷ []) tests).1 in
     ltb-false (bound_of which) (sum_of references delta) (first_passes (nat_lt (bound_of which) (sum_of references delta), UrefsOverflow) [] second).0
 
-same_kept : (old : State) → LawfulAtRest old → Grounded old → Kept old []
-same_kept old lawful grounded = record { lawful = lawful; grounded = grounded }
+same_kept : (old : State) → LawfulAtRest old → Acyclic old → Kept old []
+same_kept old lawful acyclic = record { lawful = lawful; acyclic = acyclic }
 
 if_kept : (b : Bool) (one other : actions.Action) → (b ≡ true → Kept one.state one.effects) → (b ≡ false → Kept other.state other.effects) → Kept (if b then one else other).state (if b then one else other).effects
 if_kept true one other first second = first refl
@@ -112,26 +112,26 @@ either_way : (b c : Bool) → c ≡ true → (b || c) ≡ true
 either_way true c e = refl
 either_way false c e = e
 
-pub modified_kept : (old : State) (space name : ℕ) (names : Names) (entry : Entry) (which delta : ℕ) → LawfulAtRest old → Grounded old → finmap.get old.spaces space ≡ Some names → finmap.get names name ≡ Some entry
+pub modified_kept : (old : State) (space name : ℕ) (names : Names) (entry : Entry) (which delta : ℕ) → LawfulAtRest old → Acyclic old → finmap.get old.spaces space ≡ Some names → finmap.get names name ≡ Some entry
     → is_no_right which ≡ false → (references_of which entry == 0) ≡ false → first_failing (tests_of_delta which (references_of which entry) delta) ≡ None
     → Kept (actions.modified old space names name entry which delta).state (actions.modified old space names name entry which delta).effects
-modified_kept old space name names (Port rights) which delta lawful grounded there at known some passes =
+modified_kept old space name names (Port rights) which delta lawful acyclic there at known some passes =
     if_kept (is_right which right.Send) (actions.send_left old space name rights (sum_of rights.send delta) 9) (if delta == minus_one then actions.receive_gone old space name rights else actions.done_with 9 old [])
     (λ (send : _).
     let counted : references_of which (Port rights) ≡ rights.send = ap (λ (b : Bool). if b then rights.send else references_unless which rights) send in
     let bound : sum_of (references_of which (Port rights)) delta ≤ bound_of which = delta_bound which (references_of which (Port rights)) delta (ap (λ (b : Bool). b || is_right which right.DeadName) send) passes in
-    send_left_kept old space name names rights (sum_of rights.send delta) 9 lawful grounded there at (sym (ap (λ (n : ℕ). n == 0) counted) ∙ some)
+    send_left_kept old space name names rights (sum_of rights.send delta) 9 lawful acyclic there at (sym (ap (λ (n : ℕ). n == 0) counted) ∙ some)
     (subst (λ (n : ℕ). sum_of n delta ≤ MAX_SEND_REFERENCES) counted (subst (λ (m : ℕ). sum_of (references_of which (Port rights)) delta ≤ m) (ap (λ (b : Bool). if b then MAX_SEND_REFERENCES else MAX_DEAD_REFERENCES) send) bound)))
     (λ (other : _). if_kept (delta == minus_one) (actions.receive_gone old space name rights) (actions.done_with 9 old [])
-    (λ (_ : _). receive_gone_kept old space name names rights lawful grounded there at (port_holds rights which some other)) (λ (_ : _). same_kept old lawful grounded))
-modified_kept old space name names (SendOnce port target) which delta lawful grounded there at known some passes =
+    (λ (_ : _). receive_gone_kept old space name names rights lawful acyclic there at (port_holds rights which some other)) (λ (_ : _). same_kept old lawful acyclic))
+modified_kept old space name names (SendOnce port target) which delta lawful acyclic there at known some passes =
     if_kept (delta == minus_one) (actions.send_once_gone old space name port target 9) (actions.done_with 9 old [])
-    (λ (_ : _). subst (λ (s : State). Kept s (actions.effects_of_name name (SendOnce port target))) (sym (changed_space old space names (λ (n : Names). finmap.remove n name) there)) (gone_kept old space name names (SendOnce port target) lawful grounded there at tt))
-    (λ (_ : _). same_kept old lawful grounded)
-modified_kept old space name names Set which delta lawful grounded there at known some passes =
+    (λ (_ : _). subst (λ (s : State). Kept s (actions.effects_of_name name (SendOnce port target))) (sym (changed_space old space names (λ (n : Names). finmap.remove n name) there)) (gone_kept old space name names (SendOnce port target) lawful acyclic there at tt))
+    (λ (_ : _). same_kept old lawful acyclic)
+modified_kept old space name names Set which delta lawful acyclic there at known some passes =
     if_kept (delta == minus_one) (actions.done_with 9 (with_names (actions.members_in old names name None) space (finmap.remove names name)) []) (actions.done_with 9 old [])
-    (λ (_ : _). set_gone_kept old space name names lawful grounded there at) (λ (_ : _). same_kept old lawful grounded)
-modified_kept old space name names (Dead references) which delta lawful grounded there at known some passes =
+    (λ (_ : _). set_gone_kept old space name names lawful acyclic there at) (λ (_ : _). same_kept old lawful acyclic)
+modified_kept old space name names (Dead references) which delta lawful acyclic there at known some passes =
     let is = dead_holds references which some known in
     let bound : sum_of references delta ≤ bound_of which = delta_bound which references delta (either_way (is_right which right.Send) (is_right which right.DeadName) is.0) (sym (ap (λ (n : ℕ). first_failing (tests_of_delta which n delta)) is.2) ∙ passes) in
-    dead_left_kept old space name names references (sum_of references delta) 9 lawful grounded there at (subst (λ (m : ℕ). sum_of references delta ≤ m) (ap (λ (b : Bool). if b then MAX_SEND_REFERENCES else MAX_DEAD_REFERENCES) is.1) bound)
+    dead_left_kept old space name names references (sum_of references delta) 9 lawful acyclic there at (subst (λ (m : ℕ). sum_of references delta ≤ m) (ap (λ (b : Bool). if b then MAX_SEND_REFERENCES else MAX_DEAD_REFERENCES) is.1) bound)

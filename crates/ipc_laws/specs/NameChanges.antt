@@ -13,7 +13,7 @@ use Rattle.ipc_laws.specs.Dangling.{left_apart}
 use Rattle.ipc_model.specs.effects.Effects.{Effect}
 use Rattle.ipc_laws.specs.EffectParts.{fewer_left}
 use Rattle.ipc_laws.specs.EffectsKeep.{dangles_none}
-use Rattle.ipc_model.specs.state.Lawful.{LawfulBut, LawfulNames, LawfulEntry, AllWaiting, IsHeldBesideSet, IsReleased}
+use Rattle.ipc_model.specs.state.Lawful.{LawfulBut, LawfulNames, LawfulEntry, AllWaiting, IsHeldAlongsideSet, IsReleased}
 use Rattle.ipc_laws.specs.ListLaws.{some_same}
 use Rattle.ipc_laws.specs.MapLaws.{get-here, get-there, get-left}
 use Rattle.ipc_laws.specs.MapSums.{weigh, total, weight, total-insert}
@@ -39,8 +39,8 @@ pub record NamesMove (state : State) (space : ℕ) (names after : Names) (effect
   pub receives : (q : ℕ) → names_weigh (receive_of q) after + weigh (effect_weigh (receive_of q)) later ≡ names_weigh (receive_of q) names + weigh (effect_weigh (receive_of q)) effects
   pub none_dead : (q : ℕ) → lives state q ≡ false → names_weigh (any_of q) after ≤ names_weigh (any_of q) names
   pub waits : AllWaiting later
-  pub members : (serial set : ℕ) (port : PortState) → finmap.get state.ports serial ≡ Some port → port.set ≡ Some set → IsHeldBesideSet state serial set ⊎ IsReleased effects serial
-      → IsHeldBesideSet (with_names state space after) serial set ⊎ IsReleased later serial
+  pub members : (serial set : ℕ) (port : PortState) → finmap.get state.ports serial ≡ Some port → port.set ≡ Some set → IsHeldAlongsideSet state serial set ⊎ IsReleased effects serial
+      → IsHeldAlongsideSet (with_names state space after) serial set ⊎ IsReleased later serial
 
 pub one_space : (state : State) (space other : ℕ) (after names : Names) → finmap.get (finmap.insert state.spaces space after) other ≡ Some names
     → ((other ≡ space) × (after ≡ names)) ⊎ (finmap.get state.spaces other ≡ Some names)

@@ -6,10 +6,10 @@ use Rattle.std.specs.FinMap as finmap
 use Rattle.std.specs.FinMap.{get-empty, len-empty, len-entries}
 use Rattle.ipc_model.specs.declared.entry.Entry.{Entry}
 use Rattle.ipc_model.specs.declared.port.PortState.{PortState}
-use Rattle.ipc_model.specs.state.Circular.{Grounded, Carries}
+use Rattle.ipc_model.specs.state.Circular.{Acyclic, Carries}
 use Rattle.ipc_model.specs.state.Lawful.{Lawful, LawfulNames}
 use Rattle.ipc_laws.specs.LawfulLaws.{alone}
-use Rattle.ipc_model.specs.texts.Images.{image_text}
+use Rattle.ipc_model.specs.encodings.Images.{image_encoding}
 use Rattle.ipc_laws.specs.ListLaws.{some_same}
 use Rattle.ipc_laws.specs.MapLaws.{get-here, get-there, map_rules}
 use Rattle.ipc_laws.specs.MapSums.{total, total-new, weigh}
@@ -50,7 +50,7 @@ no_port_lives : (serial : ℕ) → lives opening_state serial ≡ true → ⊥
 no_port_lives serial live = absurd (cc (sym (ap is_some (get-empty {X = PortState} nat_cmp serial)) ∙ live))
 
 abbrev pub OpeningIsLawful : Type 0
-OpeningIsLawful = Lawful opening_state × Grounded opening_state
+OpeningIsLawful = Lawful opening_state × Acyclic opening_state
 
 pub opening_is_lawful : OpeningIsLawful
 opening_is_lawful = (
@@ -71,6 +71,6 @@ opening_is_lawful = (
 )
 
 -- its image
-pub opening-image : image_text opening_state ≡ 1 ∷ 0 ∷ 0 ∷ 0 ∷ 0 ∷ 0 ∷ 0 ∷ 0 ∷ 1 ∷ 0 ∷ 0 ∷ 0 ∷ 1 ∷ 0 ∷ 0 ∷ 0 ∷ 0 ∷ 0 ∷ 0 ∷ 0 ∷ 0 ∷ 0 ∷ 0 ∷ 0 ∷ []
-unfolding image_text
+pub opening-image : image_encoding opening_state ≡ 1 ∷ 0 ∷ 0 ∷ 0 ∷ 0 ∷ 0 ∷ 0 ∷ 0 ∷ 1 ∷ 0 ∷ 0 ∷ 0 ∷ 1 ∷ 0 ∷ 0 ∷ 0 ∷ 0 ∷ 0 ∷ 0 ∷ 0 ∷ 0 ∷ 0 ∷ 0 ∷ 0 ∷ []
+unfolding image_encoding
 opening-image = simp map_rules

@@ -20,7 +20,7 @@ use Rattle.ipc_model.specs.calls.Step.{Step, ActsIn, ActsFrom}
 use Rattle.ipc_laws.specs.StepLaws.{Called, SentAs}
 use Rattle.ipc_model.specs.calls.Tests.{first_failing}
 use Rattle.ipc_laws.specs.Untouched.{Untouched, Confined, TakenConfined, nothing, untouched_of, makes_space, taken_there, done_there, done_confined}
-use Rattle.ipc_laws.specs.UntouchedMessages.{ready_there, sent_there, receipt_there, ReadyConfined}
+use Rattle.ipc_laws.specs.UntouchedMessages.{ready_there, sent_there, receive_there, ReadyConfined}
 
 called_there : (refusal : Option KernReturn) (old : State) (space : ℕ) (names : Names) (c : Call) (answer : Reply) (new : State) (effects : List Effect) → Called refusal old space names c answer new effects → Untouched old new space
 called_there None old space names c answer new effects called = done_there old space names c answer new effects called
@@ -32,7 +32,7 @@ send_there (Err code) old space answer new effects first sends = subst (λ (s : 
 
 acts_there : (old : State) (space : ℕ) (names : Names) (c : Call) (answer : Reply) (new : State) (effects : List Effect) → ActsIn old space names c answer new effects → Untouched old new space
 acts_there old space names (call.Send message) answer new effects acts = untouched_of old new space (send_there (ready_to_send old space message) old space answer new effects (ready_there old space message) acts)
-acts_there old space names (call.Receive limit large name waited) answer new effects acts = untouched_of old new space (receipt_there old space names (record { limit = limit; large = large; name = name; waited = waited }) answer new effects acts)
+acts_there old space names (call.Receive limit large name waited) answer new effects acts = untouched_of old new space (receive_there old space names (record { limit = limit; large = large; name = name; waited = waited }) answer new effects acts)
 acts_there old space names c answer new effects acts = called_there (first_failing (tests_of old space names c)) old space names c answer new effects acts
 
 acts_from_there : (old : State) (space : ℕ) (names : Option Names) (c : Call) (answer : Reply) (new : State) (effects : List Effect) → ActsFrom old space names c answer new effects → Untouched old new space
@@ -85,7 +85,7 @@ create_comes (Some code) old space name disposition names answer new effects cal
 acts_come : (old : State) (space : ℕ) (names : Names) (c : Call) (answer : Reply) (new : State) (effects : List Effect) → ActsIn old space names c answer new effects → (other : ℕ) → other ≢ space → finmap.get old.spaces other ≡ None → Comes old new answer other
 acts_come old space names (call.Send message) answer new effects acts other apart none = inl ((send_there (ready_to_send old space message) old space answer new effects (ready_there old space message) acts).absent other apart none)
 acts_come old space names (call.Receive limit large name waited) answer new effects acts other apart none =
-    inl ((receipt_there old space names (record { limit = limit; large = large; name = name; waited = waited }) answer new effects acts).absent other apart none)
+    inl ((receive_there old space names (record { limit = limit; large = large; name = name; waited = waited }) answer new effects acts).absent other apart none)
 acts_come old space names (call.SpaceCreate name disposition) answer new effects acts other apart none =
     create_comes (first_failing (tests_of old space names (call.SpaceCreate name disposition))) old space name disposition names answer new effects acts other apart none
 acts_come old space names c answer new effects acts other apart none = inl ((called_confined (first_failing (tests_of old space names c)) old space names c answer new effects refl acts).absent other apart none)

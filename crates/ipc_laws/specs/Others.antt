@@ -12,7 +12,7 @@ use Rattle.ipc_model.specs.declared.message.RightKind.{RightKind}
 use Rattle.ipc_model.specs.declared.message.RightKind.TheVariants as kind
 use Rattle.ipc_model.specs.declared.port.PortState.{PortState}
 use Rattle.ipc_model.specs.state.Circular.{is_circular}
-use Rattle.ipc_model.specs.effects.Effects.{Effect, release, notify, effect, Settles, settled, next_effect, entry_after_death, port_after_death, after_death, map_values, without_target, one_more_if, notified, died, told_no_senders, sent_to_target, receive_released_to, released, released_if_live}
+use Rattle.ipc_model.specs.effects.Effects.{Effect, release, notify, effect, Settles, settled, next_effect, entry_after_death, port_after_death, after_death, map_values, without_target, one_more_if, notified, died, notified_no_senders, sent_to_target, receive_released_to, released, released_if_live}
 use Rattle.ipc_laws.specs.MapLaws.{get-there, get-gone, get-left, get-map_values}
 use Rattle.ipc_model.specs.messages.Notices.{Notice, notice_message}
 use Rattle.ipc_model.specs.messages.Notices as notice
@@ -226,7 +226,7 @@ port_dies state serial = record { fewer = after_death_lives state serial; fades 
 notice_goes : (state : State) (target : ℕ) (what : Notice) → Passing state (notified state target what)
 notice_goes state target what = port_changes state target (λ (port : PortState). record port { messages = port.messages ++ notice_message what ∷ [] })
 
-told : (state : State) (serial : ℕ) (port : PortState) (target : Option ℕ) → Passing state (told_no_senders state serial port target)
+told : (state : State) (serial : ℕ) (port : PortState) (target : Option ℕ) → Passing state (notified_no_senders state serial port target)
 told state serial port None = nothing_passes state
 told state serial port (Some target) = passing_on _ _ _ (port_changes state serial _) (notice_goes _ target (notice.NoSenders port.make_send_count))
 
@@ -245,7 +245,7 @@ receive_passes state serial port (Some target) =
     (passing_on _ _ _ (port_changes state serial _) (notice_goes _ target (notice.PortDestroyed serial))) (port_dies state serial)
 
 release_passes : (state : State) (serial : ℕ) (port : PortState) (kind : RightKind) → Passing state (released state serial port kind).0
-release_passes state serial port kind.Send = choose state (told_no_senders state serial port port.no_senders_target) state (send_count state serial == 0) (told state serial port port.no_senders_target) (nothing_passes state)
+release_passes state serial port kind.Send = choose state (notified_no_senders state serial port port.no_senders_target) state (send_count state serial == 0) (told state serial port port.no_senders_target) (nothing_passes state)
 release_passes state serial port kind.SendOnce = notice_goes state serial notice.SendOnce
 release_passes state serial port kind.Receive = receive_passes state serial port port.port_destroyed_target
 

@@ -11,7 +11,7 @@ use Rattle.std.proofs.lemmas.Map.Views.{Contains-from_any}
 use Rattle.ipc_model.specs.declared.record.Record.{Record}
 use Rattle.ipc_model.specs.state.State.{State}
 use Rattle.ipc_model.specs.history.History.{Sessions, AllLegal, AreAll, IsLegalHistory, places_of}
-use Rattle.ipc_laws.specs.HistoryLaws.{RiseWithin, legal_is_in_order}
+use Rattle.ipc_laws.specs.HistoryLaws.{AscendWithin, legal_is_in_order}
 
 -- all of these numbers are in a range
 abbrev AllIn : ℕ → ℕ → List ℕ → Type 0
@@ -26,21 +26,21 @@ in_both : (low high : ℕ) (places others : List ℕ) → AllIn low high places 
 in_both low high [] others all more = more
 in_both low high (place ∷ places) others all more = (all.0, all.1, in_both low high places others all.2 more)
 
-rise_le : (least end : ℕ) (places : List ℕ) → RiseWithin least end places → least ≤ end
-rise_le least end [] rise = rise
-rise_le least end (place ∷ places) rise = let rest : place + 1 ≤ end = rise_le (place + 1) end places rise.1 in omega (arith, rest, rise.0)
+ascend_le : (least end : ℕ) (places : List ℕ) → AscendWithin least end places → least ≤ end
+ascend_le least end [] ascend = ascend
+ascend_le least end (place ∷ places) ascend = let rest : place + 1 ≤ end = ascend_le (place + 1) end places ascend.1 in omega (arith, rest, ascend.0)
 
-rise_in : (least end : ℕ) (places : List ℕ) → RiseWithin least end places → AllIn least end places
-rise_in least end [] rise = tt
-rise_in least end (place ∷ places) rise =
-    let rest : place + 1 ≤ end = rise_le (place + 1) end places rise.1 in
-    (rise.0, omega (arith, rest), in_wider (place + 1) least end end places (omega (arith, rise.0)) (omega arith) (rise_in (place + 1) end places rise.1))
+ascend_in : (least end : ℕ) (places : List ℕ) → AscendWithin least end places → AllIn least end places
+ascend_in least end [] ascend = tt
+ascend_in least end (place ∷ places) ascend =
+    let rest : place + 1 ≤ end = ascend_le (place + 1) end places ascend.1 in
+    (ascend.0, omega (arith, rest), in_wider (place + 1) least end end places (omega (arith, ascend.0)) (omega arith) (ascend_in (place + 1) end places ascend.1))
 
 places_in : (base : State) (history : List Record) (sessions : Sessions) → AllLegal base history sessions → AllIn 0 (length history) (places_of (map (λ session. session.1) sessions))
 places_in base history [] legal = tt
 places_in base history (first ∷ sessions) legal =
     let order = legal_is_in_order base history first.0 first.1 legal.0 in
-    in_both 0 (length history) first.1.places (places_of (map (λ session. session.1) sessions)) (in_wider 0 0 first.1.seen (length history) first.1.places (omega arith) order.seen (rise_in 0 first.1.seen first.1.places order.places))
+    in_both 0 (length history) first.1.places (places_of (map (λ session. session.1) sessions)) (in_wider 0 0 first.1.seen (length history) first.1.places (omega arith) order.seen (ascend_in 0 first.1.seen first.1.places order.places))
     (places_in base history sessions legal.1)
 
 -- a member of numbers in a range is in the range

@@ -21,7 +21,7 @@ use Rattle.ipc_model.specs.state.State.{State, Names, received_port}
 use Rattle.ipc_model.specs.calls.Step.{ActsIn, is_recorded, succeeded, has_record, number_of_call}
 use Rattle.ipc_laws.specs.StepLaws.{Called}
 use Rattle.ipc_model.specs.calls.Tests.{first_failing}
-use Rattle.ipc_model.specs.texts.Texts.{has_no_results, number_of_reply, HasItsResults}
+use Rattle.ipc_model.specs.encodings.Encodings.{has_no_results, number_of_reply, HasItsResults}
 
 -- every call except sends and receives
 abbrev pub is_port_call : Call → Bool

@@ -6,7 +6,7 @@ use Rattle.std.proofs.lemmas.Bool.{leb-true, eqb-true, eqb-false}
 use Rattle.std.proofs.lemmas.List.{length-replicate}
 use Rattle.std.proofs.lemmas.List.Elements.{All-replicate, All-cons, All-nil}
 use Rattle.ipc_model.specs.rights.Dispositions.{Disposition, MoveReceive, MoveSend, MoveSendOnce, CopySend, MakeSend, MakeSendOnce, disposition_of, received_kind}
-use Rattle.ipc_model.specs.messages.Items.{Item, item_text, items_text, as_stored, is_port_type, is_port_item, received_type, padded, IsItem, AreItems, name_bound}
+use Rattle.ipc_model.specs.messages.Items.{Item, item_encoding, items_encoding, as_stored, is_port_type, is_port_item, received_type, padded, IsItem, AreItems, name_bound}
 use Rattle.ipc_laws.specs.ItemLaws.{item_length}
 use Rattle.ipc_model.specs.state.Lawful.{IsStoredItem, kinds_of_item, kind_of_number}
 use Rattle.ipc_laws.specs.ListLaws.{some_same}
@@ -88,7 +88,7 @@ port_fits item port fits = record {
 -- what is shown of an item that is stored
 pub record IsKept (item : Item) : Type 0 where
   pub fits : IsItem (as_stored item)
-  pub long : length (item_text (as_stored item)) ≡ length (item_text item)
+  pub long : length (item_encoding (as_stored item)) ≡ length (item_encoding item)
   pub stored : IsStoredItem (as_stored item)
   pub port : is_port_item (as_stored item) ≡ is_port_item item
 
@@ -98,7 +98,7 @@ port_kept item port fits =
     let still : is_port_item (stored_port item) ≡ true = (received_of item.type_name).port port in
     record {
       fits = subst IsItem (sym as_port) (port_fits item port fits);
-      long = ap (λ (i : Item). length (item_text i)) as_port ∙ omega (arith, item_length item, item_length (stored_port item), fits.long, (port_fits item port fits).long);
+      long = ap (λ (i : Item). length (item_encoding i)) as_port ∙ omega (arith, item_length item, item_length (stored_port item), fits.long, (port_fits item port fits).long);
       stored = subst IsStoredItem (sym as_port) (subst (λ (b : Bool). MatchBool b ((received_type item.type_name ≤ 18) × All (λ (byte : ℕ). byte ≡ 0) (replicate (4 * item.number) 0)) (Unit {0})) (sym still)
           ((received_of item.type_name).small port, All-replicate (λ (byte : ℕ). byte ≡ 0) (4 * item.number) 0 refl));
       port = ap is_port_item as_port ∙ still ∙ sym port;
@@ -109,7 +109,7 @@ data_kept item data_item fits =
     let as_data : as_stored item ≡ item = ap (λ (b : Bool). if b then stored_port item else item) data_item in
     record {
       fits = subst IsItem (sym as_data) fits;
-      long = ap (λ (i : Item). length (item_text i)) as_data;
+      long = ap (λ (i : Item). length (item_encoding i)) as_data;
       stored = subst IsStoredItem (sym as_data) (subst (λ (b : Bool). MatchBool b ((item.type_name ≤ 18) × All (λ (byte : ℕ). byte ≡ 0) item.content) (Unit {0})) (sym data_item) tt);
       port = ap is_port_item as_data;
     }
@@ -124,10 +124,10 @@ pub stored_fit : (items : List Item) → AreItems items → AreItems (map as_sto
 stored_fit [] fits = tt
 stored_fit (item ∷ items) fits = ((is_kept item fits.0).fits, stored_fit items fits.1)
 
-pub stored_long : (items : List Item) → AreItems items → length (items_text (map as_stored items)) ≡ length (items_text items)
+pub stored_long : (items : List Item) → AreItems items → length (items_encoding (map as_stored items)) ≡ length (items_encoding items)
 stored_long [] fits = refl
 stored_long (item ∷ items) fits =
-    length-append (item_text (as_stored item)) (items_text (map as_stored items)) ∙ omega (arith, length-append (item_text item) (items_text items), (is_kept item fits.0).long, stored_long items fits.1)
+    length-append (item_encoding (as_stored item)) (items_encoding (map as_stored items)) ∙ omega (arith, length-append (item_encoding item) (items_encoding items), (is_kept item fits.0).long, stored_long items fits.1)
 
 pub all_stored : (items : List Item) → AreItems items → All IsStoredItem (map as_stored items)
 all_stored [] fits = All-nil IsStoredItem

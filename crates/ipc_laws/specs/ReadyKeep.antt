@@ -16,7 +16,7 @@ use Rattle.ipc_laws.specs.CallsKeep.{first_passes}
 use Rattle.ipc_model.specs.rights.Dispositions.{Disposition, disposition_of, received_kind}
 use Rattle.ipc_laws.specs.EffectParts.{word_more, byte_more}
 use Rattle.ipc_laws.specs.Hands.{Hand, MidCall, empty_hand, mid_hand}
-use Rattle.ipc_model.specs.messages.Items.{Item, items_of, items_text, item_text, descriptor_text, names_of_item, words_of, is_port_item, as_stored, IsItem, AreItems}
+use Rattle.ipc_model.specs.messages.Items.{Item, items_of, items_encoding, item_encoding, descriptor_encoding, names_of_item, words_of, is_port_item, as_stored, IsItem, AreItems}
 use Rattle.ipc_laws.specs.ItemLaws.{items_read, items_back, back_bytes}
 use Rattle.ipc_model.specs.state.Lawful.{LawfulMessage, HoldsPorts, kinds_of_item}
 use Rattle.ipc_model.specs.messages.Messages.{used_parts, bits_of, remote_of, local_of, body_of, remote_disposition, local_disposition, is_complex, header_length}
@@ -40,8 +40,8 @@ both_bytes (x ∷ xs) ys first second = byte_more x (xs ++ ys) (first 0) (both_b
 two_more : (n : ℕ) (bytes : List ℕ) → AreBytes bytes → AreBytes (little_bytes 2 n ++ bytes)
 two_more n bytes rest = byte_more (n % 256) (n / 256 % 256 ∷ bytes) (omega arith) (byte_more (n / 256 % 256) bytes (omega arith) rest)
 
-item_bytes : (item : Item) → IsItem item → AreBytes (item_text item)
-item_bytes item fits = elim item.is_long as (λ (b : Bool). AreBytes (descriptor_text item b ++ item.content)) [
+item_bytes : (item : Item) → IsItem item → AreBytes (item_encoding item)
+item_bytes item fits = elim item.is_long as (λ (b : Bool). AreBytes (descriptor_encoding item b ++ item.content)) [
   | true ↦ word_more (2 ^ 28 + 2 ^ 29) (little_bytes 2 item.type_name ++ (little_bytes 2 item.bits ++ (word item.number ++ item.content)))
       (two_more item.type_name (little_bytes 2 item.bits ++ (word item.number ++ item.content)) (two_more item.bits (word item.number ++ item.content) (word_more item.number item.content fits.bytes)))
   | false ↦ word_more (item.type_name + item.bits * 2 ^ 8 + item.number * 2 ^ 16 + 2 ^ 28) item.content fits.bytes
@@ -50,14 +50,14 @@ item_bytes item fits = elim item.is_long as (λ (b : Bool). AreBytes (descriptor
 no_bytes : AreBytes []
 no_bytes i = omega arith
 
-items_bytes : (items : List Item) → AreItems items → AreBytes (items_text items)
+items_bytes : (items : List Item) → AreItems items → AreBytes (items_encoding items)
 items_bytes [] fits = no_bytes
-items_bytes (item ∷ items) fits = both_bytes (item_text item) (items_text items) (item_bytes item fits.0) (items_bytes items fits.1)
+items_bytes (item ∷ items) fits = both_bytes (item_encoding item) (items_encoding items) (item_bytes item fits.0) (items_bytes items fits.1)
 
 -- what is known of the items of a body: they were read from it, or the body isn't looked at
 pub record BodyItems (bytes : List ℕ) (items : List Item) : Type 0 where
   pub fit : AreItems items
-  pub complex : is_complex (bits_of bytes) ≡ true → length (items_text items) ≡ length (body_of bytes)
+  pub complex : is_complex (bits_of bytes) ≡ true → length (items_encoding items) ≡ length (body_of bytes)
   pub plain : is_complex (bits_of bytes) ≡ false → items ≡ []
 
 body_items : (bytes : List ℕ) → AreBytes bytes → IfOk (sending.items_if_complex (is_complex (bits_of bytes)) (body_of bytes)) (BodyItems bytes)
@@ -74,16 +74,16 @@ body_items bytes fits = elim (is_complex (bits_of bytes)) as (λ (b : Bool). is_
 -- the body as it is kept
 
 abbrev kept_body : List ℕ → List Item → List ℕ
-kept_body bytes items = if is_complex (bits_of bytes) then items_text (map as_stored items) else body_of bytes
+kept_body bytes items = if is_complex (bits_of bytes) then items_encoding (map as_stored items) else body_of bytes
 
 body_long : (bytes : List ℕ) (items : List Item) → BodyItems bytes items → length (kept_body bytes items) ≡ length (body_of bytes)
-body_long bytes items body = elim (is_complex (bits_of bytes)) as (λ (b : Bool). is_complex (bits_of bytes) ≡ b → length (if b then items_text (map as_stored items) else body_of bytes) ≡ length (body_of bytes)) [
+body_long bytes items body = elim (is_complex (bits_of bytes)) as (λ (b : Bool). is_complex (bits_of bytes) ≡ b → length (if b then items_encoding (map as_stored items) else body_of bytes) ≡ length (body_of bytes)) [
   | true ↦ λ (looked : _). stored_long items body.fit ∙ body.complex looked
   | false ↦ λ (_ : _). refl
 ] refl
 
 body_bytes : (bytes : List ℕ) (items : List Item) → AreBytes bytes → BodyItems bytes items → AreBytes (kept_body bytes items)
-body_bytes bytes items fits body = elim (is_complex (bits_of bytes)) as (λ (b : Bool). AreBytes (if b then items_text (map as_stored items) else body_of bytes)) [
+body_bytes bytes items fits body = elim (is_complex (bits_of bytes)) as (λ (b : Bool). AreBytes (if b then items_encoding (map as_stored items) else body_of bytes)) [
   | true ↦ items_bytes (map as_stored items) (stored_fit items body.fit)
   | false ↦ back_bytes header_length bytes fits
 ]
@@ -168,8 +168,8 @@ pass_if {X} P (test ∷ tests) r here = elim test.0 as (λ (b : Bool). ((if b th
 ] here
 
 -- a body with ports was read
-looked_at : (bytes : List ℕ) (items : List Item) → BodyItems bytes items → list_any is_port_item items ≡ true → kept_body bytes items ≡ items_text (map as_stored items)
-looked_at bytes items body any = elim (is_complex (bits_of bytes)) as (λ (b : Bool). is_complex (bits_of bytes) ≡ b → (if b then items_text (map as_stored items) else body_of bytes) ≡ items_text (map as_stored items)) [
+looked_at : (bytes : List ℕ) (items : List Item) → BodyItems bytes items → list_any is_port_item items ≡ true → kept_body bytes items ≡ items_encoding (map as_stored items)
+looked_at bytes items body any = elim (is_complex (bits_of bytes)) as (λ (b : Bool). is_complex (bits_of bytes) ≡ b → (if b then items_encoding (map as_stored items) else body_of bytes) ≡ items_encoding (map as_stored items)) [
   | true ↦ λ (_ : _). refl
   | false ↦ λ (plain : _). absurd (cc (sym any ∙ ap (list_any is_port_item) (body.plain plain)))
 ] refl
@@ -180,10 +180,10 @@ ports_of_body bytes items rights body told few =
     elim (list_any is_port_item items) as (λ (b : Bool). list_any is_port_item items ≡ b → MatchBool b (HoldsPorts (kept_body bytes items) rights) (rights ≡ [])) [
       | true ↦ λ (any : _).
           let has = stored_has_port items body.fit any in
-          let text : kept_body bytes items ≡ items_text (map as_stored items) = looked_at bytes items body any in
+          let encoding : kept_body bytes items ≡ items_encoding (map as_stored items) = looked_at bytes items body any in
           record {
             items = map as_stored items;
-            tiled = ap items_of text ∙ items_back (map as_stored items) (stored_fit items body.fit);
+            tiled = ap items_of encoding ∙ items_back (map as_stored items) (stored_fit items body.fit);
             has_port = (has.item, has.among, has.port);
             stored = all_stored items body.fit;
             kinds = told;

@@ -20,8 +20,8 @@ use Rattle.ipc_model.specs.declared.message.RightKind.TheVariants as kind
 use Rattle.ipc_model.specs.declared.port.PortState.{PortState}
 use Rattle.ipc_laws.specs.Arrivals.{HasName, arrived_mid, not_unnamed, named_there, same_live}
 use Rattle.ipc_laws.specs.CallsKeep.{Kept, kept_as}
-use Rattle.ipc_model.specs.state.Circular.{Grounded, is_receive_right}
-use Rattle.ipc_model.specs.rights.CopyOut.{Arrives, names_after, wants_name, named_with, names_wanted}
+use Rattle.ipc_model.specs.state.Circular.{Acyclic, is_receive_right}
+use Rattle.ipc_model.specs.rights.CopyOut.{Arrives, names_after, wants_name, named_with, names_needed}
 use Rattle.ipc_model.specs.effects.Effects.{Effect, releases_of}
 use Rattle.ipc_laws.specs.EffectRanks.{fewer_edges, changed_edges, or_later}
 use Rattle.ipc_laws.specs.EffectWeights.{releases_carry}
@@ -69,7 +69,7 @@ oldest_mid state serial port message later mid at is =
       receives = λ (q : ℕ). omega (arith, out_weighs (receive_of q) serial port message later is);
       none_dead = λ (q : ℕ) (dead : _). omega (arith, out_weighs (any_of q) serial port message later is);
       set = λ (set : ℕ) (is : _). is;
-      grounded = fewer_edges state (with_port state serial oldest_out) (changed_edges state serial oldest_out (λ (inner : ℕ) (p : PortState) (e : _). any_dropped (λ (m : Message). list_any (is_receive_right inner) m.rights) p.messages e)) mid.grounded;
+      acyclic = fewer_edges state (with_port state serial oldest_out) (changed_edges state serial oldest_out (λ (inner : ℕ) (p : PortState) (e : _). any_dropped (λ (m : Message). list_any (is_receive_right inner) m.rights) p.messages e)) mid.acyclic;
     }) mid
 
 -- the destination right is no receive right
@@ -108,7 +108,7 @@ destroyed_kept state serial message mid lawful =
 
 -- room for the names that they need, if every port that needs none has a name
 record Fits (start now : Names) (named : List ℕ) (rights : List CarriedRight) : Type 0 where
-  room : finmap.len now + names_wanted start named rights ≤ MAX_NAMES
+  room : finmap.len now + names_needed start named rights ≤ MAX_NAMES
   known : (serial : ℕ) → (is_none (name_of_port start serial) && not (list_any (λ port. port == serial) named)) ≡ false → HasName now serial
 
 none_is : (o : Option ℕ) → is_none o ≡ true → o ≡ None
@@ -179,8 +179,8 @@ arrives_mid state space start now named (right ∷ rights) given after hand mid 
     (λ (needs : _). omega (arith, fits.room, ap {B = ℕ} (λ (b : Bool). if b then 1 else 0) (counted start now named (right ∷ rights) right.kind right.port fits needs))) in
     let moved : MidCall (with_names state space next) later = subst (λ (s : finmap.FinMap nat_cmp Names). MidCall (record state { spaces = s }) later) (insert-insert state.spaces space now next) arrived.mid in
     arrives_mid state space start next (named_with named right.kind right.port) rights others after hand moved (record {
-      room = elim wants as (λ (b : Bool). wants ≡ b → finmap.len now + ((if b then 1 else 0) + names_wanted start (named_with named right.kind right.port) rights) ≤ MAX_NAMES
-          → finmap.len next + names_wanted start (named_with named right.kind right.port) rights ≤ MAX_NAMES) [
+      room = elim wants as (λ (b : Bool). wants ≡ b → finmap.len now + ((if b then 1 else 0) + names_needed start (named_with named right.kind right.port) rights) ≤ MAX_NAMES
+          → finmap.len next + names_needed start (named_with named right.kind right.port) rights ≤ MAX_NAMES) [
             | true ↦ λ (_ : _) (room : _). omega (arith, room, arrived.more)
             | false ↦ λ (unwanted : _) (room : _). omega (arith, room, arrived.same (has_one start now named (right ∷ rights) right.kind right.port fits unwanted))
           ] refl fits.room;
@@ -199,11 +199,11 @@ known_first names serial unwanted = elim (name_of_port names serial) as (λ (o :
 ] refl unwanted
 
 -- A message is received.
-received_kept : (old : State) (space member serial : ℕ) (names : Names) (port : PortState) (message : Message) (later : List Message) (answer : Reply) (new : State) (effects : List Effect) → LawfulAtRest old → Grounded old → finmap.get old.spaces space ≡ Some names
+received_kept : (old : State) (space member serial : ℕ) (names : Names) (port : PortState) (message : Message) (later : List Message) (answer : Reply) (new : State) (effects : List Effect) → LawfulAtRest old → Acyclic old → finmap.get old.spaces space ≡ Some names
     → finmap.get old.ports serial ≡ Some port → port.messages ≡ message ∷ later → lacks_names names message ≡ false → Received old space names member serial port message answer new effects → Kept new effects
-received_kept old space member serial names port message later answer new effects lawful grounded there at is room (given, after, arrives, _, same, are) =
+received_kept old space member serial names port message later answer new effects lawful acyclic there at is room (given, after, arrives, _, same, are) =
     let out : State = without_oldest old serial in
-    let taken : MidCall out (message_hand serial message) = oldest_mid old serial port message later (mid_of old lawful grounded) at is in
+    let taken : MidCall out (message_hand serial message) = oldest_mid old serial port message later (mid_of old lawful acyclic) at is in
     let there_out : finmap.get out.spaces space ≡ Some names = ap (λ (s : finmap.FinMap nat_cmp Names). finmap.get s space) (with_port_spaces old serial oldest_out) ∙ there in
     let same_state : with_names out space names ≡ out = ap (λ (s : finmap.FinMap nat_cmp Names). record out { spaces = s }) (insert-same out.spaces space names there_out) in
     let message_lawful : LawfulMessage message = oldest_lawful port message later (lawful.ports serial port at).2 is in
@@ -212,36 +212,36 @@ received_kept old space member serial names port message later answer new effect
     let in_hand : MidCall out (λ w. empty_hand w + weigh (carried_weigh w) (arriving message)) = mid_hand out (message_hand serial message) (λ w. empty_hand w + weigh (carried_weigh w) (arriving message)) taken
     (λ (q : ℕ). omega (arith, all_weigh (receive_of q), no_receive q serial message.destination message_lawful.destination)) (λ (q : ℕ) (dead : _). omega (arith, all_weigh (any_of q))) in
     let arrived : MidCall (with_names out space after) empty_hand = arrives_mid out space names names [] (arriving message) given after empty_hand (subst (λ (s : State). MidCall s (λ w. empty_hand w + weigh (carried_weigh w) (arriving message))) (sym same_state) in_hand)
-    (record { room = ltb-false MAX_NAMES (finmap.len names + names_wanted names [] (arriving message)) room; known = λ (n : ℕ) (unwanted : _). known_first names n unwanted }) arrives in
+    (record { room = ltb-false MAX_NAMES (finmap.len names + names_needed names [] (arriving message)) room; known = λ (n : ℕ) (unwanted : _). known_first names n unwanted }) arrives in
     let consumed = consumed_quiet message.destination serial in
     subst (λ (s : State). Kept s effects) (sym same) (subst (λ (l : List Effect). Kept (with_names out space after) l) (sym are) (kept_of_mid (with_names out space after) empty_hand (destination_consumed message.destination serial) arrived consumed.waits consumed.receives))
 
-too_large_kept : (old : State) (member serial : ℕ) (port : PortState) (message : Message) (later : List Message) (large : Bool) (answer : Reply) (new : State) (effects : List Effect) → LawfulAtRest old → Grounded old
+too_large_kept : (old : State) (member serial : ℕ) (port : PortState) (message : Message) (later : List Message) (large : Bool) (answer : Reply) (new : State) (effects : List Effect) → LawfulAtRest old → Acyclic old
     → finmap.get old.ports serial ≡ Some port → port.messages ≡ message ∷ later → TooLarge old member serial message large answer new effects → Kept new effects
-too_large_kept old member serial port message later true answer new effects lawful grounded at is (_, same, are) = kept_as old new effects lawful grounded same are
-too_large_kept old member serial port message later false answer new effects lawful grounded at is (_, same, are) =
-    let taken : MidCall (without_oldest old serial) (message_hand serial message) = oldest_mid old serial port message later (mid_of old lawful grounded) at is in
+too_large_kept old member serial port message later true answer new effects lawful acyclic at is (_, same, are) = kept_as old new effects lawful acyclic same are
+too_large_kept old member serial port message later false answer new effects lawful acyclic at is (_, same, are) =
+    let taken : MidCall (without_oldest old serial) (message_hand serial message) = oldest_mid old serial port message later (mid_of old lawful acyclic) at is in
     subst (λ (s : State). Kept s effects) (sym same) (subst (λ (l : List Effect). Kept (without_oldest old serial) l) (sym are)
     (destroyed_kept (without_oldest old serial) serial message taken (oldest_lawful port message later (lawful.ports serial port at).2 is)))
 
 -- A receive.
 
-taken_out_kept : (old : State) (space member serial : ℕ) (names : Names) (receipt : Receipt) (port : PortState) (message : Message) (later : List Message) (answer : Reply) (new : State) (effects : List Effect) → LawfulAtRest old → Grounded old → finmap.get old.spaces space ≡ Some names
+taken_out_kept : (old : State) (space member serial : ℕ) (names : Names) (receipt : Receipt) (port : PortState) (message : Message) (later : List Message) (answer : Reply) (new : State) (effects : List Effect) → LawfulAtRest old → Acyclic old → finmap.get old.spaces space ≡ Some names
     → finmap.get old.ports serial ≡ Some port → port.messages ≡ message ∷ later → TakesOut old space names receipt member serial port message answer new effects → Kept new effects
-taken_out_kept old space member serial names receipt port message later answer new effects lawful grounded there at is takes =
+taken_out_kept old space member serial names receipt port message later answer new effects lawful acyclic there at is takes =
     elim (nat_lt receipt.limit (message_size message)) as (λ (b : Bool). MatchBool b (TooLarge old member serial message receipt.large answer new effects)
     (MatchBool (lacks_names names message) ((answer ≡ without_message RcvHeaderErrorSpace 0 0) × (new ≡ old) × (effects ≡ [])) (Received old space names member serial port message answer new effects)) → Kept new effects) [
-      | true ↦ λ (large : _). too_large_kept old member serial port message later receipt.large answer new effects lawful grounded at is large
+      | true ↦ λ (large : _). too_large_kept old member serial port message later receipt.large answer new effects lawful acyclic at is large
       | false ↦ elim (lacks_names names message) as (λ (b : Bool). lacks_names names message ≡ b → MatchBool b ((answer ≡ without_message RcvHeaderErrorSpace 0 0) × (new ≡ old) × (effects ≡ [])) (Received old space names member serial port message answer new effects) → Kept new effects) [
-        | true ↦ λ (_ : _) (refused : _). kept_as old new effects lawful grounded refused.1 refused.2
-        | false ↦ λ (room : _) (received : _). received_kept old space member serial names port message later answer new effects lawful grounded there at is room received
+        | true ↦ λ (_ : _) (refused : _). kept_as old new effects lawful acyclic refused.1 refused.2
+        | false ↦ λ (room : _) (received : _). received_kept old space member serial names port message later answer new effects lawful acyclic there at is room received
       ] refl
     ] takes
 
-pub receive_kept : (old : State) (space : ℕ) (names : Names) (receipt : Receipt) (answer : Reply) (new : State) (effects : List Effect) → LawfulAtRest old → Grounded old → finmap.get old.spaces space ≡ Some names
+pub receive_kept : (old : State) (space : ℕ) (names : Names) (receipt : Receipt) (answer : Reply) (new : State) (effects : List Effect) → LawfulAtRest old → Acyclic old → finmap.get old.spaces space ≡ Some names
     → Receives old space names receipt answer new effects → Kept new effects
-receive_kept old space names receipt answer new effects lawful grounded there receives =
+receive_kept old space names receipt answer new effects lawful acyclic there receives =
     elim (receive_refusal old names receipt) as (λ (o : Option KernReturn). MatchOption o (Takes old space names receipt answer new effects) (λ code. (answer ≡ without_message code 0 0) × (new ≡ old) × (effects ≡ [])) → Kept new effects) [
-      | None ↦ λ (taken : _). taken_out_kept old space taken.0 taken.1 names receipt taken.2 taken.3 taken.4 answer new effects lawful grounded there taken.7 taken.8 taken.9
-      | Some code ↦ λ (refused : _). kept_as old new effects lawful grounded refused.1 refused.2
+      | None ↦ λ (taken : _). taken_out_kept old space taken.0 taken.1 names receipt taken.2 taken.3 taken.4 answer new effects lawful acyclic there taken.7 taken.8 taken.9
+      | Some code ↦ λ (refused : _). kept_as old new effects lawful acyclic refused.1 refused.2
     ] receives

@@ -13,8 +13,8 @@ use Rattle.ipc_model.specs.effects.Effects.{Effect}
 use Rattle.ipc_model.specs.state.Lawful.{LawfulMessage}
 use Rattle.ipc_laws.specs.LawfulLaws.{LawfulAtRest}
 use Rattle.ipc_laws.specs.ListLaws.{some_same}
-use Rattle.ipc_laws.specs.ReceiptLaws.{one_arrival, one_choice, as_many_names, text_told}
-use Rattle.ipc_model.specs.messages.Receiving.{Receipt, Receives, TakesOut, TooLarge, Received, HoldsReceiveRight, received_text, receive_refusal, lacks_names, message_size, arriving, source_names, sources, without_message, without_oldest}
+use Rattle.ipc_laws.specs.ReceiveArgumentLaws.{one_arrival, one_choice, as_many_names, encoding_told}
+use Rattle.ipc_model.specs.messages.Receiving.{Receipt, Receives, TakesOut, TooLarge, Received, HoldsReceiveRight, received_encoding, receive_refusal, lacks_names, message_size, arriving, source_names, sources, without_message, without_oldest}
 use Rattle.ipc_model.specs.rights.CopyOut.{Arrives}
 use Rattle.ipc_model.specs.state.State.{State, Names, received_port, with_names}
 
@@ -82,9 +82,9 @@ same_received : (old : State) (space : ℕ) (names : Names) (member serial : ℕ
     → LawfulMessage message → Received old space names member serial port message answer one effects → Received old space names member serial port message answer other others → SameLeft one other effects others
 unfolding message_shown
 same_received old space names member serial port message answer one other effects others lawful here there =
-    let texts : received_text message member port.sequence_number here.0 ≡ received_text message member port.sequence_number there.0 = ap message_shown (sym here.3 ∙ there.3) in
+    let encodings : received_encoding message member port.sequence_number here.0 ≡ received_encoding message member port.sequence_number there.0 = ap message_shown (sym here.3 ∙ there.3) in
     let given : here.0 ≡ there.0 = one_choice names (arriving message) here.0 there.0 here.1 there.1 here.2 there.2
-    (text_told message member port.sequence_number here.0 there.0 lawful (as_many_names names (arriving message) here.0 here.1 here.2) (as_many_names names (arriving message) there.0 there.1 there.2) texts) in
+    (encoding_told message member port.sequence_number here.0 there.0 lawful (as_many_names names (arriving message) here.0 here.1 here.2) (as_many_names names (arriving message) there.0 there.1 there.2) encodings) in
     let after : here.1 ≡ there.1 = one_arrival names (arriving message) here.0 here.1 there.1 here.2 (subst (λ (g : List ℕ). Arrives names (arriving message) g there.1) (sym given) there.2) in
     record { state = here.4 ∙ ap (λ (n : Names). with_names (without_oldest old serial) space n) after ∙ sym there.4; effects_are = here.5 ∙ sym there.5 }
 
@@ -149,9 +149,9 @@ lacking_code : (answer : Reply) → answer ≡ without_message RcvHeaderErrorSpa
 unfolding code_shown
 lacking_code answer is = ap code_shown is
 
-received_code : (answer : Reply) (size member : ℕ) (text : List ℕ) → answer ≡ reply.Message Success size member text → code_shown answer ≡ 0
+received_code : (answer : Reply) (size member : ℕ) (encoding : List ℕ) → answer ≡ reply.Message Success size member encoding → code_shown answer ≡ 0
 unfolding code_shown
-received_code answer size member text is = ap code_shown is
+received_code answer size member encoding is = ap code_shown is
 
 outcomes_same : (old : State) (space : ℕ) (names : Names) (receipt : Receipt) (answer : Reply) (one other : State) (effects others : List Effect)
     (here : Taking old space names receipt answer one effects) (there : Taking old space names receipt answer other others)
@@ -207,9 +207,9 @@ same_taking old space names receipt answer one other effects others lawful here 
     (outcome_of old space names receipt here.member here.serial here.port here.message answer one effects here.takes)
     (outcome_of old space names receipt there.member there.serial there.port there.message answer other others there.takes)
 
-pub same_receipt : (old : State) (space : ℕ) (names : Names) (receipt : Receipt) (answer : Reply) (one other : State) (effects others : List Effect)
+pub same_receive : (old : State) (space : ℕ) (names : Names) (receipt : Receipt) (answer : Reply) (one other : State) (effects others : List Effect)
     → LawfulAtRest old → Receives old space names receipt answer one effects → Receives old space names receipt answer other others → SameLeft one other effects others
-same_receipt old space names receipt answer one other effects others lawful here there =
+same_receive old space names receipt answer one other effects others lawful here there =
     elim (receive_refusal old names receipt) as (λ (r : Option KernReturn). Refuses r old space names receipt answer one effects → Refuses r old space names receipt answer other others → SameLeft one other effects others) [
       | None ↦ λ (first : _) (second : _). same_taking old space names receipt answer one other effects others lawful (taking_of old space names receipt answer one effects first) (taking_of old space names receipt answer other others second)
       | Some code ↦ λ (first : _) (second : _). record { state = first.1 ∙ sym second.1; effects_are = first.2 ∙ sym second.2 }

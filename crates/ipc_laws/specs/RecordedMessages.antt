@@ -18,7 +18,7 @@ use Rattle.ipc_model.specs.messages.Sending.{TakenHeader, TakenReply, TakenRight
 use Rattle.ipc_model.specs.rights.CopyIn.{Taken, copy_in}
 use Rattle.ipc_model.specs.rights.Dispositions.{Disposition}
 use Rattle.ipc_model.specs.state.State.{State, Names, is_null_or_dead}
-use Rattle.ipc_model.specs.texts.Texts.{IsMessageSize}
+use Rattle.ipc_model.specs.encodings.Encodings.{IsMessageSize}
 use Rattle.ipc_laws.specs.ItemLaws.{passed_tests}
 use Rattle.ipc_laws.specs.ReadyKeep.{size_fits}
 

@@ -12,21 +12,21 @@ use Rattle.ipc_model.specs.effects.Effects.{Effect}
 use Rattle.ipc_model.specs.messages.Receiving.{Receives}
 use Rattle.ipc_model.specs.state.Lawful.{Lawful}
 use Rattle.ipc_model.specs.state.State.{State, Names}
-use Rattle.ipc_model.specs.texts.Texts.{call_text, reply_text, kept_record, number_of_reply, FitsCall, FitsReply, HasItsResults, IsRecord, IsWholeCall}
+use Rattle.ipc_model.specs.encodings.Encodings.{call_encoding, reply_encoding, canonical_record, number_of_reply, FitsCall, FitsReply, HasItsResults, IsRecord, IsWholeCall}
 use Rattle.ipc_laws.specs.FrameLengths.{arguments_within, from_within, message_length, receive_length, send_length}
-use Rattle.ipc_laws.specs.KeptLaws.{kept_is_record}
+use Rattle.ipc_laws.specs.CanonicalLaws.{canonical_is_record}
 use Rattle.ipc_laws.specs.LawfulLaws.{LawfulAtRest, at_rest}
 use Rattle.ipc_laws.specs.PortCallLaws.{answer_number, answer_results}
 use Rattle.ipc_laws.specs.RecordedMessages.{send_done}
-use Rattle.ipc_laws.specs.RecordedReceipts.{receipt_done}
+use Rattle.ipc_laws.specs.RecordedReceives.{receive_done}
 
 -- What a record needs of its call and reply, besides numbers in range.
 pub record IsAnsweredWhole (c : Call) (answer : Reply) : Type 0 where
   pub whole : IsWholeCall c
   pub number_is : number_of_reply answer ≡ number_of_call c
   pub results : HasItsResults c answer
-  pub call_frame : length (call_text c) ≤ MAX_FRAME_CONTENT
-  pub reply_frame : length (reply_text answer) ≤ MAX_FRAME_CONTENT
+  pub call_frame : length (call_encoding c) ≤ MAX_FRAME_CONTENT
+  pub reply_frame : length (reply_encoding answer) ≤ MAX_FRAME_CONTENT
 
 sent_whole : (old : State) (space : ℕ) (names : Names) (message : List ℕ) (answer : Reply) (new : State) (effects : List Effect) → ActsIn old space names (call.Send message) answer new effects → has_record (call.Send message) answer ≡ true
     → IsAnsweredWhole (call.Send message) answer
@@ -44,7 +44,7 @@ received_whole : (old : State) (space : ℕ) (names : Names) (limit name : ℕ) 
     → Receives old space names (record { limit = limit; large = large; name = name; waited = waited }) answer new effects → has_record (call.Receive limit large name waited) answer ≡ true
     → IsAnsweredWhole (call.Receive limit large name waited) answer
 received_whole old space names limit name large waited answer new effects lawful there receives recorded =
-    let done = receipt_done old space names (record { limit = limit; large = large; name = name; waited = waited }) answer new effects lawful there receives recorded in
+    let done = receive_done old space names (record { limit = limit; large = large; name = name; waited = waited }) answer new effects lawful there receives recorded in
     subst (IsAnsweredWhole (call.Receive limit large name waited)) (sym done.answer_is) (record {
       whole = tt;
       number_is = refl;
@@ -82,10 +82,10 @@ answered_whole old space c answer new lawful step recorded = from_whole (finmap.
 -- range.
 abbrev pub RecordedStepsAreRecords : Type 0
 RecordedStepsAreRecords = (old : State) (space : ℕ) (c : Call) (answer : Reply) (new : State) → Lawful old → space < 2 ^ 32 → FitsCall c → FitsReply answer → Step old space c answer new → IsTrue (has_record c answer)
-    → IsRecord (kept_record (record { space = space; call = c; reply = answer }))
+    → IsRecord (canonical_record (record { space = space; call = c; reply = answer }))
 
 pub recorded_steps : RecordedStepsAreRecords
 recorded_steps old space c answer new lawful fits call_fits reply_fits step recorded =
     let whole = answered_whole old space c answer new lawful step recorded in
-    kept_is_record (record { space = space; call = c; reply = answer }) fits call_fits whole.whole
+    canonical_is_record (record { space = space; call = c; reply = answer }) fits call_fits whole.whole
     (record { fits = reply_fits; of_one_call = whole.number_is; results = whole.results; recorded = recorded }) whole.call_frame whole.reply_frame

@@ -3,17 +3,17 @@ use Rattle.std.specs.Prelude.{◌≡◌, ℕ, ◌+◌, ◌%◌, ◌^◌, ◌<◌
 use Rattle.std.proofs.Common.{sym, ◌∙◌, ap, subst, inl, inr, arith}
 use Rattle.ipc_model.specs.declared.record.Record.{Record}
 use Rattle.ipc_laws.specs.BatchLaws.{one_segment}
-use Rattle.ipc_model.specs.state.Circular.{Grounded}
+use Rattle.ipc_model.specs.state.Circular.{Acyclic}
 use Rattle.ipc_laws.specs.ImageLaws.{image_once}
-use Rattle.ipc_model.specs.texts.Images.{image_text}
+use Rattle.ipc_model.specs.encodings.Images.{image_encoding}
 use Rattle.ipc_model.specs.state.Lawful.{Lawful}
 use Rattle.ipc_laws.specs.OpeningLaws.{opening_is_lawful}
-use Rattle.ipc_model.specs.store.Recovery.{Slots, IsOpen, IsOfEpoch, IsNew, HoldsImage, Continues, IsStored, Spells, Recovered, IsOtherVersion, HasOtherVersion, image_header, segment_header_length}
-use Rattle.ipc_laws.specs.Spelling.{lawful_is_spellable}
+use Rattle.ipc_model.specs.store.Recovery.{Slots, IsOpen, IsOfEpoch, IsNew, HoldsImage, Continues, IsStored, Encodes, Recovered, IsOtherVersion, HasOtherVersion, image_header, segment_header_length}
+use Rattle.ipc_laws.specs.Encoding.{lawful_is_encodable}
 use Rattle.ipc_model.specs.state.State.{State}
 use Rattle.ipc_model.specs.calls.Step.{Run}
 use Rattle.ipc_laws.specs.StepsKeep.{FitCalls, one_run, runs_keep_lawful}
-use Rattle.ipc_model.specs.store.Store.{SpellsSegment, AreRecords, open_gate, segment_header, image_content}
+use Rattle.ipc_model.specs.store.Store.{EncodesSegment, AreRecords, open_gate, segment_header, image_content}
 use Rattle.words.specs.WordLaws.{same_long_word}
 use Rattle.words.specs.Words.{long_word}
 
@@ -24,14 +24,14 @@ one_epoch one other xs ys fits fits_too is = same_long_word one other xs ys fits
 -- an image is of its epoch, and open
 pub image_header_is : (epoch : ℕ) (slot : List ℕ) (state : State) → epoch < 2 ^ 64 → HoldsImage epoch slot state → IsOfEpoch (epoch % 2) epoch slot
 image_header_is epoch slot state fits image = record {
-  rest = (long_word (length (image_text state)) ++ image_text state) ++ image.rest;
-  text = image.text;
+  rest = (long_word (length (image_encoding state)) ++ image_encoding state) ++ image.rest;
+  encoding = image.encoding;
   fits = fits;
   of_number = refl;
 }
 
 pub image_is_open : (epoch : ℕ) (slot : List ℕ) (state : State) → HoldsImage epoch slot state → IsOpen image_header slot
-image_is_open epoch slot state image = subst (IsOpen image_header) (sym image.text) (omega arith, refl)
+image_is_open epoch slot state image = subst (IsOpen image_header) (sym image.encoding) (omega arith, refl)
 
 parity_small : (n : ℕ) → n % 2 < 2
 parity_small n = omega arith
@@ -48,39 +48,39 @@ same_epoch slots base other records more one two =
 -- a slot holds the image of one state
 one_image : (epoch : ℕ) (slot : List ℕ) (one other : State) → HoldsImage epoch slot one → HoldsImage epoch slot other → one ≡ other
 one_image epoch slot one other first second =
-    let whole : (open_gate ∷ image_content epoch (image_text one)) ++ first.rest ≡ (open_gate ∷ image_content epoch (image_text other)) ++ second.rest = sym first.text ∙ second.text in
-    let behind : (long_word (length (image_text one)) ++ image_text one) ++ first.rest ≡ (long_word (length (image_text other)) ++ image_text other) ++ second.rest = ap (λ (l : List ℕ). drop 16 l) whole in
-    let texts : image_text one ++ first.rest ≡ image_text other ++ second.rest = ap (λ (l : List ℕ). drop 8 l) behind in
-    (image_once one other first.rest second.rest (lawful_is_spellable one first.lawful first.short) (lawful_is_spellable other second.lawful second.short) texts).0
+    let whole : (open_gate ∷ image_content epoch (image_encoding one)) ++ first.rest ≡ (open_gate ∷ image_content epoch (image_encoding other)) ++ second.rest = sym first.encoding ∙ second.encoding in
+    let behind : (long_word (length (image_encoding one)) ++ image_encoding one) ++ first.rest ≡ (long_word (length (image_encoding other)) ++ image_encoding other) ++ second.rest = ap (λ (l : List ℕ). drop 16 l) whole in
+    let encodings : image_encoding one ++ first.rest ≡ image_encoding other ++ second.rest = ap (λ (l : List ℕ). drop 8 l) behind in
+    (image_once one other first.rest second.rest (lawful_is_encodable one first.lawful first.short) (lawful_is_encodable other second.lawful second.short) encodings).0
 
 -- what the other segment adds is determined
 
-pub segment_epoch : (number epoch before : ℕ) (slot : List ℕ) (records : List Record) → SpellsSegment epoch slot records → epoch < 2 ^ 64 → IsOfEpoch number before slot → before ≡ epoch
-segment_epoch number epoch before slot records spelled fits header = one_epoch before epoch header.rest spelled.content header.fits fits (sym header.text ∙ spelled.text)
+pub segment_epoch : (number epoch before : ℕ) (slot : List ℕ) (records : List Record) → EncodesSegment epoch slot records → epoch < 2 ^ 64 → IsOfEpoch number before slot → before ≡ epoch
+segment_epoch number epoch before slot records encoded fits header = one_epoch before epoch header.rest encoded.content header.fits fits (sym header.encoding ∙ encoded.encoding)
 
-pub segment_is_open : (epoch : ℕ) (slot : List ℕ) (records : List Record) → SpellsSegment epoch slot records → IsOpen segment_header_length slot
-segment_is_open epoch slot records spelled = subst (IsOpen segment_header_length) (sym spelled.text) (omega arith, refl)
+pub segment_is_open : (epoch : ℕ) (slot : List ℕ) (records : List Record) → EncodesSegment epoch slot records → IsOpen segment_header_length slot
+segment_is_open epoch slot records encoded = subst (IsOpen segment_header_length) (sym encoded.encoding) (omega arith, refl)
 
 header_is_open : (number epoch : ℕ) (slot : List ℕ) → IsOfEpoch number epoch slot → IsOpen segment_header_length slot
-header_is_open number epoch slot header = subst (IsOpen segment_header_length) (sym header.text) (omega arith, refl)
+header_is_open number epoch slot header = subst (IsOpen segment_header_length) (sym header.encoding) (omega arith, refl)
 
 one_next : (epoch : ℕ) (slot : List ℕ) (one other : List Record) → Continues epoch slot one → Continues epoch slot other → one ≡ other
 one_next epoch slot one other (inl closed) (inl closed_too) = closed.1 ∙ sym closed_too.1
 one_next epoch slot one other (inl closed) (inr (inl before)) = absurd (closed.0 (header_is_open (before.0 % 2) before.0 slot before.2))
-one_next epoch slot one other (inl closed) (inr (inr spelled)) = absurd (closed.0 (segment_is_open (epoch + 1) slot other spelled.1))
+one_next epoch slot one other (inl closed) (inr (inr encoded)) = absurd (closed.0 (segment_is_open (epoch + 1) slot other encoded.1))
 one_next epoch slot one other (inr (inl before)) (inl closed) = absurd (closed.0 (header_is_open (before.0 % 2) before.0 slot before.2))
 one_next epoch slot one other (inr (inl before)) (inr (inl before_too)) = before.3 ∙ sym before_too.3
-one_next epoch slot one other (inr (inl before)) (inr (inr spelled)) = absurd (omega (arith, before.1, segment_epoch (before.0 % 2) (epoch + 1) before.0 slot other spelled.1 spelled.0 before.2))
-one_next epoch slot one other (inr (inr spelled)) (inl closed) = absurd (closed.0 (segment_is_open (epoch + 1) slot one spelled.1))
-one_next epoch slot one other (inr (inr spelled)) (inr (inl before)) = absurd (omega (arith, before.1, segment_epoch (before.0 % 2) (epoch + 1) before.0 slot one spelled.1 spelled.0 before.2))
-one_next epoch slot one other (inr (inr spelled)) (inr (inr spelled_too)) = one_segment (epoch + 1) slot one other spelled.1 spelled_too.1
+one_next epoch slot one other (inr (inl before)) (inr (inr encoded)) = absurd (omega (arith, before.1, segment_epoch (before.0 % 2) (epoch + 1) before.0 slot other encoded.1 encoded.0 before.2))
+one_next epoch slot one other (inr (inr encoded)) (inl closed) = absurd (closed.0 (segment_is_open (epoch + 1) slot one encoded.1))
+one_next epoch slot one other (inr (inr encoded)) (inr (inl before)) = absurd (omega (arith, before.1, segment_epoch (before.0 % 2) (epoch + 1) before.0 slot one encoded.1 encoded.0 before.2))
+one_next epoch slot one other (inr (inr encoded)) (inr (inr encoded_too)) = one_segment (epoch + 1) slot one other encoded.1 encoded_too.1
 
 -- the parts of a store in use, for one epoch
 record Parts (slots : Slots) (epoch : ℕ) (base : State) (records : List Record) : Type 0 where
   image : HoldsImage epoch (slots.image (epoch % 2)) base
   first : List Record
   next : List Record
-  segment : SpellsSegment epoch (slots.segment (epoch % 2)) first
+  segment : EncodesSegment epoch (slots.segment (epoch % 2)) first
   other : Continues epoch (slots.segment ((epoch + 1) % 2)) next
   joined : records ≡ first ++ next
 
@@ -94,14 +94,14 @@ one_of_parts slots epoch base other records more one two = (
 )
 
 -- A disk encodes at most one base with one list of records.
-abbrev pub SpellsOnce : Type 0
-SpellsOnce = (slots : Slots) (base other : State) (records more : List Record) → Spells slots base records → Spells slots other more → (base ≡ other) × (records ≡ more)
+abbrev pub EncodesOnce : Type 0
+EncodesOnce = (slots : Slots) (base other : State) (records more : List Record) → Encodes slots base records → Encodes slots other more → (base ≡ other) × (records ≡ more)
 
 stored_open : (slots : Slots) (base : State) (records : List Record) → IsNew slots → IsStored slots base records → ⊥
 stored_open slots base records new stored = new.no_image (stored.epoch % 2) (parity_small stored.epoch) (image_is_open stored.epoch (slots.image (stored.epoch % 2)) base stored.image)
 
-pub spells_once : SpellsOnce
-spells_once slots base other records more one two = elim one.reading as (λ _. (base ≡ other) × (records ≡ more)) [
+pub encodes_once : EncodesOnce
+encodes_once slots base other records more one two = elim one.reading as (λ _. (base ≡ other) × (records ≡ more)) [
   | inl new ↦ elim two.reading as (λ _. (base ≡ other) × (records ≡ more)) [
     | inl new_too ↦ (new.1 ∙ sym new_too.1, new.2 ∙ sym new_too.2)
     | inr stored ↦ absurd (stored_open slots other more new.0 stored)
@@ -126,21 +126,21 @@ fit_both (x ∷ xs) ys first second = (first.0, fit_both xs ys first.1 second)
 next_fit : (epoch : ℕ) (slot : List ℕ) (next : List Record) → Continues epoch slot next → FitCalls next
 next_fit epoch slot next (inl closed) = subst FitCalls (sym closed.1) tt
 next_fit epoch slot next (inr (inl before)) = subst FitCalls (sym before.3) tt
-next_fit epoch slot next (inr (inr spelled)) = records_fit next spelled.1.spelled.canonical
+next_fit epoch slot next (inr (inr encoded)) = records_fit next encoded.1.encoded.canonical
 
 -- what a run begins from, and its records, if a disk encodes them
 record Beginning (base : State) (records : List Record) : Type 0 where
   lawful : Lawful base
-  grounded : Grounded base
+  acyclic : Acyclic base
   fit : FitCalls records
 
-beginning : (slots : Slots) (base : State) (records : List Record) → Spells slots base records → Beginning base records
-beginning slots base records spelled = elim spelled.reading as (λ _. Beginning base records) [
-  | inl new ↦ record { lawful = subst Lawful (sym new.1) opening_is_lawful.0; grounded = subst Grounded (sym new.1) opening_is_lawful.1; fit = subst FitCalls (sym new.2) tt }
+beginning : (slots : Slots) (base : State) (records : List Record) → Encodes slots base records → Beginning base records
+beginning slots base records encoded = elim encoded.reading as (λ _. Beginning base records) [
+  | inl new ↦ record { lawful = subst Lawful (sym new.1) opening_is_lawful.0; acyclic = subst Acyclic (sym new.1) opening_is_lawful.1; fit = subst FitCalls (sym new.2) tt }
   | inr stored ↦ record {
     lawful = stored.image.lawful;
-    grounded = stored.image.grounded;
-    fit = subst FitCalls (sym stored.joined) (fit_both stored.first stored.next (records_fit stored.first stored.segment.spelled.canonical) (next_fit stored.epoch (slots.segment ((stored.epoch + 1) % 2)) stored.next stored.other));
+    acyclic = stored.image.acyclic;
+    fit = subst FitCalls (sym stored.joined) (fit_both stored.first stored.next (records_fit stored.first stored.segment.encoded.canonical) (next_fit stored.epoch (slots.segment ((stored.epoch + 1) % 2)) stored.next stored.other));
   }
 ]
 
@@ -150,30 +150,30 @@ RecoversOnce = (slots : Slots) (one other : State) → Recovered slots one → R
 
 pub recovers_once : RecoversOnce
 recovers_once slots one other first second =
-    let same = spells_once slots first.base second.base first.records second.records first.spelled second.spelled in
-    let begins = beginning slots second.base second.records second.spelled in
-    one_run second.base second.records one other begins.fit begins.lawful begins.grounded (subst (λ (s : State). Run s second.records one) same.0 (subst (λ (l : List Record). Run first.base l one) same.1 first.run)) second.run
+    let same = encodes_once slots first.base second.base first.records second.records first.encoded second.encoded in
+    let begins = beginning slots second.base second.records second.encoded in
+    one_run second.base second.records one other begins.fit begins.lawful begins.acyclic (subst (λ (s : State). Run s second.records one) same.0 (subst (λ (l : List Record). Run first.base l one) same.1 first.run)) second.run
 
 abbrev pub RecoversLawful : Type 0
-RecoversLawful = (slots : Slots) (state : State) → Recovered slots state → Lawful state × Grounded state
+RecoversLawful = (slots : Slots) (state : State) → Recovered slots state → Lawful state × Acyclic state
 
 pub recovers_lawful : RecoversLawful
 recovers_lawful slots state recovered =
-    let begins = beginning slots recovered.base recovered.records recovered.spelled in
-    runs_keep_lawful recovered.base recovered.records state begins.fit begins.lawful begins.grounded recovered.run
+    let begins = beginning slots recovered.base recovered.records recovered.encoded in
+    runs_keep_lawful recovered.base recovered.records state begins.fit begins.lawful begins.acyclic recovered.run
 
 -- And no disk from which a state is recovered is of another version.
 
 of_version_one : (header number epoch : ℕ) (slot : List ℕ) → IsOfEpoch number epoch slot → HasOtherVersion header slot → ⊥
-of_version_one header number epoch slot is other = other.1 (ap (λ (l : List ℕ). slice_index l 1) is.text)
+of_version_one header number epoch slot is other = other.1 (ap (λ (l : List ℕ). slice_index l 1) is.encoding)
 
 abbrev pub RecoversVersionOne : Type 0
 RecoversVersionOne = (slots : Slots) (state : State) → Recovered slots state → IsOtherVersion slots → ⊥
 
 pub recovers_version_one : RecoversVersionOne
 recovers_version_one slots state recovered (number, small, inl image) =
-    let header = (recovered.spelled.headers number small).0 image.0 in
+    let header = (recovered.encoded.headers number small).0 image.0 in
     of_version_one image_header number header.0 (slots.image number) header.1 image
 recovers_version_one slots state recovered (number, small, inr segment) =
-    let header = (recovered.spelled.headers number small).1 segment.0 in
+    let header = (recovered.encoded.headers number small).1 segment.0 in
     of_version_one segment_header_length number header.0 (slots.segment number) header.1 segment

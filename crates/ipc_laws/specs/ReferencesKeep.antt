@@ -11,7 +11,7 @@ use Rattle.ipc_model.specs.declared.message.RightKind.TheVariants as kind
 use Rattle.ipc_model.specs.declared.port.PortState.{PortState}
 use Rattle.ipc_model.specs.calls.Actions as actions
 use Rattle.ipc_laws.specs.CallsKeep.{Kept}
-use Rattle.ipc_model.specs.state.Circular.{Grounded}
+use Rattle.ipc_model.specs.state.Circular.{Acyclic}
 use Rattle.ipc_model.specs.rights.CopyIn.{with_left, notices_of_left}
 use Rattle.ipc_model.specs.effects.Effects.{Effect, release, port_deleted}
 use Rattle.ipc_laws.specs.EntryChanges.{EntryMove, changed, entry_moves, under, received_under}
@@ -24,11 +24,11 @@ use Rattle.ipc_model.specs.state.State.{State, Names, with_names, with_changed, 
 use Rattle.ipc_laws.specs.Weights.{Weight, target_weigh, entry_weigh, effect_weigh, receive_of, any_of}
 
 -- another entry under a name, or none, keeps the state lawful with the effects
-pub entry_kept : (old : State) (space name : ℕ) (names : Names) (before after : Option Entry) (later : List Effect) → LawfulAtRest old → Grounded old → EntryMove old space name names before after [] later → LawfulNames (changed names name after)
+pub entry_kept : (old : State) (space name : ℕ) (names : Names) (before after : Option Entry) (later : List Effect) → LawfulAtRest old → Acyclic old → EntryMove old space name names before after [] later → LawfulNames (changed names name after)
     → Kept (with_names old space (changed names name after)) later
-entry_kept old space name names before after later lawful grounded move fits = record {
+entry_kept old space name names before after later lawful acyclic move fits = record {
   lawful = names_move_lawfully old space names (changed names name after) [] later (entry_moves old space name names before after [] later move fits) lawful;
-  grounded = grounded;
+  acyclic = acyclic;
 }
 
 pub changed_space : (old : State) (space : ℕ) (names : Names) (change : Names → Names) → finmap.get old.spaces space ≡ Some names → with_changed old space change ≡ with_names old space (change names)
@@ -135,9 +135,9 @@ left_lawful names name rights entry lawful at same fits =
     ] refl
 
 -- Fewer references of a send right, and its release where none are left.
-pub send_left_kept : (old : State) (space name : ℕ) (names : Names) (rights : PortRights) (left number : ℕ) → LawfulAtRest old → Grounded old → finmap.get old.spaces space ≡ Some names → finmap.get names name ≡ Some (Port rights)
+pub send_left_kept : (old : State) (space name : ℕ) (names : Names) (rights : PortRights) (left number : ℕ) → LawfulAtRest old → Acyclic old → finmap.get old.spaces space ≡ Some names → finmap.get names name ≡ Some (Port rights)
     → (rights.send == 0) ≡ false → left ≤ MAX_SEND_REFERENCES → Kept (actions.send_left old space name rights left number).state (actions.send_left old space name rights left number).effects
-send_left_kept old space name names rights left number lawful grounded there at some fits =
+send_left_kept old space name names rights left number lawful acyclic there at some fits =
     let entry : Entry = Port (record rights { send = left }) in
     let later : List Effect = (if left == 0 then release kind.Send rights.port ∷ [] else []) ++ notices_of_left name entry in
     let move : EntryMove old space name names (Some (Port rights)) (left_of entry) [] later = record {
@@ -158,7 +158,7 @@ send_left_kept old space name names rights left number lawful grounded there at 
     } in
     let own = lawful.spaces space names there in
     let lawful_names : LawfulNames (changed names name (left_of entry)) = left_lawful names name rights entry own.2 at refl (λ (some_left : _). (not_empty rights.receive left some_left, fits)) in
-    subst (λ (s : State). Kept s later) (sym (left_state old space name names entry there)) (entry_kept old space name names (Some (Port rights)) (left_of entry) later lawful grounded move lawful_names)
+    subst (λ (s : State). Kept s later) (sym (left_state old space name names entry there)) (entry_kept old space name names (Some (Port rights)) (left_of entry) later lawful acyclic move lawful_names)
 
 -- Fewer or more references of a dead name, which goes with the last.
 
@@ -180,9 +180,9 @@ dead_lawful names name references left lawful at fits =
           (λ (other serial : ℕ) (e : Entry) (apart : _) (there : _) (held : _) (held_too : _). absurd (cc held))
     ] refl
 
-pub dead_left_kept : (old : State) (space name : ℕ) (names : Names) (references left number : ℕ) → LawfulAtRest old → Grounded old → finmap.get old.spaces space ≡ Some names → finmap.get names name ≡ Some (Dead references)
+pub dead_left_kept : (old : State) (space name : ℕ) (names : Names) (references left number : ℕ) → LawfulAtRest old → Acyclic old → finmap.get old.spaces space ≡ Some names → finmap.get names name ≡ Some (Dead references)
     → left ≤ MAX_DEAD_REFERENCES → Kept (actions.dead_left old space name left number).state (actions.dead_left old space name left number).effects
-dead_left_kept old space name names references left number lawful grounded there at fits =
+dead_left_kept old space name names references left number lawful acyclic there at fits =
     let move : EntryMove old space name names (Some (Dead references)) (left_of (Dead left)) [] [] = record {
       there = there;
       at = at;
@@ -194,7 +194,7 @@ dead_left_kept old space name names references left number lawful grounded there
       released = λ (serial set : ℕ) (port : PortState) (_ : _) (_ : _) (r : _). r;
     } in
     subst (λ (s : State). Kept s []) (sym (left_state old space name names (Dead left) there))
-    (entry_kept old space name names (Some (Dead references)) (left_of (Dead left)) [] lawful grounded move (dead_lawful names name references left (lawful.spaces space names there).2 at fits))
+    (entry_kept old space name names (Some (Dead references)) (left_of (Dead left)) [] lawful acyclic move (dead_lawful names name references left (lawful.spaces space names there).2 at fits))
 
 -- A name that goes with all that it stands for, and no set: its rights are released.
 
@@ -265,9 +265,9 @@ no_set_is (SendOnce port target) other e = cc e
 no_set_is Set other e = absurd other
 no_set_is (Dead references) other e = cc e
 
-pub gone_kept : (old : State) (space name : ℕ) (names : Names) (entry : Entry) → LawfulAtRest old → Grounded old → finmap.get old.spaces space ≡ Some names → finmap.get names name ≡ Some entry → is_no_set entry
+pub gone_kept : (old : State) (space name : ℕ) (names : Names) (entry : Entry) → LawfulAtRest old → Acyclic old → finmap.get old.spaces space ≡ Some names → finmap.get names name ≡ Some entry → is_no_set entry
     → Kept (with_names old space (finmap.remove names name)) (actions.effects_of_name name entry)
-gone_kept old space name names entry lawful grounded there at other =
+gone_kept old space name names entry lawful acyclic there at other =
     let later : List Effect = actions.effects_of_name name entry in
     let move : EntryMove old space name names (Some entry) None [] later = record {
       there = there;
@@ -279,4 +279,4 @@ gone_kept old space name names entry lawful grounded there at other =
       set = λ (e : _). absurd (no_set_is entry other e);
       released = λ (serial set : ℕ) (port : PortState) (_ : _) (_ : _) (r : _). absurd (none_released serial r);
     } in
-    entry_kept old space name names (Some entry) None later lawful grounded move (remove_lawful names name (lawful.spaces space names there).2)
+    entry_kept old space name names (Some entry) None later lawful acyclic move (remove_lawful names name (lawful.spaces space names there).2)

@@ -18,7 +18,7 @@ use Rattle.ipc_model.specs.calls.Actions as actions
 use Rattle.ipc_model.specs.calls.Actions.{Done, ActsOn}
 use Rattle.ipc_laws.specs.AllocateKeep.{chosen_unused}
 use Rattle.ipc_laws.specs.CallsKeep.{Kept, first_passes}
-use Rattle.ipc_model.specs.state.Circular.{Grounded, Carries}
+use Rattle.ipc_model.specs.state.Circular.{Acyclic, Carries}
 use Rattle.ipc_laws.specs.Dangling.{left_apart, later_found, front_of, back_of}
 use Rattle.ipc_model.specs.effects.Effects.{Effect}
 use Rattle.ipc_laws.specs.EffectParts.{Parts, any_changed_parts}
@@ -26,7 +26,7 @@ use Rattle.ipc_laws.specs.EffectRanks.{fewer_edges, changed_edges}
 use Rattle.ipc_laws.specs.EffectWeights.{with_port_weigh, no_port, still_lives}
 use Rattle.ipc_laws.specs.EntryChanges.{changed_weight}
 use Rattle.ipc_laws.specs.Hands.{MidCall, empty_hand, mid_of, mid_names, named_parts, kept_of_mid}
-use Rattle.ipc_model.specs.state.Lawful.{LawfulNames, IsHeldBesideSet}
+use Rattle.ipc_model.specs.state.Lawful.{LawfulNames, IsHeldAlongsideSet}
 use Rattle.ipc_laws.specs.LawfulLaws.{LawfulAtRest}
 use Rattle.ipc_laws.specs.ListLaws.{some_same}
 use Rattle.ipc_laws.specs.MapLaws.{get-here, get-there, get-left}
@@ -69,19 +69,19 @@ others_stand names from to name entry e free at apart =
     get-there (finmap.remove names from) to entry name not_to ∙ get-left names from name apart ∙ at
 
 -- a member is held in its set's space, whatever its name, if the set itself keeps its name
-beside_moved : (state : State) (space from to serial set : ℕ) (names : Names) (entry : Entry) → finmap.get state.spaces space ≡ Some names → finmap.get names from ≡ Some entry → finmap.get names to ≡ None
-    → (finmap.get names set ≡ Some Set → set ≢ from) → IsHeldBesideSet state serial set → IsHeldBesideSet (with_names state space (moved_names names from to entry)) serial set
-beside_moved state space from to serial set names entry there at free set_apart (other, held_names, name, e, at_space, at_name, is, beside) =
+alongside_moved : (state : State) (space from to serial set : ℕ) (names : Names) (entry : Entry) → finmap.get state.spaces space ≡ Some names → finmap.get names from ≡ Some entry → finmap.get names to ≡ None
+    → (finmap.get names set ≡ Some Set → set ≢ from) → IsHeldAlongsideSet state serial set → IsHeldAlongsideSet (with_names state space (moved_names names from to entry)) serial set
+alongside_moved state space from to serial set names entry there at free set_apart (other, held_names, name, e, at_space, at_name, is, alongside) =
     let after : Names = moved_names names from to entry in
-    elim (number_decided other space) as (λ _. IsHeldBesideSet (with_names state space after) serial set) [
-      | inl apart ↦ (other, held_names, name, e, get-there state.spaces space after other apart ∙ at_space, at_name, is, beside)
+    elim (number_decided other space) as (λ _. IsHeldAlongsideSet (with_names state space after) serial set) [
+      | inl apart ↦ (other, held_names, name, e, get-there state.spaces space after other apart ∙ at_space, at_name, is, alongside)
       | inr same ↦
           let same_names : held_names ≡ names = some_same held_names names (sym at_space ∙ ap (finmap.get state.spaces) same ∙ there) in
-          let beside_here : finmap.get names set ≡ Some Set = ap (λ (n : Names). finmap.get n set) (sym same_names) ∙ beside in
+          let alongside_here : finmap.get names set ≡ Some Set = ap (λ (n : Names). finmap.get n set) (sym same_names) ∙ alongside in
           let at_here : finmap.get names name ≡ Some e = ap (λ (n : Names). finmap.get n name) (sym same_names) ∙ at_name in
-          let set_stands : finmap.get after set ≡ Some Set = others_stand names from to set entry Set free beside_here (set_apart beside_here) in
+          let set_stands : finmap.get after set ≡ Some Set = others_stand names from to set entry Set free alongside_here (set_apart alongside_here) in
           let space_there : finmap.get (finmap.insert state.spaces space after) space ≡ Some after = get-here state.spaces space after in
-          elim (number_decided name from) as (λ _. IsHeldBesideSet (with_names state space after) serial set) [
+          elim (number_decided name from) as (λ _. IsHeldAlongsideSet (with_names state space after) serial set) [
             | inl apart ↦ (space, after, name, e, space_there, others_stand names from to name entry e free at_here apart, is, set_stands)
             | inr named ↦
                 let was : entry ≡ e = some_same entry e (sym at ∙ ap (finmap.get names) (sym named) ∙ at_here) in
@@ -89,17 +89,17 @@ beside_moved state space from to serial set names entry there at free set_apart 
           ]
     ]
 
-entry_moved : (old : State) (space from to : ℕ) (names : Names) (entry : Entry) → (entry ≡ Set → ⊥) → LawfulAtRest old → Grounded old → finmap.get old.spaces space ≡ Some names → finmap.get names from ≡ Some entry → IsUnused names to
+entry_moved : (old : State) (space from to : ℕ) (names : Names) (entry : Entry) → (entry ≡ Set → ⊥) → LawfulAtRest old → Acyclic old → finmap.get old.spaces space ≡ Some names → finmap.get names from ≡ Some entry → IsUnused names to
     → Kept (with_names old space (moved_names names from to entry)) []
-entry_moved old space from to names entry no_set lawful grounded there at unused =
-    let mid : MidCall old empty_hand = mid_of old lawful grounded in
+entry_moved old space from to names entry no_set lawful acyclic there at unused =
+    let mid : MidCall old empty_hand = mid_of old lawful acyclic in
     kept_of_mid (with_names old space (moved_names names from to entry)) empty_hand [] (mid_names old space names (moved_names names from to entry) empty_hand empty_hand (record {
       there = there;
       lawful = moved_lawful names from to entry (lawful.spaces space names there).2 at unused;
       receives = λ (q : ℕ). omega (arith, moved_weigh (receive_of q) names from to entry at unused.free);
       none_dead = λ (q : ℕ) (dead : _). omega (arith, moved_weigh (any_of q) names from to entry at unused.free);
       members = λ (serial set : ℕ) (port : PortState) (_ : _) (_ : _) (held : _).
-          beside_moved old space from to serial set names entry there at unused.free (λ (is_set : _) (same : _). no_set (some_same entry Set (sym at ∙ ap (finmap.get names) (sym same) ∙ is_set))) held;
+          alongside_moved old space from to serial set names entry there at unused.free (λ (is_set : _) (same : _). no_set (some_same entry Set (sym at ∙ ap (finmap.get names) (sym same) ∙ is_set))) held;
     }) mid) tt (λ (q : ℕ). refl)
 
 -- A set takes its members along.
@@ -203,9 +203,9 @@ among_held test (e ∷ es) serial sorted among =
     ] among
 
 -- a member goes along with its set
-moved_beside : (state : State) (space from to serial set : ℕ) (names : Names) → finmap.get state.spaces space ≡ Some names → finmap.get names from ≡ Some Set → finmap.get names to ≡ None → HeldIn (finmap.entries names) serial → set ≡ to
-    → IsHeldBesideSet (with_names state space (moved_names names from to Set)) serial set
-moved_beside state space from to serial set names there at free held is_to =
+moved_alongside : (state : State) (space from to serial set : ℕ) (names : Names) → finmap.get state.spaces space ≡ Some names → finmap.get names from ≡ Some Set → finmap.get names to ≡ None → HeldIn (finmap.entries names) serial → set ≡ to
+    → IsHeldAlongsideSet (with_names state space (moved_names names from to Set)) serial set
+moved_alongside state space from to serial set names there at free held is_to =
     let after : Names = moved_names names from to Set in
     let at_name : finmap.get names held.name ≡ Some held.entry = get-entries names held.name ∙ held.at in
     let apart : held.name ≢ from = λ (same : _). cc (sym (ap received_port (some_same held.entry Set (sym at_name ∙ ap (finmap.get names) same ∙ at))) ∙ held.is) in (
@@ -220,22 +220,22 @@ moved_beside state space from to serial set names there at free held is_to =
     )
 
 -- and any other stays where it was
-not_moved_beside : (state : State) (space from to serial set : ℕ) (names : Names) → finmap.get state.spaces space ≡ Some names → finmap.get names from ≡ Some Set → finmap.get names to ≡ None
-    → ((name : ℕ) (entry : Entry) → finmap.get names name ≡ Some entry → received_port entry ≡ Some serial → set ≢ from) → IsHeldBesideSet state serial set → IsHeldBesideSet (with_names state space (moved_names names from to Set)) serial set
-not_moved_beside state space from to serial set names there at free apart (other, held_names, name, e, at_space, at_name, is, beside) =
+not_moved_alongside : (state : State) (space from to serial set : ℕ) (names : Names) → finmap.get state.spaces space ≡ Some names → finmap.get names from ≡ Some Set → finmap.get names to ≡ None
+    → ((name : ℕ) (entry : Entry) → finmap.get names name ≡ Some entry → received_port entry ≡ Some serial → set ≢ from) → IsHeldAlongsideSet state serial set → IsHeldAlongsideSet (with_names state space (moved_names names from to Set)) serial set
+not_moved_alongside state space from to serial set names there at free apart (other, held_names, name, e, at_space, at_name, is, alongside) =
     let after : Names = moved_names names from to Set in
-    elim (number_decided other space) as (λ _. IsHeldBesideSet (with_names state space after) serial set) [
-      | inl away ↦ (other, held_names, name, e, get-there state.spaces space after other away ∙ at_space, at_name, is, beside)
+    elim (number_decided other space) as (λ _. IsHeldAlongsideSet (with_names state space after) serial set) [
+      | inl away ↦ (other, held_names, name, e, get-there state.spaces space after other away ∙ at_space, at_name, is, alongside)
       | inr same ↦
           let same_names : held_names ≡ names = some_same held_names names (sym at_space ∙ ap (finmap.get state.spaces) same ∙ there) in
           let at_here : finmap.get names name ≡ Some e = ap (λ (n : Names). finmap.get n name) (sym same_names) ∙ at_name in
-          beside_moved state space from to serial set names Set there at free (λ (_ : _). apart name e at_here is) (other, held_names, name, e, at_space, at_name, is, beside)
+          alongside_moved state space from to serial set names Set there at free (λ (_ : _). apart name e at_here is) (other, held_names, name, e, at_space, at_name, is, alongside)
     ]
 
-set_moved : (old : State) (space from to : ℕ) (names : Names) → LawfulAtRest old → Grounded old → finmap.get old.spaces space ≡ Some names → finmap.get names from ≡ Some Set → IsUnused names to
+set_moved : (old : State) (space from to : ℕ) (names : Names) → LawfulAtRest old → Acyclic old → finmap.get old.spaces space ≡ Some names → finmap.get names from ≡ Some Set → IsUnused names to
     → Kept (with_names (actions.members_in old names from (Some to)) space (moved_names names from to Set)) []
-set_moved old space from to names lawful grounded there at unused =
-    let mid : MidCall old empty_hand = mid_of old lawful grounded in
+set_moved old space from to names lawful acyclic there at unused =
+    let mid : MidCall old empty_hand = mid_of old lawful acyclic in
     let serials : List ℕ = actions.serials_of_members old names from in
     let along : State = actions.with_ports old serials (put_in to) in
     let put : PutIn old along serials to = all_put_in old serials to in
@@ -249,29 +249,29 @@ set_moved old space from to names lawful grounded there at unused =
       none_dangles = λ (q : ℕ) (dead : _). weighs (any_of q) ∙ mid.none_dangles q (sym (put.lives q) ∙ dead);
       in_hand = λ (q : ℕ) (dead : _). refl;
       members = λ (serial set : ℕ) (port : PortState) (live : _) (is : _).
-          elim (put.members serial set port live is) as (λ _. IsHeldBesideSet (with_names along space after) serial set) [
-            | inl moved ↦ moved_beside along space from to serial set names there_along at unused.free (among_held (is_member old from) (finmap.entries names) serial (entries_sorted names) moved.0) moved.1
+          elim (put.members serial set port live is) as (λ _. IsHeldAlongsideSet (with_names along space after) serial set) [
+            | inl moved ↦ moved_alongside along space from to serial set names there_along at unused.free (among_held (is_member old from) (finmap.entries names) serial (entries_sorted names) moved.0) moved.1
             | inr before ↦
-                let held : IsHeldBesideSet old serial set = mid.members serial set before.1 before.2 before.3 in
-                let held_along : IsHeldBesideSet along serial set = subst (λ (s : finmap.FinMap nat_cmp Names). IsHeldBesideSet (record old { spaces = s }) serial set) (sym put.spaces) held in
-                not_moved_beside along space from to serial set names there_along at unused.free
+                let held : IsHeldAlongsideSet old serial set = mid.members serial set before.1 before.2 before.3 in
+                let held_along : IsHeldAlongsideSet along serial set = subst (λ (s : finmap.FinMap nat_cmp Names). IsHeldAlongsideSet (record old { spaces = s }) serial set) (sym put.spaces) held in
+                not_moved_alongside along space from to serial set names there_along at unused.free
                 (λ (name : ℕ) (entry : Entry) (named : _) (receives : _) (same : set ≡ from).
                 before.0 (found_among (is_member old from) (finmap.entries names) name serial entry (sym (get-entries names name) ∙ named)
                 (member_of old from serial entry before.1 receives before.2 (before.3 ∙ ap (λ k. Some k) same)) receives)) held_along
           ];
-      grounded = fewer_edges old (with_names along space after) put.edges mid.grounded;
+      acyclic = fewer_edges old (with_names along space after) put.edges mid.acyclic;
     }) tt (λ (q : ℕ). refl)
 
-renamed_kept : (old : State) (space from to : ℕ) (names : Names) (entry : Entry) → LawfulAtRest old → Grounded old → finmap.get old.spaces space ≡ Some names → finmap.get names from ≡ Some entry → IsUnused names to → Kept (actions.renamed old space names from to entry) []
-renamed_kept old space from to names (Port rights) lawful grounded there at unused = entry_moved old space from to names (Port rights) (λ (e : _). cc e) lawful grounded there at unused
-renamed_kept old space from to names (SendOnce port target) lawful grounded there at unused = entry_moved old space from to names (SendOnce port target) (λ (e : _). cc e) lawful grounded there at unused
-renamed_kept old space from to names Set lawful grounded there at unused = set_moved old space from to names lawful grounded there at unused
-renamed_kept old space from to names (Dead references) lawful grounded there at unused = entry_moved old space from to names (Dead references) (λ (e : _). cc e) lawful grounded there at unused
+renamed_kept : (old : State) (space from to : ℕ) (names : Names) (entry : Entry) → LawfulAtRest old → Acyclic old → finmap.get old.spaces space ≡ Some names → finmap.get names from ≡ Some entry → IsUnused names to → Kept (actions.renamed old space names from to entry) []
+renamed_kept old space from to names (Port rights) lawful acyclic there at unused = entry_moved old space from to names (Port rights) (λ (e : _). cc e) lawful acyclic there at unused
+renamed_kept old space from to names (SendOnce port target) lawful acyclic there at unused = entry_moved old space from to names (SendOnce port target) (λ (e : _). cc e) lawful acyclic there at unused
+renamed_kept old space from to names Set lawful acyclic there at unused = set_moved old space from to names lawful acyclic there at unused
+renamed_kept old space from to names (Dead references) lawful acyclic there at unused = entry_moved old space from to names (Dead references) (λ (e : _). cc e) lawful acyclic there at unused
 
-pub rename_kept : (old : State) (space from to : ℕ) (names : Names) (answer : Reply) (new : State) (effects : List Effect) → to < 2 ^ 32 → LawfulAtRest old → Grounded old → finmap.get old.spaces space ≡ Some names
+pub rename_kept : (old : State) (space from to : ℕ) (names : Names) (answer : Reply) (new : State) (effects : List Effect) → to < 2 ^ 32 → LawfulAtRest old → Acyclic old → finmap.get old.spaces space ≡ Some names
     → first_failing (tests_of old space names (call.Rename from to)) ≡ None → Done old space names (call.Rename from to) answer new effects → Kept new effects
 unfolding Done tests_of
-rename_kept old space from to names answer new effects fits lawful grounded there passes done =
+rename_kept old space from to names answer new effects fits lawful acyclic there passes done =
     let last : Tests = (is_in_use names to, NameExists) ∷ [] in
     let named = first_passes (is_no_name names from, InvalidName) ((is_null_or_dead to, InvalidValue) ∷ last) passes in
     let real = first_passes (is_null_or_dead to, InvalidValue) last named.1 in
@@ -280,5 +280,5 @@ rename_kept old space from to names answer new effects fits lawful grounded ther
       | None ↦ λ (_ : _) (acts : _). absurd acts
       | Some entry ↦ λ (at : _) (acts : _).
           subst (λ (s : State). Kept s effects) (sym acts.1) (subst (λ (l : List Effect). Kept (actions.renamed old space names from to entry) l) (sym acts.2)
-          (renamed_kept old space from to names entry lawful grounded there at (chosen_unused names to real.0 free.0 fits)))
+          (renamed_kept old space from to names entry lawful acyclic there at (chosen_unused names to real.0 free.0 fits)))
     ] refl done

@@ -20,7 +20,7 @@ use Rattle.ipc_model.specs.declared.port.PortState.{PortState}
 use Rattle.ipc_model.specs.calls.Actions.{Done, Requested, TakenTarget, taken_target, GivesBack, request_set, request_set_under, port_request_set, dead_name_request_set, lacks_senders, make_send_count_of}
 use Rattle.ipc_laws.specs.Arrivals.{fresh_mid}
 use Rattle.ipc_laws.specs.CallsKeep.{Kept, first_passes, received_weighs}
-use Rattle.ipc_model.specs.state.Circular.{Grounded}
+use Rattle.ipc_model.specs.state.Circular.{Acyclic}
 use Rattle.ipc_model.specs.rights.CopyIn.{Taken, copy_in}
 use Rattle.ipc_model.specs.rights.Dispositions.{Disposition, MoveSendOnce, MakeSendOnce, received_kind}
 use Rattle.ipc_model.specs.effects.Effects.{Effect, notify}
@@ -137,7 +137,7 @@ destroyed_step state serial port target mid at =
       receives = λ (q : ℕ). omega arith;
       none_dead = λ (q : ℕ) (dead : _). omega arith;
       set = λ (set : ℕ) (is : _). is;
-      grounded = fewer_edges state (with_port state serial (with_destroyed target)) (changed_edges state serial (with_destroyed target) (λ (inner : ℕ) (p : PortState) (e : _). e)) mid.grounded;
+      acyclic = fewer_edges state (with_port state serial (with_destroyed target)) (changed_edges state serial (with_destroyed target) (λ (inner : ℕ) (p : PortState) (e : _). e)) mid.acyclic;
     }
 
 senders_step : (state : State) (serial : ℕ) (port : PortState) (target : Option ℕ) → MidCall state (target_hand target) → finmap.get state.ports serial ≡ Some port
@@ -151,7 +151,7 @@ senders_step state serial port target mid at =
       receives = λ (q : ℕ). omega arith;
       none_dead = λ (q : ℕ) (dead : _). omega arith;
       set = λ (set : ℕ) (is : _). is;
-      grounded = fewer_edges state (with_port state serial (with_senders target)) (changed_edges state serial (with_senders target) (λ (inner : ℕ) (p : PortState) (e : _). e)) mid.grounded;
+      acyclic = fewer_edges state (with_port state serial (with_senders target)) (changed_edges state serial (with_senders target) (λ (inner : ℕ) (p : PortState) (e : _). e)) mid.acyclic;
     }
 
 set_of_port : (state : State) (space serial variant sync : ℕ) (names : Names) (port : PortState) (target : Option ℕ) → MidCall state (target_hand target) → finmap.get state.spaces space ≡ Some names → finmap.get state.ports serial ≡ Some port
@@ -274,18 +274,18 @@ target_in_hand space serial taken mid port once =
     λ (w : Weight). omega (arith, ap (λ (p : PortInMessage). with_right empty_hand (record { kind = taken.right.kind; port = p }) w) port, ap (λ (k : RightKind). w k serial) once) in
     mid_hand taken.state (with_right empty_hand taken.right) (target_hand (Some serial)) mid.mid (λ (q : ℕ). sym (weighs (receive_of q))) (λ (q : ℕ) (dead : _). omega (arith, weighs (any_of q)))
 
-by_null : (old : State) (space name variant sync disposition : ℕ) (names : Names) (answer : Reply) (new : State) (effects : List Effect) → LawfulAtRest old → Grounded old → finmap.get old.spaces space ≡ Some names
+by_null : (old : State) (space name variant sync disposition : ℕ) (names : Names) (answer : Reply) (new : State) (effects : List Effect) → LawfulAtRest old → Acyclic old → finmap.get old.spaces space ≡ Some names
     → first_failing (tests_of_request old space name variant sync true) ≡ None → Requested old space name variant sync (taken_target old None) answer new effects → Kept new effects
-by_null old space name variant sync disposition names answer new effects lawful grounded there passes done =
-    let mid : MidCall old (target_hand None) = mid_hand old empty_hand (target_hand None) (mid_of old lawful grounded) (λ (q : ℕ). refl) (λ (q : ℕ) (dead : _). omega arith) in
+by_null old space name variant sync disposition names answer new effects lawful acyclic there passes done =
+    let mid : MidCall old (target_hand None) = mid_hand old empty_hand (target_hand None) (mid_of old lawful acyclic) (λ (q : ℕ). refl) (λ (q : ℕ) (dead : _). omega arith) in
     requested_kept space name variant sync true (taken_target old None) names answer new effects mid quiet_none there (λ (some : _). absurd (cc some)) passes done
 
-by_name : (old : State) (space name variant sync notify_name disposition : ℕ) (names : Names) (answer : Reply) (new : State) (effects : List Effect) → LawfulAtRest old → Grounded old → finmap.get old.spaces space ≡ Some names
+by_name : (old : State) (space name variant sync notify_name disposition : ℕ) (names : Names) (answer : Reply) (new : State) (effects : List Effect) → LawfulAtRest old → Acyclic old → finmap.get old.spaces space ≡ Some names
     → first_failing (tests_of_copy_in old space notify_name (notify_disposition disposition) InvalidCapability (λ taken serial. tests_of_request taken.state space name variant sync false)) ≡ None
     → Requested old space name variant sync (taken_target old (option_and_then (copy_in old space notify_name) (notify_disposition disposition))) answer new effects → Kept new effects
-by_name old space name variant sync notify_name disposition names answer new effects lawful grounded there passes done =
+by_name old space name variant sync notify_name disposition names answer new effects lawful acyclic there passes done =
     let copied = copied_in old space notify_name (notify_disposition disposition) InvalidCapability (λ taken serial. tests_of_request taken.state space name variant sync false) passes in
-    let mid = taken_mid old empty_hand space notify_name names copied.by copied.taken (mid_of old lawful grounded) there copied.is in
+    let mid = taken_mid old empty_hand space notify_name names copied.by copied.taken (mid_of old lawful acyclic) there copied.is in
     let once : copied.taken.right.kind ≡ kind.SendOnce = kind_taken old space notify_name copied.by copied.taken copied.is ∙ once_only disposition copied.by copied.known in
     let target : live_port copied.taken.right.port ≡ Some copied.serial = ap live_port copied.port in
     let in_hand : MidCall copied.taken.state (target_hand (live_port copied.taken.right.port)) = subst (λ (o : Option ℕ). MidCall copied.taken.state (target_hand o)) (sym target) (target_in_hand space copied.serial copied.taken mid copied.port once) in
@@ -293,10 +293,10 @@ by_name old space name variant sync notify_name disposition names answer new eff
     requested_kept space name variant sync false (taken_target old (Some copied.taken)) mid.names answer new effects in_hand mid.quiet mid.there (λ (_ : _). refl) copied.passes
     (subst (λ (o : Option Taken). Requested old space name variant sync (taken_target old o) answer new effects) taken_is done)
 
-pub request_kept : (old : State) (space name variant sync notify_name disposition : ℕ) (names : Names) (answer : Reply) (new : State) (effects : List Effect) → LawfulAtRest old → Grounded old → finmap.get old.spaces space ≡ Some names
+pub request_kept : (old : State) (space name variant sync notify_name disposition : ℕ) (names : Names) (answer : Reply) (new : State) (effects : List Effect) → LawfulAtRest old → Acyclic old → finmap.get old.spaces space ≡ Some names
     → first_failing (tests_of old space names (call.RequestNotification name variant sync notify_name disposition)) ≡ None → Done old space names (call.RequestNotification name variant sync notify_name disposition) answer new effects → Kept new effects
 unfolding Done tests_of
-request_kept old space name variant sync notify_name disposition names answer new effects lawful grounded there passes done =
+request_kept old space name variant sync notify_name disposition names answer new effects lawful acyclic there passes done =
     let last : Tests = tests_of_notify old space name variant sync notify_name disposition in
     let second : Tests = (not (notify_name == MACH_PORT_NULL) && is_none (notify_disposition disposition), InvalidValue) ∷ last in
     let known = (first_passes (not (is_variant variant), InvalidValue) second passes).1 in
@@ -304,6 +304,6 @@ request_kept old space name variant sync notify_name disposition names answer ne
     elim (notify_name == MACH_PORT_NULL) as (λ (b : Bool).
     first_failing (if b then tests_of_request old space name variant sync true else tests_of_copy_in old space notify_name (notify_disposition disposition) InvalidCapability (λ taken serial. tests_of_request taken.state space name variant sync false)) ≡ None
     → Requested old space name variant sync (if b then taken_target old None else taken_target old (option_and_then (copy_in old space notify_name) (notify_disposition disposition))) answer new effects → Kept new effects) [
-      | true ↦ λ (tests : _) (acts : _). by_null old space name variant sync disposition names answer new effects lawful grounded there tests acts
-      | false ↦ λ (tests : _) (acts : _). by_name old space name variant sync notify_name disposition names answer new effects lawful grounded there tests acts
+      | true ↦ λ (tests : _) (acts : _). by_null old space name variant sync disposition names answer new effects lawful acyclic there tests acts
+      | false ↦ λ (tests : _) (acts : _). by_name old space name variant sync notify_name disposition names answer new effects lawful acyclic there tests acts
     ] later done

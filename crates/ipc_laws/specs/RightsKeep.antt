@@ -23,14 +23,14 @@ use Rattle.ipc_model.specs.calls.Actions.{Done, Inserted, Extracted, Created, Is
 use Rattle.ipc_laws.specs.AllocateKeep.{chosen_unused}
 use Rattle.ipc_laws.specs.Arrivals.{HasName, with_one, arrived_mid, fresh_arrived, merged_after}
 use Rattle.ipc_laws.specs.CallsKeep.{Kept, first_passes}
-use Rattle.ipc_model.specs.state.Circular.{Grounded}
+use Rattle.ipc_model.specs.state.Circular.{Acyclic}
 use Rattle.ipc_model.specs.rights.CopyIn.{Taken, copy_in}
-use Rattle.ipc_model.specs.rights.CopyOut.{merged_entry, names_after, wants_name, names_wanted}
+use Rattle.ipc_model.specs.rights.CopyOut.{merged_entry, names_after, wants_name, names_needed}
 use Rattle.ipc_laws.specs.Dangling.{not_equal}
 use Rattle.ipc_model.specs.rights.Dispositions.{Disposition, disposition_of}
 use Rattle.ipc_model.specs.effects.Effects.{Effect}
 use Rattle.ipc_laws.specs.Hands.{Hand, MidCall, empty_hand, mid_of, kept_of_mid}
-use Rattle.ipc_model.specs.state.Lawful.{LawfulNames, IsHeldBesideSet}
+use Rattle.ipc_model.specs.state.Lawful.{LawfulNames, IsHeldAlongsideSet}
 use Rattle.ipc_laws.specs.LawfulLaws.{LawfulAtRest}
 use Rattle.ipc_laws.specs.ListLaws.{some_same}
 use Rattle.ipc_laws.specs.MapLaws.{get-here, get-there}
@@ -88,28 +88,28 @@ done_with_notices state new notices effects space hand taken mid after same are 
 
 -- mach_port_extract_right
 
-room_for : (names : Names) (right : CarriedRight) → nat_lt MAX_NAMES (finmap.len names + names_wanted names [] (right ∷ [])) ≡ false → wants_name names [] right.kind right.port ≡ true → finmap.len names < MAX_NAMES
+room_for : (names : Names) (right : CarriedRight) → nat_lt MAX_NAMES (finmap.len names + names_needed names [] (right ∷ [])) ≡ false → wants_name names [] right.kind right.port ≡ true → finmap.len names < MAX_NAMES
 room_for names right fits wants =
     let one : (if wants_name names [] right.kind right.port then 1 else 0) ≡ 1 = ap {B = ℕ} (λ (b : Bool). if b then 1 else 0) wants in
-    omega (arith, one, ltb-false MAX_NAMES (finmap.len names + names_wanted names [] (right ∷ [])) fits)
+    omega (arith, one, ltb-false MAX_NAMES (finmap.len names + names_needed names [] (right ∷ [])) fits)
 
 extracted_kept : (old : State) (space : ℕ) (taken : Taken) (answer : Reply) (new : State) (effects : List Effect) → MidTaken space empty_hand taken
-    → nat_lt MAX_NAMES (finmap.len (names_in taken.state space) + names_wanted (names_in taken.state space) [] (taken.right ∷ [])) ≡ false → Extracted (Some taken) space answer new effects → Kept new effects
+    → nat_lt MAX_NAMES (finmap.len (names_in taken.state space) + names_needed (names_in taken.state space) [] (taken.right ∷ [])) ≡ false → Extracted (Some taken) space answer new effects → Kept new effects
 extracted_kept old space taken answer new effects mid fits (name, _, (may, same, are)) =
     let here : names_in taken.state space ≡ mid.names = names_are taken.state space mid.names mid.there in
     let arrived = arrived_mid taken.state space (names_in taken.state space) empty_hand taken.right.kind taken.right.port name mid.mid (mid.there ∙ ap (λ n. Some n) (sym here)) may (room_for (names_in taken.state space) taken.right fits) in
     done_with_notices (with_names taken.state space (names_after (names_in taken.state space) taken.right.kind taken.right.port name)) new taken.notices effects space empty_hand taken mid arrived.mid same are
 
-pub extract_kept : (old : State) (space name disposition : ℕ) (names : Names) (answer : Reply) (new : State) (effects : List Effect) → LawfulAtRest old → Grounded old → finmap.get old.spaces space ≡ Some names
+pub extract_kept : (old : State) (space name disposition : ℕ) (names : Names) (answer : Reply) (new : State) (effects : List Effect) → LawfulAtRest old → Acyclic old → finmap.get old.spaces space ≡ Some names
     → first_failing (tests_of old space names (call.ExtractRight name disposition)) ≡ None → Done old space names (call.ExtractRight name disposition) answer new effects → Kept new effects
 unfolding Done tests_of
-extract_kept old space name disposition names answer new effects lawful grounded there passes done =
+extract_kept old space name disposition names answer new effects lawful acyclic there passes done =
     let last : Tests = tests_of_copy_in old space name (disposition_of disposition) InvalidRight (tests_of_extract space) in
     let known = (first_passes (is_none (disposition_of disposition), InvalidValue) ((is_no_name names name, InvalidName) ∷ last) passes).1 in
     let in_use = (first_passes (is_no_name names name, InvalidName) last known).1 in
     let copied = copied_in old space name (disposition_of disposition) InvalidRight (tests_of_extract space) in_use in
-    let mid = taken_mid old empty_hand space name names copied.by copied.taken (mid_of old lawful grounded) there copied.is in
-    let room = (first_passes (nat_lt MAX_NAMES (finmap.len (names_in copied.taken.state space) + names_wanted (names_in copied.taken.state space) [] (copied.taken.right ∷ [])), NoSpace) [] copied.passes).0 in
+    let mid = taken_mid old empty_hand space name names copied.by copied.taken (mid_of old lawful acyclic) there copied.is in
+    let room = (first_passes (nat_lt MAX_NAMES (finmap.len (names_in copied.taken.state space) + names_needed (names_in copied.taken.state space) [] (copied.taken.right ∷ [])), NoSpace) [] copied.passes).0 in
     extracted_kept old space copied.taken answer new effects mid room
     (subst (λ (o : Option Taken). Extracted o space answer new effects) (taken_is old space name disposition copied.by copied.taken copied.known copied.is) done)
 
@@ -186,14 +186,14 @@ inserted_kept old space name serial taken new effects fits real mid port passes 
     subst (λ (p : PortInMessage). MidCall (with_names taken.state space (names_after names what p name)) empty_hand) (sym port) after in
     done_with_notices (with_names taken.state space (names_after names what taken.right.port name)) new taken.notices effects space empty_hand taken mid as_said done.0 done.1
 
-pub insert_kept : (old : State) (space name right_name disposition : ℕ) (names : Names) (answer : Reply) (new : State) (effects : List Effect) → name < 2 ^ 32 → LawfulAtRest old → Grounded old → finmap.get old.spaces space ≡ Some names
+pub insert_kept : (old : State) (space name right_name disposition : ℕ) (names : Names) (answer : Reply) (new : State) (effects : List Effect) → name < 2 ^ 32 → LawfulAtRest old → Acyclic old → finmap.get old.spaces space ≡ Some names
     → first_failing (tests_of old space names (call.InsertRight name right_name disposition)) ≡ None → Done old space names (call.InsertRight name right_name disposition) answer new effects → Kept new effects
 unfolding Done tests_of
-insert_kept old space name right_name disposition names answer new effects fits lawful grounded there passes done =
+insert_kept old space name right_name disposition names answer new effects fits lawful acyclic there passes done =
     let last : Tests = tests_of_copy_in old space right_name (disposition_of disposition) InvalidCapability (tests_of_insert space name) in
     let real = first_passes (is_null_or_dead name, InvalidValue) last passes in
     let copied = copied_in old space right_name (disposition_of disposition) InvalidCapability (tests_of_insert space name) real.1 in
-    let mid = taken_mid old empty_hand space right_name names copied.by copied.taken (mid_of old lawful grounded) there copied.is in
+    let mid = taken_mid old empty_hand space right_name names copied.by copied.taken (mid_of old lawful acyclic) there copied.is in
     inserted_kept old space name copied.serial copied.taken new effects fits real.0 mid copied.port copied.passes
     (subst (λ (o : Option Taken). Inserted o space name new effects) (taken_is old space right_name disposition copied.by copied.taken copied.known copied.is) done.1)
 
@@ -206,10 +206,10 @@ new_space_weighs : (w : Weight) (state : State) (number : ℕ) → finmap.get st
 unfolding state_weigh
 new_space_weighs w state number free = omega (arith, total-new (λ s n. names_weigh w n) state.spaces number finmap.empty free, no_names_weigh w)
 
-held_elsewhere : (state : State) (number serial set : ℕ) (names : Names) → finmap.get state.spaces number ≡ None → IsHeldBesideSet state serial set → IsHeldBesideSet (with_names state number names) serial set
-held_elsewhere state number serial set names free (space, held_names, name, entry, there, at, is, beside) =
+held_elsewhere : (state : State) (number serial set : ℕ) (names : Names) → finmap.get state.spaces number ≡ None → IsHeldAlongsideSet state serial set → IsHeldAlongsideSet (with_names state number names) serial set
+held_elsewhere state number serial set names free (space, held_names, name, entry, there, at, is, alongside) =
     let apart : space ≢ number = λ (same : _). cc (sym free ∙ ap (finmap.get state.spaces) (sym same) ∙ there) in
-    (space, held_names, name, entry, get-there state.spaces number names space apart ∙ there, at, is, beside)
+    (space, held_names, name, entry, get-there state.spaces number names space apart ∙ there, at, is, alongside)
 
 new_space_mid : (state : State) (number : ℕ) (hand : Hand) → IsUnusedSpace state number → MidCall state hand → MidCall (with_names state number finmap.empty) hand
 new_space_mid state number hand unused mid = record {
@@ -227,7 +227,7 @@ new_space_mid state number hand unused mid = record {
   none_dangles = λ (q : ℕ) (dead : _). new_space_weighs (any_of q) state number unused.free ∙ mid.none_dangles q dead;
   in_hand = mid.in_hand;
   members = λ (serial set : ℕ) (port : PortState) (at : _) (is : _). held_elsewhere state number serial set finmap.empty unused.free (mid.members serial set port at is);
-  grounded = mid.grounded;
+  acyclic = mid.acyclic;
 }
 
 created_kept : (space : ℕ) (taken : Taken) (answer : Reply) (new : State) (effects : List Effect) → MidTaken space empty_hand taken → Created (Some taken) answer new effects → Kept new effects
@@ -241,15 +241,15 @@ created_kept space taken answer new effects mid (number, name, unused, _, may, s
     subst (λ (s : finmap.FinMap nat_cmp Names). MidCall (record taken.state { spaces = s }) empty_hand) (insert-insert taken.state.spaces number finmap.empty named) arrived.mid in
     done_with_notices (with_names taken.state number named) new taken.notices effects space empty_hand taken mid one_state same are
 
-pub create_kept : (old : State) (space name disposition : ℕ) (names : Names) (answer : Reply) (new : State) (effects : List Effect) → LawfulAtRest old → Grounded old → finmap.get old.spaces space ≡ Some names
+pub create_kept : (old : State) (space name disposition : ℕ) (names : Names) (answer : Reply) (new : State) (effects : List Effect) → LawfulAtRest old → Acyclic old → finmap.get old.spaces space ≡ Some names
     → first_failing (tests_of old space names (call.SpaceCreate name disposition)) ≡ None → Done old space names (call.SpaceCreate name disposition) answer new effects → Kept new effects
 unfolding Done tests_of
-create_kept old space name disposition names answer new effects lawful grounded there passes done =
+create_kept old space name disposition names answer new effects lawful acyclic there passes done =
     let few : Taken → ℕ → Tests = λ taken serial. (nat_le MAX_SPACES (finmap.len old.spaces), ResourceShortage) ∷ [] in
     let last : Tests = tests_of_copy_in old space name (disposition_of disposition) InvalidRight few in
     let known = (first_passes (is_none (disposition_of disposition), InvalidValue) ((is_no_name names name, InvalidName) ∷ last) passes).1 in
     let in_use = (first_passes (is_no_name names name, InvalidName) last known).1 in
     let copied = copied_in old space name (disposition_of disposition) InvalidRight few in_use in
-    let mid = taken_mid old empty_hand space name names copied.by copied.taken (mid_of old lawful grounded) there copied.is in
+    let mid = taken_mid old empty_hand space name names copied.by copied.taken (mid_of old lawful acyclic) there copied.is in
     created_kept space copied.taken answer new effects mid
     (subst (λ (o : Option Taken). Created o answer new effects) (taken_is old space name disposition copied.by copied.taken copied.known copied.is) done)

@@ -4,8 +4,8 @@ use Rattle.std.proofs.Common.{refl, subst}
 use Rattle.ipc_model.specs.declared.record.Record.{Record}
 use Rattle.ipc_model.specs.state.State.{State}
 use Rattle.ipc_model.specs.calls.Step.{Step, Run}
-use Rattle.ipc_model.specs.texts.Texts.{kept_record}
-use Rattle.ipc_laws.specs.KeptLaws.{made_as_kept}
+use Rattle.ipc_model.specs.encodings.Encodings.{canonical_record}
+use Rattle.ipc_laws.specs.CanonicalLaws.{made_as_canonical}
 use Rattle.ipc_laws.specs.StepsKeep.{FitCalls}
 
 -- one more step
@@ -20,12 +20,12 @@ run_split old new (first ∷ records) more run =
     let later = run_split run.0 new records more run.2 in (later.0, (run.0, run.1, later.1), later.2)
 
 -- Records and what is kept of them run alike.
-abbrev pub RecordsRunAsKept : Type 0
-RecordsRunAsKept = (old : State) (records : List Record) (new : State) → FitCalls records → Run old (map kept_record records) new ↔ Run old records new
+abbrev pub RecordsRunAsCanonical : Type 0
+RecordsRunAsCanonical = (old : State) (records : List Record) (new : State) → FitCalls records → Run old (map canonical_record records) new ↔ Run old records new
 
-pub run_as_kept : RecordsRunAsKept
-run_as_kept old [] new fits = ((λ run. run), (λ run. run))
-run_as_kept old (first ∷ records) new fits =
-    let here = λ (mid : State). made_as_kept old first.space first.call first.reply mid fits.0 in
-    let there = λ (mid : State). run_as_kept mid records new fits.1 in
+pub run_as_canonical : RecordsRunAsCanonical
+run_as_canonical old [] new fits = ((λ run. run), (λ run. run))
+run_as_canonical old (first ∷ records) new fits =
+    let here = λ (mid : State). made_as_canonical old first.space first.call first.reply mid fits.0 in
+    let there = λ (mid : State). run_as_canonical mid records new fits.1 in
     ((λ run. (run.0, (here run.0).0 run.1, (there run.0).0 run.2)), (λ run. (run.0, (here run.0).1 run.1, (there run.0).1 run.2)))

@@ -17,7 +17,7 @@ use Rattle.ipc_model.specs.declared.message.PortInMessage.TheVariants.{Null, Liv
 use Rattle.ipc_model.specs.declared.message.RightKind.TheVariants as kind
 use Rattle.ipc_model.specs.declared.port.PortState.{PortState}
 use Rattle.ipc_laws.specs.CallsKeep.{Kept, kept_as}
-use Rattle.ipc_model.specs.state.Circular.{Grounded, is_circular, is_receive_right, is_port, meets}
+use Rattle.ipc_model.specs.state.Circular.{Acyclic, is_circular, is_receive_right, is_port, meets}
 use Rattle.ipc_model.specs.effects.Effects.{Effect, Outcome, release, releases_of, queued}
 use Rattle.ipc_laws.specs.EffectRanks.{queued_edges}
 use Rattle.ipc_laws.specs.EffectWeights.{releases_carry, lives_some}
@@ -91,9 +91,9 @@ carried_one state queue rank (right ∷ rights) inner any none =
 raised : State → (ℕ → ℕ) → ℕ → ℕ → ℕ → ℕ
 raised state rank queue more x = rank x + cond (meets state (finmap.len state.ports) x queue) more 0
 
-queued_grounded : (state : State) (queue : ℕ) (message : Message) → TravelsOnce state → list_any (goes_in_circle state queue) message.rights ≡ false → Grounded state → Grounded (queued state queue message)
+queued_acyclic : (state : State) (queue : ℕ) (message : Message) → TravelsOnce state → list_any (goes_in_circle state queue) message.rights ≡ false → Acyclic state → Acyclic (queued state queue message)
 unfolding raised is_circular
-queued_grounded state queue message once none (rank, grows) =
+queued_acyclic state queue message once none (rank, grows) =
     let n : ℕ = finmap.len state.ports in
     let more : ℕ = heavy rank message.rights in (
       raised state rank queue more,
@@ -140,7 +140,7 @@ queued_kept ready is none =
       receives = λ (q : ℕ). omega (arith, weighs (receive_of q));
       none_dead = λ (q : ℕ) (dead : _). omega (arith, weighs (any_of q));
       set = λ (set : ℕ) (e : _). e;
-      grounded = queued_grounded ready.state ready.port ready.message (mid_travels_once ready.state hand is.mid) none is.mid.grounded;
+      acyclic = queued_acyclic ready.state ready.port ready.message (mid_travels_once ready.state hand is.mid) none is.mid.acyclic;
     }) is.mid in
     kept_of_mid (queued ready.state ready.port ready.message) empty_hand ready.notices mid is.quiet.waits is.quiet.receives
 
@@ -164,11 +164,11 @@ sent_kept ready is =
       | false ↦ λ (none : _). queued_kept ready is none
     ] refl
 
-pub send_kept : (old : State) (space : ℕ) (names : Names) (message : List ℕ) (answer : Reply) (new : State) (effects : List Effect) → AreBytes message → LawfulAtRest old → Grounded old → finmap.get old.spaces space ≡ Some names
+pub send_kept : (old : State) (space : ℕ) (names : Names) (message : List ℕ) (answer : Reply) (new : State) (effects : List Effect) → AreBytes message → LawfulAtRest old → Acyclic old → finmap.get old.spaces space ≡ Some names
     → ActsIn old space names (call.Send message) answer new effects → Kept new effects
-send_kept old space names message answer new effects fits lawful grounded there acts =
+send_kept old space names message answer new effects fits lawful acyclic there acts =
     elim (ready_to_send old space message) as (λ (r : Result Ready KernReturn). IfOk r MidReady → MatchResult r (λ (ready : Ready). (answer ≡ without_message Success 0 0) × (new ≡ (sent ready).0) × (effects ≡ (sent ready).1))
     (λ code. (answer ≡ without_message code 0 0) × (new ≡ old) × (effects ≡ [])) → Kept new effects) [
       | Ok ready ↦ λ (is : _) (done : _). subst (λ (s : State). Kept s effects) (sym done.1) (subst (λ (l : List Effect). Kept (sent ready).0 l) (sym done.2) (sent_kept ready is))
-      | Err code ↦ λ (_ : _) (refused : _). kept_as old new effects lawful grounded refused.1 refused.2
-    ] (ready_mid old space names message fits (mid_of old lawful grounded) there) acts
+      | Err code ↦ λ (_ : _) (refused : _). kept_as old new effects lawful acyclic refused.1 refused.2
+    ] (ready_mid old space names message fits (mid_of old lawful acyclic) there) acts

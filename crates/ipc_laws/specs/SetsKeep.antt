@@ -11,8 +11,8 @@ use Rattle.ipc_model.specs.declared.entry.Entry.TheVariants.{Port, SendOnce, Set
 use Rattle.ipc_model.specs.declared.port.PortState.{PortState}
 use Rattle.ipc_model.specs.calls.Actions as actions
 use Rattle.ipc_laws.specs.CallsKeep.{Kept}
-use Rattle.ipc_model.specs.state.Circular.{Grounded}
-use Rattle.ipc_model.specs.state.Lawful.{LawfulNames, IsHeldBesideSet, IsReleased}
+use Rattle.ipc_model.specs.state.Circular.{Acyclic}
+use Rattle.ipc_model.specs.state.Lawful.{LawfulNames, IsHeldAlongsideSet, IsReleased}
 use Rattle.ipc_laws.specs.LawfulLaws.{LawfulAtRest}
 use Rattle.ipc_laws.specs.ListLaws.{some_same}
 use Rattle.ipc_laws.specs.MapLaws.{get-here, get-there, get-left}
@@ -28,11 +28,11 @@ use Rattle.ipc_laws.specs.Weights.{Weight, entry_weigh, receive_of, any_of}
 abbrev pub taken_out : PortState → PortState
 taken_out p = record p { set = None }
 
-out_kept : (state : State) (serial : ℕ) → LawfulAtRest state → Grounded state → Kept (with_port state serial taken_out) []
-out_kept state serial lawful grounded =
+out_kept : (state : State) (serial : ℕ) → LawfulAtRest state → Acyclic state → Kept (with_port state serial taken_out) []
+out_kept state serial lawful acyclic =
     elim (finmap.get state.ports serial) as (λ (o : Option PortState). finmap.get state.ports serial ≡ o → Kept (with_port state serial taken_out) []) [
       | None ↦ λ (none : _). subst (λ (s : State). Kept s [])
-          (sym (ap (λ (o : Option PortState). elim o as (λ _. State) [ None ↦ state | Some p ↦ record state { ports = finmap.insert state.ports serial (taken_out p) } ]) none)) (record { lawful = lawful; grounded = grounded })
+          (sym (ap (λ (o : Option PortState). elim o as (λ _. State) [ None ↦ state | Some p ↦ record state { ports = finmap.insert state.ports serial (taken_out p) } ]) none)) (record { lawful = lawful; acyclic = acyclic })
       | Some port ↦ λ (there : _).
           let move : PortMove state [] serial taken_out = record {
             port = port;
@@ -42,15 +42,15 @@ out_kept state serial lawful grounded =
             carried = λ (inner : ℕ) (p : PortState) (e : _). e;
             member = λ (set : ℕ) (is : _). absurd (cc is);
           } in
-          let kept = port_moves_lawfully state [] serial taken_out move lawful grounded in
-          record { lawful = kept.0; grounded = kept.1 }
+          let kept = port_moves_lawfully state [] serial taken_out move lawful acyclic in
+          record { lawful = kept.0; acyclic = kept.1 }
     ] refl
 
-pub all_out_kept : (state : State) (serials : List ℕ) → LawfulAtRest state → Grounded state → Kept (actions.with_ports state serials taken_out) []
-all_out_kept state [] lawful grounded = record { lawful = lawful; grounded = grounded }
-all_out_kept state (serial ∷ serials) lawful grounded =
-    let first = out_kept state serial lawful grounded in
-    all_out_kept (with_port state serial taken_out) serials first.lawful first.grounded
+pub all_out_kept : (state : State) (serials : List ℕ) → LawfulAtRest state → Acyclic state → Kept (actions.with_ports state serials taken_out) []
+all_out_kept state [] lawful acyclic = record { lawful = lawful; acyclic = acyclic }
+all_out_kept state (serial ∷ serials) lawful acyclic =
+    let first = out_kept state serial lawful acyclic in
+    all_out_kept (with_port state serial taken_out) serials first.lawful first.acyclic
 
 -- spaces stay
 pub all_out_spaces : (state : State) (serials : List ℕ) → (actions.with_ports state serials taken_out).spaces ≡ state.spaces
@@ -124,19 +124,19 @@ none_in_set old names set other name entry port at held there is =
 -- A set goes: its members are taken out, and its name ceases to be.
 
 -- a member that is held in another set's space is still held there
-beside_left : (state : State) (space name : ℕ) (names : Names) (serial set : ℕ) (port : PortState) → finmap.get state.spaces space ≡ Some names → finmap.get names name ≡ Some Set
+alongside_left : (state : State) (space name : ℕ) (names : Names) (serial set : ℕ) (port : PortState) → finmap.get state.spaces space ≡ Some names → finmap.get names name ≡ Some Set
     → ((member : ℕ) (entry : Entry) (p : PortState) → finmap.get names member ≡ Some entry → received_port entry ≡ Some serial → finmap.get state.ports serial ≡ Some p → p.set ≡ Some name → ⊥)
-    → finmap.get state.ports serial ≡ Some port → port.set ≡ Some set → IsHeldBesideSet state serial set → IsHeldBesideSet (with_names state space (finmap.remove names name)) serial set
-beside_left state space name names serial set port there at_set empty live is_in (other, held_names, member, entry, at_space, at, is, beside) =
-    elim (number_decided other space) as (λ _. IsHeldBesideSet (with_names state space (finmap.remove names name)) serial set) [
-      | inl apart ↦ (other, held_names, member, entry, get-there state.spaces space (finmap.remove names name) other apart ∙ at_space, at, is, beside)
+    → finmap.get state.ports serial ≡ Some port → port.set ≡ Some set → IsHeldAlongsideSet state serial set → IsHeldAlongsideSet (with_names state space (finmap.remove names name)) serial set
+alongside_left state space name names serial set port there at_set empty live is_in (other, held_names, member, entry, at_space, at, is, alongside) =
+    elim (number_decided other space) as (λ _. IsHeldAlongsideSet (with_names state space (finmap.remove names name)) serial set) [
+      | inl apart ↦ (other, held_names, member, entry, get-there state.spaces space (finmap.remove names name) other apart ∙ at_space, at, is, alongside)
       | inr same ↦
           let same_names : held_names ≡ names = some_same held_names names (sym at_space ∙ ap (finmap.get state.spaces) same ∙ there) in
           let at_here : finmap.get names member ≡ Some entry = ap (λ (n : Names). finmap.get n member) (sym same_names) ∙ at in
-          let beside_here : finmap.get names set ≡ Some Set = ap (λ (n : Names). finmap.get n set) (sym same_names) ∙ beside in
+          let alongside_here : finmap.get names set ≡ Some Set = ap (λ (n : Names). finmap.get n set) (sym same_names) ∙ alongside in
           let member_apart : member ≢ name = λ (e : member ≡ name). cc (sym (ap received_port (some_same entry Set (sym at_here ∙ ap (finmap.get names) e ∙ at_set))) ∙ is) in
           let set_apart : set ≢ name = λ (e : set ≡ name). empty member entry port at_here is live (is_in ∙ ap (λ (k : ℕ). Some k) e) in
-          (space, finmap.remove names name, member, entry, get-here state.spaces space (finmap.remove names name), get-left names name member member_apart ∙ at_here, is, get-left names name set set_apart ∙ beside_here)
+          (space, finmap.remove names name, member, entry, get-here state.spaces space (finmap.remove names name), get-left names name member member_apart ∙ at_here, is, get-left names name set set_apart ∙ alongside_here)
     ]
 
 set_move : (cleared : State) (space name : ℕ) (names : Names) → finmap.get cleared.spaces space ≡ Some names → finmap.get names name ≡ Some Set → LawfulNames names
@@ -148,29 +148,29 @@ set_move cleared space name names there at lawful empty = record {
   receives = λ (q : ℕ). omega (arith, total-remove (λ n e. entry_weigh (receive_of q) e) names name, ap (weight (λ n e. entry_weigh (receive_of q) e) name) at);
   none_dead = λ (q : ℕ) (dead : _). omega (arith, total-remove (λ n e. entry_weigh (any_of q) e) names name);
   waits = tt;
-  members = λ (serial set : ℕ) (port : PortState) (live : _) (is : _) (member : _). elim member as (λ _. IsHeldBesideSet (with_names cleared space (finmap.remove names name)) serial set ⊎ IsReleased [] serial) [
-    | inl held ↦ inl (beside_left cleared space name names serial set port there at (empty serial) live is held)
+  members = λ (serial set : ℕ) (port : PortState) (live : _) (is : _) (member : _). elim member as (λ _. IsHeldAlongsideSet (with_names cleared space (finmap.remove names name)) serial set ⊎ IsReleased [] serial) [
+    | inl held ↦ inl (alongside_left cleared space name names serial set port there at (empty serial) live is held)
     | inr waits ↦ inr waits
   ];
 }
 
-pub set_gone_kept : (old : State) (space name : ℕ) (names : Names) → LawfulAtRest old → Grounded old → finmap.get old.spaces space ≡ Some names → finmap.get names name ≡ Some Set
+pub set_gone_kept : (old : State) (space name : ℕ) (names : Names) → LawfulAtRest old → Acyclic old → finmap.get old.spaces space ≡ Some names → finmap.get names name ≡ Some Set
     → Kept (with_names (actions.members_in old names name None) space (finmap.remove names name)) []
-set_gone_kept old space name names lawful grounded there at =
+set_gone_kept old space name names lawful acyclic there at =
     let serials : List ℕ = actions.serials_of_members old names name in
     let cleared : State = actions.with_ports old serials taken_out in
-    let kept = all_out_kept old serials lawful grounded in
+    let kept = all_out_kept old serials lawful acyclic in
     let there_still : finmap.get cleared.spaces space ≡ Some names = ap (λ (s : finmap.FinMap nat_cmp Names). finmap.get s space) (all_out_spaces old serials) ∙ there in
     record {
       lawful = names_move_lawfully cleared space names (finmap.remove names name) [] [] (set_move cleared space name names there_still at (lawful.spaces space names there).2
           (λ (other member : ℕ) (entry : Entry) (port : PortState) (at_member : _) (held : _) (live : _) (is : _). none_in_set old names name other member entry port at_member held live is)) kept.lawful;
-      grounded = kept.grounded;
+      acyclic = kept.acyclic;
     }
 
 -- mach_port_destroy: a set, or any other name
-pub destroyed_kept : (old : State) (space name : ℕ) (names : Names) (entry : Entry) → LawfulAtRest old → Grounded old → finmap.get old.spaces space ≡ Some names → finmap.get names name ≡ Some entry
+pub destroyed_kept : (old : State) (space name : ℕ) (names : Names) (entry : Entry) → LawfulAtRest old → Acyclic old → finmap.get old.spaces space ≡ Some names → finmap.get names name ≡ Some entry
     → Kept (actions.destroyed old space names name entry).state (actions.destroyed old space names name entry).effects
-destroyed_kept old space name names (Port rights) lawful grounded there at = gone_kept old space name names (Port rights) lawful grounded there at tt
-destroyed_kept old space name names (SendOnce port target) lawful grounded there at = gone_kept old space name names (SendOnce port target) lawful grounded there at tt
-destroyed_kept old space name names Set lawful grounded there at = set_gone_kept old space name names lawful grounded there at
-destroyed_kept old space name names (Dead references) lawful grounded there at = gone_kept old space name names (Dead references) lawful grounded there at tt
+destroyed_kept old space name names (Port rights) lawful acyclic there at = gone_kept old space name names (Port rights) lawful acyclic there at tt
+destroyed_kept old space name names (SendOnce port target) lawful acyclic there at = gone_kept old space name names (SendOnce port target) lawful acyclic there at tt
+destroyed_kept old space name names Set lawful acyclic there at = set_gone_kept old space name names lawful acyclic there at
+destroyed_kept old space name names (Dead references) lawful acyclic there at = gone_kept old space name names (Dead references) lawful acyclic there at tt

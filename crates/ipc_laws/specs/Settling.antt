@@ -13,7 +13,7 @@ use Rattle.ipc_model.specs.declared.message.RightKind.{RightKind}
 use Rattle.ipc_model.specs.declared.message.RightKind.TheVariants as kind
 use Rattle.ipc_model.specs.declared.port.PortState.{PortState}
 use Rattle.ipc_model.specs.state.Circular.{is_circular}
-use Rattle.ipc_model.specs.effects.Effects.{Effect, release, notify, effect, Settles, settled, next_effect, releases_of, release_of, release_of_reply, release_of_port, queued, notified, entry_after_death, port_after_death, message_after_death, right_after_death, carried_after_death, without_target, one_more_if, dead_name_of_entry, dead_name_notice, dead_name_notices, after_death, effects_of_death, release_of_target, map_values, died, told_no_senders, send_released, sent_to_target, receive_released_to, released, released_if_live}
+use Rattle.ipc_model.specs.effects.Effects.{Effect, release, notify, effect, Settles, settled, next_effect, releases_of, release_of, release_of_reply, release_of_port, queued, notified, entry_after_death, port_after_death, message_after_death, right_after_death, carried_after_death, without_target, one_more_if, dead_name_of_entry, dead_name_notice, dead_name_notices, after_death, effects_of_death, release_of_target, map_values, died, notified_no_senders, send_released, sent_to_target, receive_released_to, released, released_if_live}
 use Rattle.ipc_laws.specs.MapSums.{weigh, total, weight, weigh-append, weigh-le, weigh-map, weigh-flat_map, weigh-same, weigh-sum, length-flat_map, total-insert, total-remove, total-map_values}
 use Rattle.ipc_model.specs.messages.Notices.{Notice, notice_message}
 use Rattle.ipc_model.specs.messages.Notices as notice
@@ -86,14 +86,14 @@ taken_weight state serial port target change what there less =
     omega (arith, less, with_port_weight state serial change port there, queued_weight (with_port state serial change) target (notice_message what))
 
 told_weight : (state : State) (serial : ℕ) (port : PortState) (target : Option ℕ) → finmap.get state.ports serial ≡ Some port → port.no_senders_target ≡ target
-    → state_weight (told_no_senders state serial port target) ≤ state_weight state
+    → state_weight (notified_no_senders state serial port target) ≤ state_weight state
 told_weight state serial port None there is = omega arith
 told_weight state serial port (Some target) there is =
     taken_weight state serial port target (λ (p : PortState). record p { no_senders_target = None }) (notice.NoSenders port.make_send_count) there (omega (arith, ap one_if_some is))
 
 send_released_weight : (state : State) (serial : ℕ) (port : PortState) → finmap.get state.ports serial ≡ Some port → state_weight (send_released state serial port) ≤ state_weight state
 send_released_weight state serial port there =
-    elim (send_count state serial == 0) as (λ (b : Bool). state_weight (if b then told_no_senders state serial port port.no_senders_target else state) ≤ state_weight state) [
+    elim (send_count state serial == 0) as (λ (b : Bool). state_weight (if b then notified_no_senders state serial port port.no_senders_target else state) ≤ state_weight state) [
       | true ↦ told_weight state serial port port.no_senders_target there refl
       | false ↦ omega arith
     ]

@@ -14,12 +14,12 @@ use Rattle.ipc_model.specs.declared.port.PortState.{PortState}
 use Rattle.ipc_model.specs.calls.Actions as actions
 use Rattle.ipc_model.specs.calls.Actions.{Done}
 use Rattle.ipc_laws.specs.CallsKeep.{Kept, first_passes}
-use Rattle.ipc_model.specs.state.Circular.{Grounded}
+use Rattle.ipc_model.specs.state.Circular.{Acyclic}
 use Rattle.ipc_model.specs.effects.Effects.{Effect}
 use Rattle.ipc_laws.specs.EffectsKeep.{waiting-flat_map}
 use Rattle.ipc_laws.specs.Hands.{MidCall, empty_hand, mid_of, kept_of_mid}
 use Rattle.ipc_laws.specs.Dangling.{left_apart}
-use Rattle.ipc_model.specs.state.Lawful.{IsHeldBesideSet}
+use Rattle.ipc_model.specs.state.Lawful.{IsHeldAlongsideSet}
 use Rattle.ipc_laws.specs.LawfulLaws.{LawfulAtRest}
 use Rattle.ipc_laws.specs.ListLaws.{some_same}
 use Rattle.ipc_laws.specs.MapLaws.{get-left}
@@ -52,10 +52,10 @@ space_still : (state : State) (space other : ℕ) (names : Names) → finmap.get
 space_still state space other names at = sym (get-left state.spaces space other (left_apart state.spaces space other names at)) ∙ at
 
 -- members in other spaces stay in the spaces of their sets
-beside_left : (state : State) (space : ℕ) (names : Names) (serial set : ℕ) → finmap.get state.spaces space ≡ Some names → ((name : ℕ) (entry : Entry) → finmap.get names name ≡ Some entry → received_port entry ≡ Some serial → ⊥)
-    → IsHeldBesideSet state serial set → IsHeldBesideSet (record state { spaces = finmap.remove state.spaces space }) serial set
-beside_left state space names serial set there none_in (other, held_names, name, entry, at_space, at, is, beside) = elim (number_decided other space) as (λ _. IsHeldBesideSet (record state { spaces = finmap.remove state.spaces space }) serial set) [
-  | inl apart ↦ (other, held_names, name, entry, get-left state.spaces space other apart ∙ at_space, at, is, beside)
+alongside_left : (state : State) (space : ℕ) (names : Names) (serial set : ℕ) → finmap.get state.spaces space ≡ Some names → ((name : ℕ) (entry : Entry) → finmap.get names name ≡ Some entry → received_port entry ≡ Some serial → ⊥)
+    → IsHeldAlongsideSet state serial set → IsHeldAlongsideSet (record state { spaces = finmap.remove state.spaces space }) serial set
+alongside_left state space names serial set there none_in (other, held_names, name, entry, at_space, at, is, alongside) = elim (number_decided other space) as (λ _. IsHeldAlongsideSet (record state { spaces = finmap.remove state.spaces space }) serial set) [
+  | inl apart ↦ (other, held_names, name, entry, get-left state.spaces space other apart ∙ at_space, at, is, alongside)
   | inr same ↦
       let same_names : held_names ≡ names = some_same held_names names (sym at_space ∙ ap (finmap.get state.spaces) same ∙ there) in
       absurd (none_in name entry (ap (λ (n : Names). finmap.get n name) (sym same_names) ∙ at) is)
@@ -78,8 +78,8 @@ space_gone_mid state space names not_first there mid none_in = record {
   in_hand = λ (q : ℕ) (dead : _). omega (arith, mid.none_dangles q dead, without_weighs (any_of q) state space names there);
   members = λ (serial set : ℕ) (port : PortState) (at : _) (is : _).
       let held = mid.members serial set port at is in
-      beside_left state space names serial set there (λ (name : ℕ) (entry : Entry) (named : _) (receives : _). none_in serial set port at is name entry named receives) held;
-  grounded = mid.grounded;
+      alongside_left state space names serial set there (λ (name : ℕ) (entry : Entry) (named : _) (receives : _). none_in serial set port at is name entry named receives) held;
+  acyclic = mid.acyclic;
 }
 
 -- (every name's effects, by receive rights)
@@ -88,18 +88,18 @@ all_weigh q names =
     weigh-flat_map (effect_weigh (receive_of q)) (λ (e : ℕ × Entry). actions.effects_of_name e.0 e.1) (finmap.entries names)
     ∙ weigh-same (λ (e : ℕ × Entry). weigh (effect_weigh (receive_of q)) (actions.effects_of_name e.0 e.1)) (λ (e : ℕ × Entry). entry_weigh (receive_of q) e.1) (λ (e : ℕ × Entry). name_weighs q e.0 e.1) (finmap.entries names)
 
-pub space_destroy_kept : (old : State) (space : ℕ) (names : Names) (answer : Reply) (new : State) (effects : List Effect) → LawfulAtRest old → Grounded old → finmap.get old.spaces space ≡ Some names
+pub space_destroy_kept : (old : State) (space : ℕ) (names : Names) (answer : Reply) (new : State) (effects : List Effect) → LawfulAtRest old → Acyclic old → finmap.get old.spaces space ≡ Some names
     → first_failing (tests_of old space names call.SpaceDestroy) ≡ None → Done old space names call.SpaceDestroy answer new effects → Kept new effects
 unfolding Done tests_of
-space_destroy_kept old space names answer new effects lawful grounded there passes done =
+space_destroy_kept old space names answer new effects lawful acyclic there passes done =
     let not_first : (space == 1) ≡ false = (first_passes (space == 1, Failure) [] passes).0 in
     let outside : State = actions.with_ports old (actions.received_serials names) taken_out in
-    let kept = all_out_kept old (actions.received_serials names) lawful grounded in
+    let kept = all_out_kept old (actions.received_serials names) lawful acyclic in
     let spaces : outside.spaces ≡ old.spaces = all_out_spaces old (actions.received_serials names) in
     let there_still : finmap.get outside.spaces space ≡ Some names = ap (λ (s : finmap.FinMap nat_cmp Names). finmap.get s space) spaces ∙ there in
     let later : List Effect = flat_map (λ e. actions.effects_of_name e.0 e.1) (finmap.entries names) in
     let gone : MidCall (record outside { spaces = finmap.remove outside.spaces space }) (λ w. names_weigh w names) =
-    space_gone_mid outside space names not_first there_still (mid_of outside kept.lawful kept.grounded)
+    space_gone_mid outside space names not_first there_still (mid_of outside kept.lawful kept.acyclic)
     (λ (serial set : ℕ) (port : PortState) (at : _) (is : _) (name : ℕ) (entry : Entry) (named : _) (receives : _).
     (still_in old (actions.received_serials names) serial set port at is).0 (held_among (finmap.entries names) name serial entry (sym (get-entries names name) ∙ named) receives)) in
     let as_said : MidCall (record outside { spaces = finmap.remove old.spaces space }) (λ w. names_weigh w names) =

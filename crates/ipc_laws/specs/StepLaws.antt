@@ -17,7 +17,7 @@ use Rattle.ipc_model.specs.state.Lawful.{Lawful}
 use Rattle.ipc_laws.specs.LawfulLaws.{LawfulAtRest, at_rest}
 use Rattle.ipc_model.specs.calls.PortCalls.{tests_of}
 use Rattle.ipc_model.specs.messages.Receiving.{without_message}
-use Rattle.ipc_laws.specs.ReceiveLaws.{SameLeft, same_receipt}
+use Rattle.ipc_laws.specs.ReceiveLaws.{SameLeft, same_receive}
 use Rattle.ipc_model.specs.messages.Sending.{Ready, ready_to_send, sent}
 use Rattle.ipc_model.specs.calls.Tests.{first_failing}
 use Rattle.ipc_model.specs.calls.Step.{Step, ActsIn, ActsFrom, number_of_call}
@@ -155,7 +155,7 @@ same_acts_in : (old : State) (space : ℕ) (names : Names) (c : Call) (answer : 
     → LawfulAtRest old → ActsIn old space names c answer one effects → ActsIn old space names c answer other others → SameOutcome one other effects others
 same_acts_in old space names (call.Send message) answer one other effects others lawful here there = same_send (ready_to_send old space message) old answer one other effects others here there
 same_acts_in old space names (call.Receive limit large name waited) answer one other effects others lawful here there =
-    of_receipt one other effects others (same_receipt old space names (record { limit = limit; large = large; name = name; waited = waited }) answer one other effects others lawful here there)
+    of_receipt one other effects others (same_receive old space names (record { limit = limit; large = large; name = name; waited = waited }) answer one other effects others lawful here there)
 same_acts_in old space names c answer one other effects others lawful here there =
     same_call (first_failing (tests_of old space names c)) old space names c answer one other effects others here there
 

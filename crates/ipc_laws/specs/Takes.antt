@@ -128,7 +128,7 @@ moved_mid state serial hand live mid =
       receives = λ (q : ℕ). refl;
       none_dead = λ (q : ℕ) (dead : _). omega arith;
       set = λ (set : ℕ) (is : _). absurd (cc is);
-      grounded = fewer_edges state (with_port state serial moved) (changed_edges state serial moved (λ (inner : ℕ) (p : PortState) (e : _). e)) mid.grounded;
+      acyclic = fewer_edges state (with_port state serial moved) (changed_edges state serial moved (λ (inner : ℕ) (p : PortState) (e : _). e)) mid.acyclic;
     }) mid
 
 -- a moved port is in no set
@@ -227,7 +227,7 @@ counted_mid state serial hand live mid =
       receives = λ (q : ℕ). refl;
       none_dead = λ (q : ℕ) (dead : _). omega arith;
       set = λ (set : ℕ) (is : _). is;
-      grounded = fewer_edges state (with_port state serial counted) (changed_edges state serial counted (λ (inner : ℕ) (p : PortState) (e : _). e)) mid.grounded;
+      acyclic = fewer_edges state (with_port state serial counted) (changed_edges state serial counted (λ (inner : ℕ) (p : PortState) (e : _). e)) mid.acyclic;
     }) mid
 
 take_make : (state : State) (hand : Hand) (space name : ℕ) (names : Names) (rights : PortRights) → MidCall state hand → finmap.get state.spaces space ≡ Some names → finmap.get names name ≡ Some (Port rights)

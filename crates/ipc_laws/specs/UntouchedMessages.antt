@@ -188,8 +188,8 @@ outcome_there old space names receipt member serial port message answer new effe
 outcome_there old space names receipt member serial port message answer new effects (was_lacking is as_before none) = subst (λ (s : State). Confined old s space) (sym as_before) (nothing old space)
 outcome_there old space names receipt member serial port message answer new effects (was_received whole) = received_there old space names member serial port message answer new effects whole
 
-pub receipt_there : (old : State) (space : ℕ) (names : Names) (receipt : Receipt) (answer : Reply) (new : State) (effects : List Effect) → Receives old space names receipt answer new effects → Confined old new space
-receipt_there old space names receipt answer new effects receives =
+pub receive_there : (old : State) (space : ℕ) (names : Names) (receipt : Receipt) (answer : Reply) (new : State) (effects : List Effect) → Receives old space names receipt answer new effects → Confined old new space
+receive_there old space names receipt answer new effects receives =
     elim (receive_refusal old names receipt) as (λ (r : Option KernReturn). Refuses r old space names receipt answer new effects → Confined old new space) [
       | None ↦ λ (takes : _).
           let taking = taking_of old space names receipt answer new effects takes in

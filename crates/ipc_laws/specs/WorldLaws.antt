@@ -7,7 +7,7 @@ use Rattle.ipc_model.specs.declared.call.Call.{Call}
 use Rattle.ipc_model.specs.declared.call.Reply.{Reply}
 use Rattle.ipc_model.specs.state.State.{State}
 use Rattle.ipc_model.specs.store.Faults as fault
-use Rattle.ipc_model.specs.world.World.{Event, fails_first, Outcome, Ticket, Batch, Receipt, Checkpoint, World, Worlds, After, AfterPossible, AfterDone, CanAppend, CanReply, IsPossible, submit, take_batch, append, durable, ask_reply, cut, roll_close, roll_head, roll_open, image_close, piece, finish, given, replied, done, not_now, epoch_full, no_memory, store, of_append, of_finish, first_world, told, greatest_seen, is_behind, next_batch, record_of, after_submit, after_take, after_append, after_durable, with_answered, after_cut, with_checkpoint}
+use Rattle.ipc_model.specs.world.World.{Event, fails_first, Outcome, Ticket, Batch, Receipt, Checkpoint, World, Worlds, After, AfterPossible, AfterDone, CanAppend, CanReply, IsPossible, submit, take_batch, append, durable, ask_reply, cut, roll_close, roll_head, roll_open, image_close, piece, finish, given, replied, done, not_now, epoch_full, no_memory, store, of_append, of_finish, first_world, acknowledged, greatest_seen, is_after, next_batch, record_of, after_submit, after_take, after_append, after_durable, with_answered, after_cut, with_checkpoint}
 
 -- how many records of a batch that is out aren't appended yet
 abbrev waiting : Option Batch → ℕ
@@ -120,13 +120,13 @@ submitted world space call answer order =
 
 next_fits : (world : World) → InOrder world → world.taken + (next_batch world).size ≤ length world.applied
 next_fits world order =
-    elim (is_behind world) as (λ (b : Bool). is_behind world ≡ b → world.taken + (batch_if b world).size ≤ length world.applied) [
+    elim (is_after world) as (λ (b : Bool). is_after world ≡ b → world.taken + (batch_if b world).size ≤ length world.applied) [
       | true ↦ λ (behind : _). omega (arith, order.earlier, ltb-true world.taken world.earlier behind)
       | false ↦ λ (_ : _). omega (arith, order.taken)
     ] refl
 
 next_is_new : (world : World) → (next_batch world).appended ≡ false
-next_is_new world = elim (is_behind world) as (λ (b : Bool). (batch_if b world).appended ≡ false) [ true ↦ refl | false ↦ refl ]
+next_is_new world = elim (is_after world) as (λ (b : Bool). (batch_if b world).appended ≡ false) [ true ↦ refl | false ↦ refl ]
 
 took : (world : World) → IsPossible world take_batch → InOrder world → InOrder (after_take world)
 took world possible order =
@@ -251,23 +251,23 @@ worlds_order base world [] new worlds order = subst InOrder (sym worlds) order
 worlds_order base world (first ∷ events) new (mid, after, rest) order = worlds_order base mid events new rest (after_order base world first.0 first.1 mid after order)
 
 -- Whatever events come after the opening: no more is acknowledged than was applied, and no more is stored.
-abbrev pub ToldWithinApplied : Type 0
-ToldWithinApplied = (base : State) (epoch opened : ℕ) (events : List (Event × Outcome)) (world : World) → Worlds base (first_world epoch opened) events world → (told world ≤ length world.applied) × (world.stored ≤ length world.applied)
+abbrev pub AcknowledgedWithinApplied : Type 0
+AcknowledgedWithinApplied = (base : State) (epoch opened : ℕ) (events : List (Event × Outcome)) (world : World) → Worlds base (first_world epoch opened) events world → (acknowledged world ≤ length world.applied) × (world.stored ≤ length world.applied)
 
 -- And what is acknowledged is stored: each reply that was given saw only stored records.
-abbrev pub ToldIsStored : Type 0
-ToldIsStored = (base : State) (epoch opened : ℕ) (events : List (Event × Outcome)) (world : World) → Worlds base (first_world epoch opened) events world → told world ≡ world.stored
+abbrev pub AcknowledgedIsStored : Type 0
+AcknowledgedIsStored = (base : State) (epoch opened : ℕ) (events : List (Event × Outcome)) (world : World) → Worlds base (first_world epoch opened) events world → acknowledged world ≡ world.stored
 
-pub told_is_stored : ToldIsStored
-told_is_stored base epoch opened events world worlds =
+pub acknowledged_is_stored : AcknowledgedIsStored
+acknowledged_is_stored base epoch opened events world worlds =
     let order = worlds_order base (first_world epoch opened) events world worlds (first_order epoch opened) in
     omega (arith, order.handed, greatest_within world.handed world.tickets order.answered)
 
-pub told_within_applied : ToldWithinApplied
-told_within_applied base epoch opened events world worlds =
+pub acknowledged_within_applied : AcknowledgedWithinApplied
+acknowledged_within_applied base epoch opened events world worlds =
     let order = worlds_order base (first_world epoch opened) events world worlds (first_order epoch opened) in
     let stored : world.stored ≤ length world.applied = omega (arith, order.stored, order.taken) in
-    (omega (arith, stored, told_is_stored base epoch opened events world worlds), stored)
+    (omega (arith, stored, acknowledged_is_stored base epoch opened events world worlds), stored)
 
 -- Where the device hasn't failed, an event answers "not now" exactly where it isn't possible.
 abbrev pub NotNowExactly : Type 0

@@ -10,16 +10,16 @@ use Rattle.ipc_model.specs.declared.record.Record.{Record}
 use Rattle.ipc_model.specs.calls.Step.{Step, Run, has_record}
 use Rattle.ipc_model.specs.state.State.{State}
 use Rattle.ipc_model.specs.store.Faults as fault
-use Rattle.ipc_model.specs.world.World.{Event, Outcome, Ticket, Batch, Receipt, Checkpoint, World, Worlds, After, AfterPossible, AfterDone, MayGive, IsStep, submit, take_batch, append, durable, ask_reply, cut, roll_close, roll_head, roll_open, image_close, piece, finish, given, replied, done, not_now, epoch_full, no_memory, store, of_append, of_finish, first_world, row_length, is_of_store, told, record_of, after_submit, after_append, after_durable, with_answered, with_checkpoint}
+use Rattle.ipc_model.specs.world.World.{Event, Outcome, Ticket, Batch, Receipt, Checkpoint, World, Worlds, After, AfterPossible, AfterDone, MayGive, IsStep, submit, take_batch, append, durable, ask_reply, cut, roll_close, roll_head, roll_open, image_close, piece, finish, given, replied, done, not_now, epoch_full, no_memory, store, of_append, of_finish, first_world, log_length, is_of_store, acknowledged, record_of, after_submit, after_append, after_durable, with_answered, with_checkpoint}
 use Rattle.ipc_laws.specs.RunLaws.{run-push}
-use Rattle.ipc_laws.specs.WorldLaws.{told_is_stored}
+use Rattle.ipc_laws.specs.WorldLaws.{acknowledged_is_stored}
 
 -- An event that gives no ticket changes no record that was applied, makes the epoch log no longer, and at most marks
 -- that a ticket's reply was given.
 pub record Unchanged (old new : World) : Type 0 where
   pub applied : new.applied ≡ old.applied
   pub tickets : (new.tickets ≡ old.tickets) ⊎ ((n : ℕ) × (new.tickets ≡ with_answered old.tickets n))
-  pub row : row_length new ≤ row_length old
+  pub row : log_length new ≤ log_length old
 
 same : (world : World) → Unchanged world world
 same world = record { applied = refl; tickets = inl refl; row = omega arith }
@@ -168,18 +168,18 @@ keeps_tickets base world new (inr is) holds =
     ])
 
 -- an epoch log holds no more than it may
-abbrev RowFits : World → Type 0
-RowFits world = row_length world ≤ MAX_RECORDS
+abbrev LogFits : World → Type 0
+LogFits world = log_length world ≤ MAX_RECORDS
 
-row_given : (world : World) (space : ℕ) (c : Call) (answer : Reply) (b : Bool) → (b ≡ true → row_length world < MAX_RECORDS) → row_length world ≤ MAX_RECORDS
+row_given : (world : World) (space : ℕ) (c : Call) (answer : Reply) (b : Bool) → (b ≡ true → log_length world < MAX_RECORDS) → log_length world ≤ MAX_RECORDS
     → world.opened + (length (world.applied ++ (if b then record { space = space; call = c; reply = answer } ∷ [] else [])) - world.earlier) ≤ MAX_RECORDS
 row_given world space c answer true room fits =
-    let below : row_length world < MAX_RECORDS = room refl in
+    let below : log_length world < MAX_RECORDS = room refl in
     omega (arith, below, length-append world.applied (record { space = space; call = c; reply = answer } ∷ []))
 row_given world space c answer false room fits = omega (arith, fits, length-append {A = Record} world.applied [])
 
-keeps_row : (base : State) → IsKept base RowFits
-keeps_row base world new (inl gives) holds = subst RowFits (sym gives.after) (row_given world gives.space gives.call gives.answer (has_record gives.call gives.answer) gives.may.1 holds)
+keeps_row : (base : State) → IsKept base LogFits
+keeps_row base world new (inl gives) holds = subst LogFits (sym gives.after) (row_given world gives.space gives.call gives.answer (has_record gives.call gives.answer) gives.may.1 holds)
 keeps_row base world new (inr is) holds = omega (arith, is.row, holds)
 
 -- Whatever events come after the opening, what was applied is a run.
@@ -199,11 +199,11 @@ tickets_are_steps base epoch opened events world worlds n ticket is =
     each_at base world.applied world.tickets n ticket is (always base (λ w. EachOfStep base w.applied w.tickets) (keeps_tickets base) (first_world epoch opened) events world worlds tt)
 
 -- No epoch log outgrows its segment.
-abbrev pub RowsFit : Type 0
-RowsFit = (base : State) (epoch opened : ℕ) (events : List (Event × Outcome)) (world : World) → opened ≤ MAX_RECORDS → Worlds base (first_world epoch opened) events world → row_length world ≤ MAX_RECORDS
+abbrev pub LogsFit : Type 0
+LogsFit = (base : State) (epoch opened : ℕ) (events : List (Event × Outcome)) (world : World) → opened ≤ MAX_RECORDS → Worlds base (first_world epoch opened) events world → log_length world ≤ MAX_RECORDS
 
-pub rows_fit : RowsFit
-rows_fit base epoch opened events world few worlds = always base RowFits (keeps_row base) (first_world epoch opened) events world worlds (omega (arith, few))
+pub logs_fit : LogsFit
+logs_fit base epoch opened events world few worlds = always base LogFits (keeps_row base) (first_world epoch opened) events world worlds (omega (arith, few))
 
 -- After a fault of the device: the store has failed, and this many records are stored.
 pub record IsStuck (n : ℕ) (world : World) : Type 0 where
@@ -250,13 +250,13 @@ worlds_joined base world mid new [] more worlds later = subst (λ (w : World). W
 worlds_joined base world mid new (first ∷ events) more worlds later = (worlds.0, worlds.1, worlds_joined base worlds.0 mid new events more worlds.2 later)
 
 -- Once the device failed, nothing more is stored, and nothing newer is acknowledged.
-abbrev pub NothingNewIsTold : Type 0
-NothingNewIsTold = (base : State) (epoch opened : ℕ) (events more : List (Event × Outcome)) (world new : World) → Worlds base (first_world epoch opened) events world → world.failed ≡ true → Worlds base world more new
-    → (told new ≡ told world) × (new.stored ≡ world.stored)
+abbrev pub NothingNewIsAcknowledged : Type 0
+NothingNewIsAcknowledged = (base : State) (epoch opened : ℕ) (events more : List (Event × Outcome)) (world new : World) → Worlds base (first_world epoch opened) events world → world.failed ≡ true → Worlds base world more new
+    → (acknowledged new ≡ acknowledged world) × (new.stored ≡ world.stored)
 
-pub nothing_new_is_told : NothingNewIsTold
-nothing_new_is_told base epoch opened events more world new worlds failed later =
+pub nothing_new_is_acknowledged : NothingNewIsAcknowledged
+nothing_new_is_acknowledged base epoch opened events more world new worlds failed later =
     let stuck = stuck_worlds world.stored base world more new later (record { failed = failed; stored = refl }) in
-    let before : told world ≡ world.stored = told_is_stored base epoch opened events world worlds in
-    let after : told new ≡ new.stored = told_is_stored base epoch opened (events ++ more) new (worlds_joined base (first_world epoch opened) world new events more worlds later) in
+    let before : acknowledged world ≡ world.stored = acknowledged_is_stored base epoch opened events world worlds in
+    let after : acknowledged new ≡ new.stored = acknowledged_is_stored base epoch opened (events ++ more) new (worlds_joined base (first_world epoch opened) world new events more worlds later) in
     (after ∙ stuck.stored ∙ sym before, stuck.stored)

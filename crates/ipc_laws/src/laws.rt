@@ -1,12 +1,12 @@
 // Laws over the definitions. Each is the contract of a function that does nothing, so that the check proves it.
 ghost use Rattle.ipc_laws.specs.Circles.{CirclesLeadUp};
 ghost use Rattle.ipc_laws.specs.StepsKeep.{OneRun, RunsKeepLawful, StepsKeepLawful};
-ghost use Rattle.ipc_laws.specs.EffectRanks.{EffectsKeepGrounded, SettledIsLawful};
+ghost use Rattle.ipc_laws.specs.EffectRanks.{EffectsKeepAcyclic, SettledIsLawful};
 ghost use Rattle.ipc_laws.specs.EffectsKeep.{EffectsKeepLawful};
 ghost use Rattle.ipc_laws.specs.HistoryLaws.{LegalIsInOrder, LegalStaysLegal, MeetingIsLegal, PlacesHoldCalls, ReadsOwnWrites};
-ghost use Rattle.ipc_laws.specs.ImageLaws.{ImagesHaveOneText};
+ghost use Rattle.ipc_laws.specs.ImageLaws.{ImagesHaveOneEncoding};
 ghost use Rattle.ipc_laws.specs.ItemLaws.{ItemsTileBodies, TiledBodiesHaveItems};
-ghost use Rattle.ipc_laws.specs.KeptLaws.{CallsAreMadeAsKept, MessagesAreSentAsKept};
+ghost use Rattle.ipc_laws.specs.CanonicalLaws.{CallsAreMadeAsCanonical, MessagesAreSentAsCanonical};
 ghost use Rattle.ipc_laws.specs.NameChanges.{NamesMoveLawfully};
 ghost use Rattle.ipc_laws.specs.LawfulLaws.{LawfulIsAtRest};
 ghost use Rattle.ipc_laws.specs.OpeningLaws.{OpeningIsLawful};
@@ -14,16 +14,16 @@ ghost use Rattle.ipc_laws.specs.OtherSpaces.{OthersFade, SpacesAreMade};
 ghost use Rattle.ipc_laws.specs.OwnedPlaces.{RecordsAreOwned};
 ghost use Rattle.ipc_laws.specs.PortChanges.{PortMovesLawfully};
 ghost use Rattle.ipc_laws.specs.RecordedMessages.{RecordedSendsAreDone};
-ghost use Rattle.ipc_laws.specs.RecordedReceipts.{RecordedReceiptsAreDone};
+ghost use Rattle.ipc_laws.specs.RecordedReceives.{RecordedReceivesAreDone};
 ghost use Rattle.ipc_laws.specs.RecordedSteps.{RecordedStepsAreRecords};
-ghost use Rattle.ipc_laws.specs.RecoveryLaws.{RecoversLawful, RecoversOnce, RecoversVersionOne, SpellsOnce};
-ghost use Rattle.ipc_laws.specs.RunLaws.{RecordsRunAsKept};
-ghost use Rattle.ipc_laws.specs.Spelling.{LawfulIsSpellable};
+ghost use Rattle.ipc_laws.specs.RecoveryLaws.{RecoversLawful, RecoversOnce, RecoversVersionOne, EncodesOnce};
+ghost use Rattle.ipc_laws.specs.RunLaws.{RecordsRunAsCanonical};
+ghost use Rattle.ipc_laws.specs.Encoding.{LawfulIsEncodable};
 ghost use Rattle.ipc_laws.specs.Settling.{AlwaysSettles, EffectsLower};
-ghost use Rattle.ipc_laws.specs.TextLaws.{RecordsHaveOneText};
+ghost use Rattle.ipc_laws.specs.EncodingLaws.{RecordsHaveOneEncoding};
 ghost use Rattle.ipc_laws.specs.StepLaws.{OneEnd, OneNewState};
-ghost use Rattle.ipc_laws.specs.WorldLaws.{NotNowExactly, ToldIsStored, ToldWithinApplied};
-ghost use Rattle.ipc_laws.specs.WorldRuns.{AppliedIsRun, NothingNewIsTold, RowsFit, TicketsAreSteps};
+ghost use Rattle.ipc_laws.specs.WorldLaws.{NotNowExactly, AcknowledgedIsStored, AcknowledgedWithinApplied};
+ghost use Rattle.ipc_laws.specs.WorldRuns.{AppliedIsRun, NothingNewIsAcknowledged, LogsFit, TicketsAreSteps};
 
 /// A reply shows each choice that the machine made: from a lawful state, a task's call with a given reply leaves one
 /// state. That includes sends and receives.
@@ -80,8 +80,8 @@ pub fn circles_lead_up()
 {}
 
 /// Each effect keeps a lawful state acyclic: no ports come to carry one another in a cycle.
-pub fn effects_keep_grounded()
-    ensures { EffectsKeepGrounded }
+pub fn effects_keep_acyclic()
+    ensures { EffectsKeepAcyclic }
 {}
 
 /// So the state in which effects settle is lawful and acyclic.
@@ -125,18 +125,18 @@ pub fn tiled_bodies_have_items()
 {}
 
 /// A message and what a record keeps of it, with 0 in place of what a send ignores, are sent alike.
-pub fn messages_are_sent_as_kept()
-    ensures { MessagesAreSentAsKept }
+pub fn messages_are_sent_as_canonical()
+    ensures { MessagesAreSentAsCanonical }
 {}
 
 /// A call and what a record keeps of it are made alike.
-pub fn calls_are_made_as_kept()
-    ensures { CallsAreMadeAsKept }
+pub fn calls_are_made_as_canonical()
+    ensures { CallsAreMadeAsCanonical }
 {}
 
 /// Records run as they are kept.
-pub fn records_run_as_kept()
-    ensures { RecordsRunAsKept }
+pub fn records_run_as_canonical()
+    ensures { RecordsRunAsCanonical }
 {}
 
 /// A send that has a record was done: its message has a size that messages may have, and nothing comes back. No refusal
@@ -147,8 +147,8 @@ pub fn recorded_sends_are_done()
 
 /// A receive that has a record, from a lawful state, shows a name of its space and a size that messages have: it
 /// returns a message of this size within its limit, or it destroyed one above the limit and returns nothing.
-pub fn recorded_receipts_are_done()
-    ensures { RecordedReceiptsAreDone }
+pub fn recorded_receives_are_done()
+    ensures { RecordedReceivesAreDone }
 {}
 
 /// What is kept of a step that has a record, from a lawful state, is a record that a segment may hold: no other
@@ -159,23 +159,23 @@ pub fn recorded_steps_are_records()
 
 /// A record has one encoding: if the encodings of two records begin the same bytes, it is one record, with one number.
 pub fn record_once()
-    ensures { RecordsHaveOneText }
+    ensures { RecordsHaveOneEncoding }
 {}
 
 /// An image has one encoding, of states whose numbers fit it: if the encodings of two states begin the same bytes, it
 /// is one state.
 pub fn image_once()
-    ensures { ImagesHaveOneText }
+    ensures { ImagesHaveOneEncoding }
 {}
 
 /// An image can encode every lawful state whose queues hold fewer than 2^32 messages.
-pub fn lawful_is_spellable()
-    ensures { LawfulIsSpellable }
+pub fn lawful_is_encodable()
+    ensures { LawfulIsEncodable }
 {}
 
 /// The slots of a store encode at most one base with one list of records.
-pub fn spells_once()
-    ensures { SpellsOnce }
+pub fn encodes_once()
+    ensures { EncodesOnce }
 {}
 
 /// At most one state is recovered from the slots of a store.
@@ -194,13 +194,13 @@ pub fn recovers_version_one()
 {}
 
 /// Whatever events come after an opening, no more is acknowledged than was applied, and no more is stored.
-pub fn told_within_applied()
-    ensures { ToldWithinApplied }
+pub fn acknowledged_within_applied()
+    ensures { AcknowledgedWithinApplied }
 {}
 
 /// And what is acknowledged is stored: each reply that was given saw only stored records.
-pub fn told_is_stored()
-    ensures { ToldIsStored }
+pub fn acknowledged_is_stored()
+    ensures { AcknowledgedIsStored }
 {}
 
 /// If the device hasn't failed, an event answers "not now" exactly if it isn't possible.
@@ -220,13 +220,13 @@ pub fn tickets_are_steps()
 {}
 
 /// No epoch log outgrows its segment, if the log that was opened didn't.
-pub fn rows_fit()
-    ensures { RowsFit }
+pub fn logs_fit()
+    ensures { LogsFit }
 {}
 
 /// Once the device has failed, nothing more is stored, and nothing newer is acknowledged.
-pub fn nothing_new_is_told()
-    ensures { NothingNewIsTold }
+pub fn nothing_new_is_acknowledged()
+    ensures { NothingNewIsAcknowledged }
 {}
 
 /// A legal session has seen a prefix of its history, no more was acknowledged to it than it saw, and its places ascend

@@ -5,5 +5,5 @@ pub mod messages
 pub mod rights
 pub mod state
 pub mod store
-pub mod texts
+pub mod encodings
 pub mod world

@@ -1,6 +1,6 @@
 ghost use Rattle.std.specs.Prelude.{◌≡◌, ◌<◌, ◌^◌, All, IsTrue};
 ghost use Rattle.ipc_model.specs.calls.Step.{number_of_call, has_record};
-ghost use Rattle.ipc_model.specs.texts.Texts.{number_of_reply, FitsCall, FitsReply};
+ghost use Rattle.ipc_model.specs.encodings.Encodings.{number_of_reply, FitsCall, FitsReply};
 ghost use Rattle.words.specs.Words.{AreBytes};
 
 use crate::{Call, Reply};

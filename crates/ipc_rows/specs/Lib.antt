@@ -5,7 +5,7 @@ pub mod RowsDeaths
 pub mod RowsHistory
 pub mod RowsMessages
 pub mod RowsNames
-pub mod RowsReceipts
+pub mod RowsReceives
 pub mod RowsRecovery
 pub mod RowsRights
 pub mod RowsRules

@@ -7,7 +7,7 @@ use Rattle.ipc_model.specs.calls.Actions.{request_set_under, lacks_senders, make
 use Rattle.ipc_model.specs.state.Circular.{carrier_of, meets}
 use Rattle.ipc_model.specs.rights.CopyIn.{Taken, copy_in, with_left, moved_port, taken_leaving}
 use Rattle.ipc_model.specs.rights.Dispositions.{Disposition, received_kind}
-use Rattle.ipc_model.specs.effects.Effects.{queued, notified, send_released, told_no_senders, receive_released_to, sent_to_target, after_death, died, effects_of_death, dead_name_notices, released_if_live, map_values, entry_after_death, Effect, effect, Settles, next_effect}
+use Rattle.ipc_model.specs.effects.Effects.{queued, notified, send_released, notified_no_senders, receive_released_to, sent_to_target, after_death, died, effects_of_death, dead_name_notices, released_if_live, map_values, entry_after_death, Effect, effect, Settles, next_effect}
 use Rattle.ipc_laws.specs.MapLaws.{get-map_values, map_rules}
 use Rattle.ipc_model.specs.state.Placed.{count_of, send_count, send_once_count, receive_count}
 use Rattle.ipc_model.specs.calls.PortCalls.{names_in, is_in_some_set, name_is, is_in_use, is_no_name, references_under, stands_elsewhere}
@@ -48,7 +48,7 @@ pub ruleset message_rules = (port_under, oldest_under, is_in_set, all_empty, wit
 
 pub ruleset send_rules = (goes_in_circle, take_right)
 
-pub ruleset effect_rules = (queued, notified, send_released, told_no_senders, receive_released_to, sent_to_target, after_death, died, effects_of_death, dead_name_notices, released_if_live)
+pub ruleset effect_rules = (queued, notified, send_released, notified_no_senders, receive_released_to, sent_to_target, after_death, died, effects_of_death, dead_name_notices, released_if_live)
 
 pub ruleset count_rules = (count_of, send_count, send_once_count, receive_count)
 

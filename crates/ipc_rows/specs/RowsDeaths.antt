@@ -15,7 +15,7 @@ use Rattle.ipc_model.specs.messages.Notices.{notice_message}
 use Rattle.ipc_model.specs.messages.Notices as notice
 use Rattle.ipc_model.specs.state.Placed.{placed, send_once_count}
 use Rattle.ipc_model.specs.calls.PortCalls.{minus_one, target_of_port}
-use Rattle.ipc_model.specs.messages.Receiving.{received_text, without_oldest}
+use Rattle.ipc_model.specs.messages.Receiving.{received_encoding, without_oldest}
 use Rattle.ipc_rows.specs.RowRules.{rows, entry-after_death}
 use Rattle.ipc_rows.specs.RowStates.{rights_to, names_of, in_space_1, with_queue, live, queue_of, message_count}
 use Rattle.ipc_model.specs.messages.Sending.{sent}
@@ -122,7 +122,7 @@ pub told-lives : finmap.get (effect carrier_dead (release kind.Receive 2)).0.por
 unfolding effect is_circular
 told-lives = simp rows
 
-pub told-received : received_text (notice_message (notice.PortDestroyed 2)) 0x100 0 (0x101 ∷ []) ≡ 0 ∷ 18 ∷ 0 ∷ 128 ∷ 32 ∷ 0 ∷ 0 ∷ 0 ∷ 0 ∷ 0 ∷ 0 ∷ 0 ∷ 0 ∷ 1 ∷ 0 ∷ 0 ∷ 0 ∷ 0 ∷ 0 ∷ 0 ∷ 69 ∷ 0 ∷ 0 ∷ 0 ∷ 16 ∷ 32 ∷ 1 ∷ 16 ∷ 1 ∷ 1 ∷ 0 ∷ 0 ∷ []
+pub told-received : received_encoding (notice_message (notice.PortDestroyed 2)) 0x100 0 (0x101 ∷ []) ≡ 0 ∷ 18 ∷ 0 ∷ 128 ∷ 32 ∷ 0 ∷ 0 ∷ 0 ∷ 0 ∷ 0 ∷ 0 ∷ 0 ∷ 0 ∷ 1 ∷ 0 ∷ 0 ∷ 0 ∷ 0 ∷ 0 ∷ 0 ∷ 69 ∷ 0 ∷ 0 ∷ 0 ∷ 16 ∷ 32 ∷ 1 ∷ 16 ∷ 1 ∷ 1 ∷ 0 ∷ 0 ∷ []
 unfolding items_of
 told-received = refl
 
@@ -153,7 +153,7 @@ watching_1-died = simp rows
 pub watched-dead : entry_at (effect watching (release kind.Receive 1)).0 1 0x100 ≡ Some (Dead 2)
 watched-dead = ap (λ s. entry_at s 1 0x100) watching_1-died ∙ entry-after_death watching 1 1 0x100 ∙ simp rows
 
-pub watched-received : received_text (notice_message (notice.DeadName 0x100)) 0x101 0 [] ≡ 0 ∷ 18 ∷ 0 ∷ 0 ∷ 32 ∷ 0 ∷ 0 ∷ 0 ∷ 0 ∷ 0 ∷ 0 ∷ 0 ∷ 1 ∷ 1 ∷ 0 ∷ 0 ∷ 0 ∷ 0 ∷ 0 ∷ 0 ∷ 72 ∷ 0 ∷ 0 ∷ 0 ∷ 15 ∷ 32 ∷ 1 ∷ 16 ∷ 0 ∷ 1 ∷ 0 ∷ 0 ∷ []
+pub watched-received : received_encoding (notice_message (notice.DeadName 0x100)) 0x101 0 [] ≡ 0 ∷ 18 ∷ 0 ∷ 0 ∷ 32 ∷ 0 ∷ 0 ∷ 0 ∷ 0 ∷ 0 ∷ 0 ∷ 0 ∷ 1 ∷ 1 ∷ 0 ∷ 0 ∷ 0 ∷ 0 ∷ 0 ∷ 0 ∷ 72 ∷ 0 ∷ 0 ∷ 0 ∷ 15 ∷ 32 ∷ 1 ∷ 16 ∷ 0 ∷ 1 ∷ 0 ∷ 0 ∷ []
 watched-received = refl
 
 -- the notice stands in its target's queue
@@ -171,7 +171,7 @@ watched-deleted = refl
 pub watched-unused : entry_at watched_deallocated.state 1 0x100 ≡ None
 watched-unused = simp rows
 
-pub watched-deleted_received : received_text (notice_message (notice.PortDeleted 0x100)) 0x101 0 [] ≡ 0 ∷ 18 ∷ 0 ∷ 0 ∷ 32 ∷ 0 ∷ 0 ∷ 0 ∷ 0 ∷ 0 ∷ 0 ∷ 0 ∷ 1 ∷ 1 ∷ 0 ∷ 0 ∷ 0 ∷ 0 ∷ 0 ∷ 0 ∷ 65 ∷ 0 ∷ 0 ∷ 0 ∷ 15 ∷ 32 ∷ 1 ∷ 16 ∷ 0 ∷ 1 ∷ 0 ∷ 0 ∷ []
+pub watched-deleted_received : received_encoding (notice_message (notice.PortDeleted 0x100)) 0x101 0 [] ≡ 0 ∷ 18 ∷ 0 ∷ 0 ∷ 32 ∷ 0 ∷ 0 ∷ 0 ∷ 0 ∷ 0 ∷ 0 ∷ 0 ∷ 1 ∷ 1 ∷ 0 ∷ 0 ∷ 0 ∷ 0 ∷ 0 ∷ 0 ∷ 65 ∷ 0 ∷ 0 ∷ 0 ∷ 15 ∷ 32 ∷ 1 ∷ 16 ∷ 0 ∷ 1 ∷ 0 ∷ 0 ∷ []
 watched-deleted_received = refl
 
 -- The target may be the port that dies: there is one more reference all the same, and the notice is dropped.
@@ -245,7 +245,7 @@ pub no_senders-answered : option_map (λ (port : PortState). port.no_senders_tar
 unfolding effect placed
 no_senders-answered = simp rows
 
-pub no_senders-received : received_text (notice_message (notice.NoSenders 1)) 0x100 0 [] ≡ 0 ∷ 18 ∷ 0 ∷ 0 ∷ 32 ∷ 0 ∷ 0 ∷ 0 ∷ 0 ∷ 0 ∷ 0 ∷ 0 ∷ 0 ∷ 1 ∷ 0 ∷ 0 ∷ 0 ∷ 0 ∷ 0 ∷ 0 ∷ 70 ∷ 0 ∷ 0 ∷ 0 ∷ 2 ∷ 32 ∷ 1 ∷ 16 ∷ 1 ∷ 0 ∷ 0 ∷ 0 ∷ []
+pub no_senders-received : received_encoding (notice_message (notice.NoSenders 1)) 0x100 0 [] ≡ 0 ∷ 18 ∷ 0 ∷ 0 ∷ 32 ∷ 0 ∷ 0 ∷ 0 ∷ 0 ∷ 0 ∷ 0 ∷ 0 ∷ 0 ∷ 1 ∷ 0 ∷ 0 ∷ 0 ∷ 0 ∷ 0 ∷ 0 ∷ 70 ∷ 0 ∷ 0 ∷ 0 ∷ 2 ∷ 32 ∷ 1 ∷ 16 ∷ 1 ∷ 0 ∷ 0 ∷ 0 ∷ []
 no_senders-received = refl
 
 -- a send right to the same port, which the message brought, keeps the count above zero
@@ -283,7 +283,7 @@ pub once-counted : send_once_count (effect new_one (release kind.SendOnce 1)).0 
 unfolding effect placed
 once-counted = simp rows
 
-pub once-received : received_text (notice_message notice.SendOnce) 0x100 0 [] ≡ 0 ∷ 18 ∷ 0 ∷ 0 ∷ 24 ∷ 0 ∷ 0 ∷ 0 ∷ 0 ∷ 0 ∷ 0 ∷ 0 ∷ 0 ∷ 1 ∷ 0 ∷ 0 ∷ 0 ∷ 0 ∷ 0 ∷ 0 ∷ 71 ∷ 0 ∷ 0 ∷ 0 ∷ []
+pub once-received : received_encoding (notice_message notice.SendOnce) 0x100 0 [] ≡ 0 ∷ 18 ∷ 0 ∷ 0 ∷ 24 ∷ 0 ∷ 0 ∷ 0 ∷ 0 ∷ 0 ∷ 0 ∷ 0 ∷ 0 ∷ 1 ∷ 0 ∷ 0 ∷ 0 ∷ 0 ∷ 0 ∷ 0 ∷ 71 ∷ 0 ∷ 0 ∷ 0 ∷ []
 once-received = refl
 
 abbrev pub once_waits : State

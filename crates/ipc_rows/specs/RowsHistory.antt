@@ -28,21 +28,21 @@ abbrev pub two_records : List Record
 two_records = allocated_name 0x100 ∷ allocated_name 0x101 ∷ []
 
 abbrev pub new_session : Session
-new_session = record { space = 1; seen = 0; told = 0; tickets = []; places = [] }
+new_session = record { space = 1; seen = 0; acknowledged = 0; tickets = []; places = [] }
 
 -- The first session allocates, asks for the type of the other's name, and gets the reply.
 abbrev pub first_operations : List Operation
 first_operations = called allocation (reply.Allocate 0x100) ∷ called (call.Type 0x101) (reply.Type 0x20000) ∷ redeemed 2 ∷ []
 
 abbrev pub first_session : Session
-first_session = record { space = 1; seen = 2; told = 2; tickets = 1 ∷ 2 ∷ []; places = 0 ∷ [] }
+first_session = record { space = 1; seen = 2; acknowledged = 2; tickets = 1 ∷ 2 ∷ []; places = 0 ∷ [] }
 
 -- The other allocates, and gets no reply.
 abbrev pub other_operations : List Operation
 other_operations = called allocation (reply.Allocate 0x101) ∷ []
 
 abbrev pub other_session : Session
-other_session = record { space = 1; seen = 2; told = 0; tickets = 2 ∷ []; places = 1 ∷ [] }
+other_session = record { space = 1; seen = 2; acknowledged = 0; tickets = 2 ∷ []; places = 1 ∷ [] }
 
 pub type-answer : Answer two_allocated 1 (call.Type 0x101) (reply.Type 0x20000)
 unfolding Step Done tests_of
@@ -52,17 +52,17 @@ pub two_records-run : Run opening_state two_records two_allocated
 two_records-run = (one_allocated, allocate-step, (two_allocated, second-step, refl))
 
 new-session : IsNew two_records new_session
-new-session = record { space = refl; within = omega arith; told = refl; tickets = refl; places = refl }
+new-session = record { space = refl; within = omega arith; acknowledged = refl; tickets = refl; places = refl }
 
 pub first-legal : Legal opening_state two_records first_operations first_session
 first-legal = record {
   start = new_session;
   new = new-session;
   after = (
-    record { space = 1; seen = 1; told = 0; tickets = 1 ∷ []; places = 0 ∷ [] },
+    record { space = 1; seen = 1; acknowledged = 0; tickets = 1 ∷ []; places = 0 ∷ [] },
     record { leads = inl (record { recorded = refl; place = 0; unseen = omega arith; there = refl; seen = omega arith; after = refl }); more = omega arith; within = omega arith },
     (
-      record { space = 1; seen = 2; told = 0; tickets = 1 ∷ 2 ∷ []; places = 0 ∷ [] },
+      record { space = 1; seen = 2; acknowledged = 0; tickets = 1 ∷ 2 ∷ []; places = 0 ∷ [] },
       record {
         leads = inr (record { unrecorded = refl; beginning = 2; unseen = omega arith; state = two_allocated; run = two_records-run; answered = type-answer; seen = omega arith; after = refl });
         more = omega arith;
@@ -103,7 +103,7 @@ both-all = refl
 
 -- if one has seen less, the two have seen the same once they have met
 abbrev pub sees_one : Session
-sees_one = record { space = 1; seen = 1; told = 0; tickets = 1 ∷ []; places = 0 ∷ [] }
+sees_one = record { space = 1; seen = 1; acknowledged = 0; tickets = 1 ∷ []; places = 0 ∷ [] }
 
 pub both-meet : Meet sees_one other_session (record sees_one { seen = 2 }) other_session
 both-meet = record { one_sees = refl; other_sees = refl; apart = apart-two }
@@ -180,7 +180,7 @@ older_answer session legal = elim legal.after.1.leads as (λ _. ⊥) [
 pub older-was_legal : Legal opening_state [] (called (call.Type 0x100) (reply.Refused 2 InvalidName) ∷ []) (record new_session { tickets = 0 ∷ [] })
 older-was_legal = record {
   start = new_session;
-  new = record { space = refl; within = omega arith; told = refl; tickets = refl; places = refl };
+  new = record { space = refl; within = omega arith; acknowledged = refl; tickets = refl; places = refl };
   after = (
     record new_session { tickets = 0 ∷ [] },
     record {
@@ -193,8 +193,8 @@ older-was_legal = record {
 }
 
 -- more is acknowledged than there is
-pub told-too_much : (session : Session) → Legal opening_state [] (redeemed_for_another 1 ∷ []) session → ⊥
-told-too_much session legal = absurd (omega (arith, legal.after.1.leads.0, legal.after.1.within))
+pub acknowledged-too_much : (session : Session) → Legal opening_state [] (redeemed_for_another 1 ∷ []) session → ⊥
+acknowledged-too_much session legal = absurd (omega (arith, legal.after.1.leads.0, legal.after.1.within))
 
 -- a ticket that no call of the session was given
 pub redeemed-ungiven : (session : Session) → Legal opening_state (allocated_name 0x100 ∷ []) (redeemed 1 ∷ []) session → ⊥

@@ -14,7 +14,7 @@ use Rattle.ipc_model.specs.effects.Effects.{queued}
 use Rattle.ipc_model.specs.messages.Items.{items_of, is_port_item}
 use Rattle.ipc_model.specs.messages.Messages.{body_of}
 use Rattle.ipc_model.specs.state.Placed.{placed, send_count}
-use Rattle.ipc_model.specs.messages.Receiving.{received_text, message_size, without_oldest}
+use Rattle.ipc_model.specs.messages.Receiving.{received_encoding, message_size, without_oldest}
 use Rattle.ipc_rows.specs.RowRules.{rows}
 use Rattle.ipc_rows.specs.RowStates.{rights_to, names_of, in_space_1, with_queue, plain, live, message_count, one_port, hello, hello_as_sent, asking}
 use Rattle.ipc_model.specs.messages.Sending.{Ready, ready_to_send, sent}
@@ -28,7 +28,7 @@ unfolding ready_to_send copy_in
 hello-ready = simp rows
 
 -- its bits are then those of a send right, and its local name that of the port
-pub hello-received : received_text hello 0x100 0 [] ≡ 0 ∷ 17 ∷ 0 ∷ 0 ∷ 28 ∷ 0 ∷ 0 ∷ 0 ∷ 0 ∷ 0 ∷ 0 ∷ 0 ∷ 0 ∷ 1 ∷ 0 ∷ 0 ∷ 0 ∷ 0 ∷ 0 ∷ 0 ∷ 7 ∷ 0 ∷ 0 ∷ 0 ∷ 68 ∷ 51 ∷ 34 ∷ 17 ∷ []
+pub hello-received : received_encoding hello 0x100 0 [] ≡ 0 ∷ 17 ∷ 0 ∷ 0 ∷ 28 ∷ 0 ∷ 0 ∷ 0 ∷ 0 ∷ 0 ∷ 0 ∷ 0 ∷ 0 ∷ 1 ∷ 0 ∷ 0 ∷ 0 ∷ 0 ∷ 0 ∷ 0 ∷ 7 ∷ 0 ∷ 0 ∷ 0 ∷ 68 ∷ 51 ∷ 34 ∷ 17 ∷ []
 hello-received = refl
 
 pub hello-size : message_size hello ≡ 28
@@ -148,7 +148,7 @@ one_more names = names_after names kind.Send (in_message.Live 1) 0x100
 pub three-arrived : finmap.get (one_more (one_more (one_more (names_of ((0x100, rights_to 1 true 0) ∷ []))))) 0x100 ≡ Some (rights_to 1 true 3)
 three-arrived = simp rows
 
-pub three-received : received_text three_rights 0x101 0 (0x100 ∷ 0x100 ∷ 0x100 ∷ [])
+pub three-received : received_encoding three_rights 0x101 0 (0x100 ∷ 0x100 ∷ 0x100 ∷ [])
     ≡ 0 ∷ 17 ∷ 0 ∷ 128 ∷ 48 ∷ 0 ∷ 0 ∷ 0 ∷ 0 ∷ 0 ∷ 0 ∷ 0 ∷ 1 ∷ 1 ∷ 0 ∷ 0 ∷ 0 ∷ 0 ∷ 0 ∷ 0 ∷ 9 ∷ 0 ∷ 0 ∷ 0 ∷ 0 ∷ 0 ∷ 0 ∷ 48 ∷ 17 ∷ 0 ∷ 32 ∷ 0 ∷ 3 ∷ 0 ∷ 0 ∷ 0 ∷ 0 ∷ 1 ∷ 0 ∷ 0 ∷ 0 ∷ 1 ∷ 0 ∷ 0 ∷ 0 ∷ 1 ∷ 0 ∷ 0 ∷ []
 unfolding items_of
 three-received = refl
@@ -162,7 +162,7 @@ unfolding ready_to_send copy_in
 reply-taken = simp rows
 
 -- as received, remote and local have changed places
-pub reply-received : received_text asking 0x100 0 (0x102 ∷ []) ≡ 18 ∷ 17 ∷ 0 ∷ 0 ∷ 24 ∷ 0 ∷ 0 ∷ 0 ∷ 2 ∷ 1 ∷ 0 ∷ 0 ∷ 0 ∷ 1 ∷ 0 ∷ 0 ∷ 0 ∷ 0 ∷ 0 ∷ 0 ∷ 9 ∷ 0 ∷ 0 ∷ 0 ∷ []
+pub reply-received : received_encoding asking 0x100 0 (0x102 ∷ []) ≡ 18 ∷ 17 ∷ 0 ∷ 0 ∷ 24 ∷ 0 ∷ 0 ∷ 0 ∷ 2 ∷ 1 ∷ 0 ∷ 0 ∷ 0 ∷ 1 ∷ 0 ∷ 0 ∷ 0 ∷ 0 ∷ 0 ∷ 0 ∷ 9 ∷ 0 ∷ 0 ∷ 0 ∷ []
 reply-received = refl
 
 -- a reply name of MACH_PORT_NULL keeps its type, as received
@@ -173,7 +173,7 @@ pub reply-null : ready_to_send (one_port []) 1 (19 ∷ 21 ∷ 0 ∷ 0 ∷ 24 ∷
 unfolding ready_to_send copy_in
 reply-null = simp rows
 
-pub reply-null_received : received_text asking_nobody 0x100 0 (0 ∷ []) ≡ 18 ∷ 17 ∷ 0 ∷ 0 ∷ 24 ∷ 0 ∷ 0 ∷ 0 ∷ 0 ∷ 0 ∷ 0 ∷ 0 ∷ 0 ∷ 1 ∷ 0 ∷ 0 ∷ 0 ∷ 0 ∷ 0 ∷ 0 ∷ 9 ∷ 0 ∷ 0 ∷ 0 ∷ []
+pub reply-null_received : received_encoding asking_nobody 0x100 0 (0 ∷ []) ≡ 18 ∷ 17 ∷ 0 ∷ 0 ∷ 24 ∷ 0 ∷ 0 ∷ 0 ∷ 0 ∷ 0 ∷ 0 ∷ 0 ∷ 0 ∷ 1 ∷ 0 ∷ 0 ∷ 0 ∷ 0 ∷ 0 ∷ 0 ∷ 9 ∷ 0 ∷ 0 ∷ 0 ∷ []
 reply-null_received = refl
 
 -- a port item of no names is a port item: the type is as received, and the message is complex without rights
@@ -184,7 +184,7 @@ pub no_names-taken : ready_to_send (one_port []) 1 (19 ∷ 0 ∷ 0 ∷ 128 ∷ 2
 unfolding ready_to_send copy_in items_of
 no_names-taken = simp rows
 
-pub no_names-received : received_text no_names 0x100 0 [] ≡ 0 ∷ 17 ∷ 0 ∷ 128 ∷ 28 ∷ 0 ∷ 0 ∷ 0 ∷ 0 ∷ 0 ∷ 0 ∷ 0 ∷ 0 ∷ 1 ∷ 0 ∷ 0 ∷ 0 ∷ 0 ∷ 0 ∷ 0 ∷ 9 ∷ 0 ∷ 0 ∷ 0 ∷ 17 ∷ 32 ∷ 0 ∷ 16 ∷ []
+pub no_names-received : received_encoding no_names 0x100 0 [] ≡ 0 ∷ 17 ∷ 0 ∷ 128 ∷ 28 ∷ 0 ∷ 0 ∷ 0 ∷ 0 ∷ 0 ∷ 0 ∷ 0 ∷ 0 ∷ 1 ∷ 0 ∷ 0 ∷ 0 ∷ 0 ∷ 0 ∷ 0 ∷ 9 ∷ 0 ∷ 0 ∷ 0 ∷ 17 ∷ 32 ∷ 0 ∷ 16 ∷ []
 unfolding items_of
 no_names-received = refl
 
@@ -207,7 +207,7 @@ once-moved = simp rows
 pub once-name_gone : entry_at (without_name (once_name []) 1 0x101) 1 0x101 ≡ None
 once-name_gone = simp rows
 
-pub once-received : received_text (plain kind.SendOnce 9 []) 0x100 0 [] ≡ 0 ∷ 18 ∷ 0 ∷ 0 ∷ 24 ∷ 0 ∷ 0 ∷ 0 ∷ 0 ∷ 0 ∷ 0 ∷ 0 ∷ 0 ∷ 1 ∷ 0 ∷ 0 ∷ 0 ∷ 0 ∷ 0 ∷ 0 ∷ 9 ∷ 0 ∷ 0 ∷ 0 ∷ []
+pub once-received : received_encoding (plain kind.SendOnce 9 []) 0x100 0 [] ≡ 0 ∷ 18 ∷ 0 ∷ 0 ∷ 24 ∷ 0 ∷ 0 ∷ 0 ∷ 0 ∷ 0 ∷ 0 ∷ 0 ∷ 0 ∷ 1 ∷ 0 ∷ 0 ∷ 0 ∷ 0 ∷ 0 ∷ 0 ∷ 9 ∷ 0 ∷ 0 ∷ 0 ∷ []
 once-received = refl
 
 -- One name is the destination and names the reply. A use that only copies a right comes before one that moves it.

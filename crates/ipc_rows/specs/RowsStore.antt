@@ -3,8 +3,8 @@ use Rattle.std.specs.Prelude.{◌≡◌, ℕ, List, [], ◌∷◌, ◌++◌, len
 use Rattle.ipc_model.specs.declared.call.Call.TheVariants as call
 use Rattle.ipc_model.specs.declared.call.Reply.TheVariants as reply
 use Rattle.ipc_model.specs.declared.record.Record.{Record}
-use Rattle.ipc_model.specs.store.Store.{open_gate, closed_gate, segment_header, batch_text, batches_text}
-use Rattle.ipc_model.specs.texts.Texts.{call_text, reply_text, record_text}
+use Rattle.ipc_model.specs.store.Store.{open_gate, closed_gate, segment_header, batch_encoding, batches_encoding}
+use Rattle.ipc_model.specs.encodings.Encodings.{call_encoding, reply_encoding, record_encoding}
 
 -- space 1 allocated a receive right, and got the name 0x100
 abbrev pub first_allocation : Record
@@ -20,8 +20,8 @@ first_segment =
     ∷ 0x0c ∷ 0 ∷ 0 ∷ 0 ∷ 5 ∷ 0 ∷ 0 ∷ 0 ∷ 0 ∷ 0 ∷ 0 ∷ 0 ∷ 0 ∷ 1 ∷ 0 ∷ 0
     ∷ 0 ∷ []
 
-pub segment-bytes : segment_header open_gate 0 ++ (batches_text 0 ((first_allocation ∷ []) ∷ []) ++ closed_gate ∷ []) ≡ first_segment
-unfolding batch_text record_text call_text reply_text
+pub segment-bytes : segment_header open_gate 0 ++ (batches_encoding 0 ((first_allocation ∷ []) ∷ []) ++ closed_gate ∷ []) ≡ first_segment
+unfolding batch_encoding record_encoding call_encoding reply_encoding
 segment-bytes = refl
 
 pub segment-length : length first_segment ≡ 70

@@ -8,14 +8,14 @@ use Rattle.ipc_model.specs.declared.call.Call.TheVariants as call
 use Rattle.ipc_model.specs.declared.call.Reply.{Reply}
 use Rattle.ipc_model.specs.declared.call.Reply.TheVariants as reply
 use Rattle.ipc_model.specs.declared.record.Record.{Record}
-use Rattle.ipc_model.specs.messages.Kept.{kept_message}
+use Rattle.ipc_model.specs.messages.Kept.{canonical_message}
 use Rattle.ipc_model.specs.messages.Messages.{used_parts}
-use Rattle.ipc_model.specs.texts.Images.{image_text}
+use Rattle.ipc_model.specs.encodings.Images.{image_encoding}
 use Rattle.ipc_rows.specs.RowRules.{rows}
 use Rattle.ipc_rows.specs.RowStates.{rights_to}
 use Rattle.ipc_model.specs.state.State.{State, new_port}
-use Rattle.ipc_model.specs.texts.Texts.{arguments_text, call_text, reply_text, record_text, IsRecord}
-use Rattle.words.specs.Words.{AreBytes, frame_text}
+use Rattle.ipc_model.specs.encodings.Encodings.{arguments_encoding, call_encoding, reply_encoding, record_encoding, IsRecord}
+use Rattle.words.specs.Words.{AreBytes, frame_encoding}
 
 -- after the first receive right was allocated
 abbrev pub with_one_port : State
@@ -25,58 +25,58 @@ with_one_port = record {
   next = 2;
 }
 
-pub one_port-image : image_text with_one_port
+pub one_port-image : image_encoding with_one_port
     ≡ 2 ∷ 0 ∷ 0 ∷ 0 ∷ 0 ∷ 0 ∷ 0 ∷ 0 ∷ 1 ∷ 0 ∷ 0 ∷ 0 ∷ 1 ∷ 0 ∷ 0 ∷ 0 ∷ 1 ∷ 0 ∷ 0 ∷ 0 ∷ 0 ∷ 1 ∷ 0 ∷ 0 ∷ 1 ∷ 1 ∷ 0 ∷ 0 ∷ 0 ∷ 0 ∷ 0 ∷ 0 ∷ 0 ∷ 1 ∷ 0 ∷ 0 ∷ 0 ∷ 0 ∷ 0 ∷ 0 ∷ 0 ∷ 0 ∷ 0 ∷ 0 ∷ 0 ∷ 0 ∷ 1 ∷ 0 ∷ 0 ∷ 0 ∷ 1 ∷ 0 ∷ 0 ∷ 0 ∷ 0 ∷ 0 ∷ 0 ∷ 0 ∷ 5 ∷ 0 ∷ 0 ∷ 0 ∷ 0 ∷ 0 ∷ 0 ∷ 0 ∷ 0 ∷ 0 ∷ 0 ∷ 0 ∷ 0 ∷ 0 ∷ 0 ∷ 0 ∷ 0 ∷ 0 ∷ 0 ∷ 0 ∷ 0 ∷ 0 ∷ 0 ∷ 0 ∷ 0 ∷ 0 ∷ 0 ∷ 0 ∷ 0 ∷ 0 ∷ 0 ∷ 0 ∷ 0 ∷ 0 ∷ 0 ∷ 0 ∷ []
-unfolding image_text
+unfolding image_encoding
 one_port-image = simp rows
 
 -- the frame that allocates a receive right, and the reply's
-pub allocate-frame : frame_text (call_text (call.Allocate 1)) ≡ 8 ∷ 0 ∷ 0 ∷ 0 ∷ 5 ∷ 0 ∷ 0 ∷ 0 ∷ 1 ∷ 0 ∷ 0 ∷ 0 ∷ []
-unfolding call_text
+pub allocate-frame : frame_encoding (call_encoding (call.Allocate 1)) ≡ 8 ∷ 0 ∷ 0 ∷ 0 ∷ 5 ∷ 0 ∷ 0 ∷ 0 ∷ 1 ∷ 0 ∷ 0 ∷ 0 ∷ []
+unfolding call_encoding
 allocate-frame = refl
 
-pub allocated-frame : frame_text (reply_text (reply.Allocate 0x100)) ≡ 12 ∷ 0 ∷ 0 ∷ 0 ∷ 5 ∷ 0 ∷ 0 ∷ 0 ∷ 0 ∷ 0 ∷ 0 ∷ 0 ∷ 0 ∷ 1 ∷ 0 ∷ 0 ∷ []
-unfolding reply_text
+pub allocated-frame : frame_encoding (reply_encoding (reply.Allocate 0x100)) ≡ 12 ∷ 0 ∷ 0 ∷ 0 ∷ 5 ∷ 0 ∷ 0 ∷ 0 ∷ 0 ∷ 0 ∷ 0 ∷ 0 ∷ 0 ∷ 1 ∷ 0 ∷ 0 ∷ []
+unfolding reply_encoding
 allocated-frame = refl
 
 -- the first record of an epoch
-pub first-record : record_text 0 (record { space = 1; call = call.Allocate 1; reply = reply.Allocate 0x100 })
+pub first-record : record_encoding 0 (record { space = 1; call = call.Allocate 1; reply = reply.Allocate 0x100 })
     ≡ 0 ∷ 0 ∷ 0 ∷ 0 ∷ 0 ∷ 0 ∷ 0 ∷ 0 ∷ 1 ∷ 0 ∷ 0 ∷ 0 ∷ 8 ∷ 0 ∷ 0 ∷ 0 ∷ 5 ∷ 0 ∷ 0 ∷ 0 ∷ 1 ∷ 0 ∷ 0 ∷ 0 ∷ 12 ∷ 0 ∷ 0 ∷ 0 ∷ 5 ∷ 0 ∷ 0 ∷ 0 ∷ 0 ∷ 0 ∷ 0 ∷ 0 ∷ 0 ∷ 1 ∷ 0 ∷ 0 ∷ []
-unfolding record_text call_text reply_text
+unfolding record_encoding call_encoding reply_encoding
 first-record = refl
 
-pub type-frame : frame_text (reply_text (reply.Type 0x20000)) ≡ 12 ∷ 0 ∷ 0 ∷ 0 ∷ 2 ∷ 0 ∷ 0 ∷ 0 ∷ 0 ∷ 0 ∷ 0 ∷ 0 ∷ 0 ∷ 0 ∷ 2 ∷ 0 ∷ []
-unfolding reply_text
+pub type-frame : frame_encoding (reply_encoding (reply.Type 0x20000)) ≡ 12 ∷ 0 ∷ 0 ∷ 0 ∷ 2 ∷ 0 ∷ 0 ∷ 0 ∷ 0 ∷ 0 ∷ 0 ∷ 0 ∷ 0 ∷ 0 ∷ 2 ∷ 0 ∷ []
+unfolding reply_encoding
 type-frame = refl
 
 -- a send of 28 bytes as it is kept, and its reply: mach_msg has its results in any case
-pub send-frame : frame_text (call_text (call.Send (19 ∷ 0 ∷ 0 ∷ 0 ∷ 0 ∷ 0 ∷ 0 ∷ 0 ∷ 0 ∷ 1 ∷ 0 ∷ 0 ∷ 0 ∷ 0 ∷ 0 ∷ 0 ∷ 0 ∷ 0 ∷ 0 ∷ 0 ∷ 7 ∷ 0 ∷ 0 ∷ 0 ∷ 68 ∷ 51 ∷ 34 ∷ 17 ∷ [])))
+pub send-frame : frame_encoding (call_encoding (call.Send (19 ∷ 0 ∷ 0 ∷ 0 ∷ 0 ∷ 0 ∷ 0 ∷ 0 ∷ 0 ∷ 1 ∷ 0 ∷ 0 ∷ 0 ∷ 0 ∷ 0 ∷ 0 ∷ 0 ∷ 0 ∷ 0 ∷ 0 ∷ 7 ∷ 0 ∷ 0 ∷ 0 ∷ 68 ∷ 51 ∷ 34 ∷ 17 ∷ [])))
     ≡ 48 ∷ 0 ∷ 0 ∷ 0 ∷ 19 ∷ 0 ∷ 0 ∷ 0 ∷ 1 ∷ 0 ∷ 0 ∷ 0 ∷ 0 ∷ 0 ∷ 0 ∷ 0 ∷ 0 ∷ 0 ∷ 0 ∷ 0 ∷ 0 ∷ 0 ∷ 0 ∷ 0 ∷ 19 ∷ 0 ∷ 0 ∷ 0 ∷ 0 ∷ 0 ∷ 0 ∷ 0 ∷ 0 ∷ 1 ∷ 0 ∷ 0 ∷ 0 ∷ 0 ∷ 0 ∷ 0 ∷ 0 ∷ 0 ∷ 0 ∷ 0 ∷ 7 ∷ 0 ∷ 0 ∷ 0 ∷ 68 ∷ 51 ∷ 34 ∷ 17 ∷ []
-unfolding call_text
+unfolding call_encoding
 send-frame = refl
 
-pub sent-frame : frame_text (reply_text (reply.Message Success 0 0 [])) ≡ 16 ∷ 0 ∷ 0 ∷ 0 ∷ 19 ∷ 0 ∷ 0 ∷ 0 ∷ 0 ∷ 0 ∷ 0 ∷ 0 ∷ 0 ∷ 0 ∷ 0 ∷ 0 ∷ 0 ∷ 0 ∷ 0 ∷ 0 ∷ []
-unfolding reply_text
+pub sent-frame : frame_encoding (reply_encoding (reply.Message Success 0 0 [])) ≡ 16 ∷ 0 ∷ 0 ∷ 0 ∷ 19 ∷ 0 ∷ 0 ∷ 0 ∷ 0 ∷ 0 ∷ 0 ∷ 0 ∷ 0 ∷ 0 ∷ 0 ∷ 0 ∷ 0 ∷ 0 ∷ 0 ∷ 0 ∷ []
+unfolding reply_encoding
 sent-frame = refl
 
 -- a receive with limit 28, and the message that it brings
-pub receive-frame : frame_text (call_text (call.Receive 28 false 0x100 false)) ≡ 20 ∷ 0 ∷ 0 ∷ 0 ∷ 19 ∷ 0 ∷ 0 ∷ 0 ∷ 2 ∷ 0 ∷ 0 ∷ 0 ∷ 28 ∷ 0 ∷ 0 ∷ 0 ∷ 0 ∷ 1 ∷ 0 ∷ 0 ∷ 0 ∷ 0 ∷ 0 ∷ 0 ∷ []
-unfolding call_text
+pub receive-frame : frame_encoding (call_encoding (call.Receive 28 false 0x100 false)) ≡ 20 ∷ 0 ∷ 0 ∷ 0 ∷ 19 ∷ 0 ∷ 0 ∷ 0 ∷ 2 ∷ 0 ∷ 0 ∷ 0 ∷ 28 ∷ 0 ∷ 0 ∷ 0 ∷ 0 ∷ 1 ∷ 0 ∷ 0 ∷ 0 ∷ 0 ∷ 0 ∷ 0 ∷ []
+unfolding call_encoding
 receive-frame = refl
 
-pub received-frame : frame_text (reply_text (reply.Message Success 28 0x100 (0 ∷ 17 ∷ 0 ∷ 0 ∷ 28 ∷ 0 ∷ 0 ∷ 0 ∷ 0 ∷ 0 ∷ 0 ∷ 0 ∷ 0 ∷ 1 ∷ 0 ∷ 0 ∷ 0 ∷ 0 ∷ 0 ∷ 0 ∷ 7 ∷ 0 ∷ 0 ∷ 0 ∷ 68 ∷ 51 ∷ 34 ∷ 17 ∷ [])))
+pub received-frame : frame_encoding (reply_encoding (reply.Message Success 28 0x100 (0 ∷ 17 ∷ 0 ∷ 0 ∷ 28 ∷ 0 ∷ 0 ∷ 0 ∷ 0 ∷ 0 ∷ 0 ∷ 0 ∷ 0 ∷ 1 ∷ 0 ∷ 0 ∷ 0 ∷ 0 ∷ 0 ∷ 0 ∷ 7 ∷ 0 ∷ 0 ∷ 0 ∷ 68 ∷ 51 ∷ 34 ∷ 17 ∷ [])))
     ≡ 44 ∷ 0 ∷ 0 ∷ 0 ∷ 19 ∷ 0 ∷ 0 ∷ 0 ∷ 0 ∷ 0 ∷ 0 ∷ 0 ∷ 28 ∷ 0 ∷ 0 ∷ 0 ∷ 0 ∷ 1 ∷ 0 ∷ 0 ∷ 0 ∷ 17 ∷ 0 ∷ 0 ∷ 28 ∷ 0 ∷ 0 ∷ 0 ∷ 0 ∷ 0 ∷ 0 ∷ 0 ∷ 0 ∷ 1 ∷ 0 ∷ 0 ∷ 0 ∷ 0 ∷ 0 ∷ 0 ∷ 7 ∷ 0 ∷ 0 ∷ 0 ∷ 68 ∷ 51 ∷ 34 ∷ 17 ∷ []
-unfolding reply_text
+unfolding reply_encoding
 received-frame = refl
 
 -- a refusal has no results
-pub refused-frame : frame_text (reply_text (reply.Refused 5 InvalidValue)) ≡ 8 ∷ 0 ∷ 0 ∷ 0 ∷ 5 ∷ 0 ∷ 0 ∷ 0 ∷ 18 ∷ 0 ∷ 0 ∷ 0 ∷ []
-unfolding reply_text
+pub refused-frame : frame_encoding (reply_encoding (reply.Refused 5 InvalidValue)) ≡ 8 ∷ 0 ∷ 0 ∷ 0 ∷ 5 ∷ 0 ∷ 0 ∷ 0 ∷ 18 ∷ 0 ∷ 0 ∷ 0 ∷ []
+unfolding reply_encoding
 refused-frame = refl
 
 -- no names
-pub names-frame : frame_text (reply_text (reply.Names [])) ≡ 12 ∷ 0 ∷ 0 ∷ 0 ∷ 1 ∷ 0 ∷ 0 ∷ 0 ∷ 0 ∷ 0 ∷ 0 ∷ 0 ∷ 0 ∷ 0 ∷ 0 ∷ 0 ∷ []
-unfolding reply_text
+pub names-frame : frame_encoding (reply_encoding (reply.Names [])) ≡ 12 ∷ 0 ∷ 0 ∷ 0 ∷ 1 ∷ 0 ∷ 0 ∷ 0 ∷ 0 ∷ 0 ∷ 0 ∷ 0 ∷ 0 ∷ 0 ∷ 0 ∷ 0 ∷ []
+unfolding reply_encoding
 names-frame = refl
 
 -- A send of 28 bytes with bits, a size and a sequence number that a send ignores: its record has 0 in place of them.
@@ -100,20 +100,20 @@ few_bytes [] few i = omega arith
 few_bytes (b ∷ bytes) few zero = few.0
 few_bytes (b ∷ bytes) few (suc i) = few_bytes bytes few.1 i
 
-pub raw_send-kept : kept_message raw_send ≡ kept_send
-unfolding kept_message
+pub raw_send-kept : canonical_message raw_send ≡ kept_send
+unfolding canonical_message
 raw_send-kept = refl
 
 -- they differ only in what a send ignores
 pub raw_send-parts : used_parts raw_send ≡ used_parts kept_send
 raw_send-parts = refl
 
-pub raw_send-record : record_text 0 (of_send raw_send (reply.Message Success 0 0 [])) ≡ record_text 0 (of_send kept_send (reply.Message Success 0 0 []))
-unfolding record_text kept_message
+pub raw_send-record : record_encoding 0 (of_send raw_send (reply.Message Success 0 0 [])) ≡ record_encoding 0 (of_send kept_send (reply.Message Success 0 0 []))
+unfolding record_encoding canonical_message
 raw_send-record = refl
 
 pub kept_send-is_record : IsRecord (of_send kept_send (reply.Message Success 0 0 []))
-unfolding kept_message call_text reply_text
+unfolding canonical_message call_encoding reply_encoding
 kept_send-is_record = record {
   space = omega arith;
   call = record { fits = λ i. few_bytes kept_send (omega arith, (omega arith, (omega arith, (omega arith, (omega arith, (omega arith, (omega arith, (omega arith, (omega arith, (omega arith, (omega arith, (omega arith, (omega arith, (omega arith, (omega arith, (omega arith, (omega arith, (omega arith, (omega arith, (omega arith, (omega arith, (omega arith, (omega arith, (omega arith, (omega arith, (omega arith, (omega arith, (omega arith, tt)))))))))))))))))))))))))))) i; whole = omega arith; kept = refl };
@@ -125,8 +125,8 @@ kept_send-is_record = record {
 -- number has, and a receive of another size, above its limit or destroyed within it, of an odd size, or of no name.
 
 pub raw_send-no_record : (answer : Reply) → IsRecord (of_send raw_send answer) → ⊥
-unfolding kept_message
-raw_send-no_record answer is = absurd (omega (arith, ap (λ (c : Call). slice_index (arguments_text c) 18) is.call.kept))
+unfolding canonical_message
+raw_send-no_record answer is = absurd (omega (arith, ap (λ (c : Call). slice_index (arguments_encoding c) 18) is.call.kept))
 
 pub short_send-no_record : (answer : Reply) → IsRecord (of_send (19 ∷ 0 ∷ 0 ∷ 0 ∷ []) answer) → ⊥
 short_send-no_record answer is = absurd (omega (arith, is.call.whole.0))
@@ -146,14 +146,14 @@ answered_send-no_record is = absurd (omega (arith, is.reply.results.0))
 pub done_allocation-no_record : IsRecord (record { space = 1; call = call.Allocate 1; reply = reply.Done 5 }) → ⊥
 done_allocation-no_record is = cc is.reply.results
 
-pub shorter_receipt-no_record : IsRecord (record { space = 1; call = call.Receive 32 false 0x100 false; reply = reply.Message Success 32 0x100 kept_send }) → ⊥
-shorter_receipt-no_record is = absurd (omega (arith, is.reply.results.3.1))
+pub shorter_receive-no_record : IsRecord (record { space = 1; call = call.Receive 32 false 0x100 false; reply = reply.Message Success 32 0x100 kept_send }) → ⊥
+shorter_receive-no_record is = absurd (omega (arith, is.reply.results.3.1))
 
-pub receipt_above_limit-no_record : IsRecord (record { space = 1; call = call.Receive 24 false 0x100 false; reply = reply.Message Success 28 0x100 kept_send }) → ⊥
-receipt_above_limit-no_record is = absurd (omega (arith, is.reply.results.3.0))
+pub receive_above_limit-no_record : IsRecord (record { space = 1; call = call.Receive 24 false 0x100 false; reply = reply.Message Success 28 0x100 kept_send }) → ⊥
+receive_above_limit-no_record is = absurd (omega (arith, is.reply.results.3.0))
 
-pub nameless_receipt-no_record : IsRecord (record { space = 1; call = call.Receive 28 false 0x100 false; reply = reply.Message Success 28 0 kept_send }) → ⊥
-nameless_receipt-no_record is = absurd (omega (arith, is.reply.results.1))
+pub nameless_receive-no_record : IsRecord (record { space = 1; call = call.Receive 28 false 0x100 false; reply = reply.Message Success 28 0 kept_send }) → ⊥
+nameless_receive-no_record is = absurd (omega (arith, is.reply.results.1))
 
 pub odd_size-no_record : IsRecord (record { space = 1; call = call.Receive 24 false 0x100 false; reply = reply.Message RcvTooLarge 30 0x100 [] }) → ⊥
 odd_size-no_record is = absurd (omega (arith, is.reply.results.0.2))

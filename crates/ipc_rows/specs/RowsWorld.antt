@@ -14,7 +14,7 @@ use Rattle.ipc_model.specs.calls.Step.{Step, Answer, ActsFrom}
 use Rattle.ipc_model.specs.effects.Effects.{Effect, settled}
 use Rattle.ipc_model.specs.state.State.{State, Names, opening_state}
 use Rattle.ipc_model.specs.store.Faults as fault
-use Rattle.ipc_model.specs.world.World.{Event, Outcome, Ticket, Receipt, of_finish, World, Worlds, After, MayGive, IsPossible, submit, take_batch, append, durable, ask_reply, cut, roll_close, roll_head, roll_open, image_close, piece, finish, given, replied, done, not_now, epoch_full, no_memory, store, first_world, told, row_length, pieces_of, after_submit, after_take, after_append, after_durable, after_cut, with_answered}
+use Rattle.ipc_model.specs.world.World.{Event, Outcome, Ticket, Receipt, of_finish, World, Worlds, After, MayGive, IsPossible, submit, take_batch, append, durable, ask_reply, cut, roll_close, roll_head, roll_open, image_close, piece, finish, given, replied, done, not_now, epoch_full, no_memory, store, first_world, acknowledged, log_length, pieces_of, after_submit, after_take, after_append, after_durable, after_cut, with_answered}
 use Rattle.ipc_laws.specs.MapLaws.{map_rules}
 use Rattle.ipc_laws.specs.OpeningLaws.{opening-image}
 use Rattle.ipc_rows.specs.RowRules.{rows}
@@ -75,8 +75,8 @@ two_calls-leave = (
 )
 
 -- both are stored at once, and so acknowledged: one batch has both
-pub two_calls-told : (told two_submitted ≡ 0) × (told two_taken ≡ 0) × (told two_appended ≡ 2) × (told two_durable ≡ 2)
-two_calls-told = (refl, refl, refl, refl)
+pub two_calls-acknowledged : (acknowledged two_submitted ≡ 0) × (acknowledged two_taken ≡ 0) × (acknowledged two_appended ≡ 2) × (acknowledged two_durable ≡ 2)
+two_calls-acknowledged = (refl, refl, refl, refl)
 
 -- then the replies may be requested in any order
 pub replies-possible : IsPossible two_durable (ask_reply 1) × IsPossible two_durable (ask_reply 0)
@@ -150,7 +150,7 @@ checkpointing rolled imaged finished receipts =
     record (first_world 1 0) { checkpoint = Some (record { rolled = rolled; imaged = imaged; pieces = 1; finished = finished }); receipts = receipts }
 
 opening-cut : checkpointing 0 0 false [] ≡ after_cut (first_world 0 0) opening_state
-opening-cut = ap (λ (text : List ℕ). record (first_world 1 0) { checkpoint = Some (record { rolled = 0; imaged = 0; pieces = pieces_of text; finished = false }) }) (sym opening-image)
+opening-cut = ap (λ (encoding : List ℕ). record (first_world 1 0) { checkpoint = Some (record { rolled = 0; imaged = 0; pieces = pieces_of encoding; finished = false }) }) (sym opening-image)
 
 pub checkpoint-leaves : Worlds opening_state (first_world 0 0) checkpoint_events (first_world 1 0)
 checkpoint-leaves = (
@@ -196,7 +196,7 @@ full-answer = (refl, tt, ((omega arith, reply.Allocate 0x100, (opening_state, on
 pub full-no_ticket : (new : World) → After opening_state full_world (submit 1 allocation) (given (reply.Allocate 0x100)) new → ⊥
 full-no_ticket new after = let below : 65536 < 65536 = after.2.0.1 refl in absurd (omega (arith, below))
 
-pub full-emptied : row_length (after_cut full_world opening_state) ≡ 0
+pub full-emptied : log_length (after_cut full_world opening_state) ≡ 0
 full-emptied = refl
 
 -- in a new store a name has no type, and this is the only possible answer
@@ -229,8 +229,8 @@ failed_world = record two_taken { failed = true }
 pub fault-changes : After opening_state two_taken append (store fault.device) failed_world
 fault-changes = (refl, (refl, tt), (refl, refl))
 
-pub fault-told : told failed_world ≡ 0
-fault-told = refl
+pub fault-acknowledged : acknowledged failed_world ≡ 0
+fault-acknowledged = refl
 
 pub failed-append : After opening_state failed_world append (store fault.failed) failed_world
 failed-append = (refl, refl)
@@ -282,8 +282,8 @@ reply_before_append answer new (one, submitted, (two, taken, (three, asked, end)
     absurd (omega (arith, early.1))
 
 -- what comes after the two calls begins where both are durable
-behind_two : (events : List (Event × Outcome)) (new : World) → Worlds opening_state (first_world 0 0) (two_calls ++ events) new → Worlds opening_state two_durable events new
-behind_two events new (one, first, (two, second, (three, taken, (four, appended, (five, handed, rest))))) =
+after_two : (events : List (Event × Outcome)) (new : World) → Worlds opening_state (first_world 0 0) (two_calls ++ events) new → Worlds opening_state two_durable events new
+after_two events new (one, first, (two, second, (three, taken, (four, appended, (five, handed, rest))))) =
     let submitted : two ≡ two_submitted = second.2.1 ∙ ap (λ (w : World). after_submit w 1 allocation (reply.Allocate 0x101)) first.2.1 in
     let stored : four ≡ two_appended = appended.2 ∙ ap (λ (w : World). after_append w w.batch) (taken.2 ∙ ap after_take submitted) in
     subst (λ (w : World). Worlds opening_state w events new) (handed.2 ∙ ap (λ (w : World). after_durable w w.receipts) stored) rest
@@ -291,7 +291,7 @@ behind_two events new (one, first, (two, second, (three, taken, (four, appended,
 -- the ticket answered twice
 pub answered_twice : (answer again : Reply) (new : World) → Worlds opening_state (first_world 0 0) (two_calls ++ (ask_reply 0, replied answer) ∷ (ask_reply 0, replied again) ∷ []) new → ⊥
 answered_twice answer again new worlds =
-    let (one, first, (two, second, end)) = behind_two ((ask_reply 0, replied answer) ∷ (ask_reply 0, replied again) ∷ []) new worlds in
+    let (one, first, (two, second, end)) = after_two ((ask_reply 0, replied answer) ∷ (ask_reply 0, replied again) ∷ []) new worlds in
     let kept : IsPossible (record two_durable { tickets = with_answered two_durable.tickets 0 }) (ask_reply 0) = subst (λ (w : World). IsPossible w (ask_reply 0)) first.2.3 second.1 in
     absurd (cc kept.0)
 
@@ -302,7 +302,7 @@ name_given answer = 0
 
 pub other_reply : (new : World) → Worlds opening_state (first_world 0 0) (two_calls ++ (ask_reply 0, replied (reply.Allocate 0x101)) ∷ []) new → ⊥
 other_reply new worlds =
-    let (one, asked, end) = behind_two ((ask_reply 0, replied (reply.Allocate 0x101)) ∷ []) new worlds in
+    let (one, asked, end) = after_two ((ask_reply 0, replied (reply.Allocate 0x101)) ∷ []) new worlds in
     let kept : reply.Allocate 0x100 ≡ asked.2.0.answer = ap (λ (o : Option Ticket). elim o as (λ _. Reply) [ None ↦ reply.Allocate 0x100 | Some ticket ↦ ticket.answer ]) asked.2.1 in
     let names : 0x100 ≡ 0x101 = ap {B = ℕ} name_given (kept ∙ asked.2.2) in
     absurd (omega (arith, names))

@@ -292,8 +292,8 @@ removed_again spaces space names = same_map nat_cmp_total nat_cmp-IsAntisymmetri
     go q true _ = refl
     go q false apart = get-insert nat_cmp_total spaces space names q ∙ ap (λ (b : Bool). cond b (Some names) (get spaces q)) apart
 
-pub same_beside : (state : State) (space name : ℕ) → record (without_name state space name) { spaces = remove (without_name state space name).spaces space } ≡ record state { spaces = remove state.spaces space }
-same_beside state space name = go (get state.spaces space)
+pub same_alongside : (state : State) (space name : ℕ) → record (without_name state space name) { spaces = remove (without_name state space name).spaces space } ≡ record state { spaces = remove state.spaces space }
+same_alongside state space name = go (get state.spaces space)
   where
     after : Option Names → State
     after o = elim o as (λ _. State) [ None ↦ state | Some names ↦ with_names state space (remove names name) ]

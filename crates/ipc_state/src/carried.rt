@@ -33,8 +33,8 @@ impl IpcState {
         match self.ports.push(serial, message) {
             Ok(()) => Ok(()),
             Err(error) => {
-                self.spaces.give_up();
-                self.members.give_up();
+                self.spaces.roll_back();
+                self.members.roll_back();
                 Err(error)
             }
         }
@@ -90,9 +90,9 @@ impl IpcState {
         match take_and_count(&mut self.ports, serial) {
             Ok(()) => Ok(()),
             Err(error) => {
-                self.spaces.give_up();
-                self.ports.give_up();
-                self.members.give_up();
+                self.spaces.roll_back();
+                self.ports.roll_back();
+                self.members.roll_back();
                 Err(error)
             }
         }

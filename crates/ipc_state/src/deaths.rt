@@ -18,7 +18,7 @@ impl IpcState {
     /// allocation fails, the changes are rolled back.
     pub fn bury(&mut self, serial: u64, effects: &mut Effects) -> Result<(), AllocError>
         ensures ok { OnOk result (self.new ≡ record self.old { current = after_death self.old.current serial }) }
-        ensures told { OnOk result (effects.new ≡ effects.old ++ dead_name_notices self.old.current serial) }
+        ensures notified { OnOk result (effects.new ≡ effects.old ++ dead_name_notices self.old.current serial) }
         ensures err { OnErr result (self.new ≡ at_rest self.old.before) }
     {
         self.leave_set(serial)?;
@@ -45,15 +45,15 @@ impl IpcState {
     fn bury_outside(&mut self, serial: u64, effects: &mut Effects) -> Result<(), AllocError>
         requires outside { set_in self.old.current.ports serial ≡ None }
         ensures ok { OnOk result (self.new ≡ record self.old { current = after_death self.old.current serial }) }
-        ensures told { OnOk result (effects.new ≡ effects.old ++ dead_name_notices self.old.current serial) }
+        ensures notified { OnOk result (effects.new ≡ effects.old ++ dead_name_notices self.old.current serial) }
         ensures err { OnErr result (self.new ≡ at_rest self.old.before) }
     {
         match bury_in_both(&mut self.spaces, &mut self.ports, serial, effects) {
             Ok(()) => Ok(()),
             Err(error) => {
-                self.spaces.give_up();
-                self.ports.give_up();
-                self.members.give_up();
+                self.spaces.roll_back();
+                self.ports.roll_back();
+                self.members.roll_back();
                 Err(error)
             }
         }
@@ -72,7 +72,7 @@ fn bury_in_both(
         ports = map_values (port_after_death serial) (map.remove ports.old.current.ports serial);
       };
     }) }
-    ensures told { OnOk result (effects.new ≡ effects.old ++ flat_map (λ s. flat_map (λ e. dead_name_of_entry serial e.0 e.1) (map.entries s.1)) (map.entries spaces.old.current)) }
+    ensures notified { OnOk result (effects.new ≡ effects.old ++ flat_map (λ s. flat_map (λ e. dead_name_of_entry serial e.0 e.1) (map.entries s.1)) (map.entries spaces.old.current)) }
     ensures before { spaces.new.before ≡ spaces.old.before }
     ensures ports_before { ports.new.before ≡ ports.old.before }
 {

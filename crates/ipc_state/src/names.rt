@@ -103,9 +103,9 @@ impl IpcState {
         ) {
             Ok(()) => Ok(()),
             Err(error) => {
-                self.spaces.give_up();
-                self.ports.give_up();
-                self.members.give_up();
+                self.spaces.roll_back();
+                self.ports.roll_back();
+                self.members.roll_back();
                 Err(error)
             }
         }
@@ -128,9 +128,9 @@ impl IpcState {
         ) {
             Ok(()) => Ok(()),
             Err(error) => {
-                self.spaces.give_up();
-                self.ports.give_up();
-                self.members.give_up();
+                self.spaces.roll_back();
+                self.ports.roll_back();
+                self.members.roll_back();
                 Err(error)
             }
         }
@@ -152,9 +152,9 @@ impl IpcState {
         ) {
             Ok(()) => Ok(()),
             Err(error) => {
-                self.spaces.give_up();
-                self.ports.give_up();
-                self.members.give_up();
+                self.spaces.roll_back();
+                self.ports.roll_back();
+                self.members.roll_back();
                 Err(error)
             }
         }

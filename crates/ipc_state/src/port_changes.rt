@@ -66,8 +66,8 @@ impl IpcState {
         match self.ports.add() {
             Ok(()) => Ok(()),
             Err(error) => {
-                self.spaces.give_up();
-                self.members.give_up();
+                self.spaces.roll_back();
+                self.members.roll_back();
                 Err(error)
             }
         }
@@ -99,9 +99,9 @@ impl IpcState {
         ) {
             Ok(()) => Ok(()),
             Err(error) => {
-                self.spaces.give_up();
-                self.ports.give_up();
-                self.members.give_up();
+                self.spaces.roll_back();
+                self.ports.roll_back();
+                self.members.roll_back();
                 Err(error)
             }
         }

@@ -44,8 +44,8 @@ impl IpcState {
         match self.spaces.add(number) {
             Ok(()) => Ok(()),
             Err(error) => {
-                self.ports.give_up();
-                self.members.give_up();
+                self.ports.roll_back();
+                self.members.roll_back();
                 Err(error)
             }
         }
@@ -74,8 +74,8 @@ impl IpcState {
         match self.spaces.close(number) {
             Ok(()) => Ok(()),
             Err(error) => {
-                self.ports.give_up();
-                self.members.give_up();
+                self.ports.roll_back();
+                self.members.roll_back();
                 Err(error)
             }
         }

@@ -69,7 +69,7 @@ impl IpcState {
         let mut state = IpcState::new(alloc);
         match state.add_space(FIRST_SPACE) {
             Ok(()) => {
-                state.keep();
+                state.commit();
                 Ok(state)
             }
             Err(error) => {
@@ -80,27 +80,27 @@ impl IpcState {
     }
 
     /// Commits the changes. It takes no memory.
-    pub fn keep(&mut self)
+    pub fn commit(&mut self)
         ensures { self.new ≡ at_rest self.old.current }
     {
-        self.spaces.keep();
-        self.ports.keep();
-        self.members.keep();
+        self.spaces.commit();
+        self.ports.commit();
+        self.members.commit();
     }
 
     /// Rolls the changes back. It takes no memory.
-    pub fn give_up(&mut self)
+    pub fn roll_back(&mut self)
         ensures { self.new ≡ at_rest self.old.before }
     {
-        self.spaces.give_up();
-        self.ports.give_up();
-        self.members.give_up();
+        self.spaces.roll_back();
+        self.ports.roll_back();
+        self.members.roll_back();
     }
 
     /// Shows that no queue holds more messages than a word counts. It does nothing else.
-    pub fn queues_are_short(&self)
+    pub fn show_queues_short(&self)
         ensures { ShortQueues self.now.current }
     {
-        self.ports.are_short();
+        self.ports.show_queues_short();
     }
 }

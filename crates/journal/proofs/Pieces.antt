@@ -10,38 +10,38 @@ pub record IsFrontOf (most : ℕ) (front whole : List ℕ) : Type 0 where
   pub enough : (most ≤ length front) ⊎ (front ≡ whole)
 
 -- what the front begins with, the whole begins with
-pub whole_begins : (most : ℕ) (front whole text content : List ℕ) → IsFrontOf most front whole → front ≡ text ++ content → whole ≡ text ++ drop (length text) whole
-whole_begins most front whole text content is begins =
+pub whole_begins : (most : ℕ) (front whole encoding content : List ℕ) → IsFrontOf most front whole → front ≡ encoding ++ content → whole ≡ encoding ++ drop (length encoding) whole
+whole_begins most front whole encoding content is begins =
     let rest : List ℕ = drop (length front) whole in
-    let joined : whole ≡ text ++ (content ++ rest) = sym (take-append-drop (length front) whole) ∙ ap (λ l. l ++ rest) (sym is.shown ∙ begins) ∙ append_assoc text content rest in
-    let behind : drop (length text) whole ≡ content ++ rest = ap (drop (length text)) joined ∙ drop_at text (content ++ rest) (length text) refl in
-    joined ∙ ap (λ l. text ++ l) (sym behind)
+    let joined : whole ≡ encoding ++ (content ++ rest) = sym (take-append-drop (length front) whole) ∙ ap (λ l. l ++ rest) (sym is.shown ∙ begins) ∙ append_assoc encoding content rest in
+    let behind : drop (length encoding) whole ≡ content ++ rest = ap (drop (length encoding)) joined ∙ drop_at encoding (content ++ rest) (length encoding) refl in
+    joined ∙ ap (λ l. encoding ++ l) (sym behind)
 
 -- and after that comes the front of what is left
-pub front_behind : (most less : ℕ) (front whole text content : List ℕ) → IsFrontOf most front whole → front ≡ text ++ content → most ≡ length text + less → IsFrontOf less content (drop (length text) whole)
-front_behind most less front whole text content is begins fits =
+pub front_after : (most less : ℕ) (front whole encoding content : List ℕ) → IsFrontOf most front whole → front ≡ encoding ++ content → most ≡ length encoding + less → IsFrontOf less content (drop (length encoding) whole)
+front_after most less front whole encoding content is begins fits =
     let rest : List ℕ = drop (length front) whole in
-    let joined : whole ≡ text ++ (content ++ rest) = sym (take-append-drop (length front) whole) ∙ ap (λ l. l ++ rest) (sym is.shown ∙ begins) ∙ append_assoc text content rest in
-    let behind : drop (length text) whole ≡ content ++ rest = ap (drop (length text)) joined ∙ drop_at text (content ++ rest) (length text) refl in
-    let long : length front ≡ length text + length content = ap length begins ∙ length-append text content in
+    let joined : whole ≡ encoding ++ (content ++ rest) = sym (take-append-drop (length front) whole) ∙ ap (λ l. l ++ rest) (sym is.shown ∙ begins) ∙ append_assoc encoding content rest in
+    let behind : drop (length encoding) whole ≡ content ++ rest = ap (drop (length encoding)) joined ∙ drop_at encoding (content ++ rest) (length encoding) refl in
+    let long : length front ≡ length encoding + length content = ap length begins ∙ length-append encoding content in
     record {
       shown = sym (take_at content rest (length content) refl) ∙ ap (take (length content)) (sym behind);
       enough = elim is.enough [
         | inl many ↦ inl (omega arith)
-        | inr all ↦ inr (sym (drop_at text content (length text) refl) ∙ ap (drop (length text)) (sym begins ∙ all))
+        | inr all ↦ inr (sym (drop_at encoding content (length encoding) refl) ∙ ap (drop (length encoding)) (sym begins ∙ all))
       ];
     }
 
 -- what the whole begins with, the front begins with, if that isn't too long
-pub front_begins : (most : ℕ) (front whole text rest : List ℕ) → IsFrontOf most front whole → whole ≡ text ++ rest → length text ≤ most → front ≡ text ++ drop (length text) front
-front_begins most front whole text rest is begins fits = elim is.enough [
+pub front_begins : (most : ℕ) (front whole encoding rest : List ℕ) → IsFrontOf most front whole → whole ≡ encoding ++ rest → length encoding ≤ most → front ≡ encoding ++ drop (length encoding) front
+front_begins most front whole encoding rest is begins fits = elim is.enough [
   | inl many ↦
-      let first : take (length text) front ≡ text =
-      ap (take (length text)) is.shown ∙ take-take (length text) (length front) whole (omega arith) ∙ ap (take (length text)) begins ∙ take_at text rest (length text) refl in
-      sym (take-append-drop (length text) front) ∙ ap (λ l. l ++ drop (length text) front) first
+      let first : take (length encoding) front ≡ encoding =
+      ap (take (length encoding)) is.shown ∙ take-take (length encoding) (length front) whole (omega arith) ∙ ap (take (length encoding)) begins ∙ take_at encoding rest (length encoding) refl in
+      sym (take-append-drop (length encoding) front) ∙ ap (λ l. l ++ drop (length encoding) front) first
   | inr all ↦
-      let same : front ≡ text ++ rest = all ∙ begins in
-      same ∙ ap (λ l. text ++ l) (sym (ap (drop (length text)) same ∙ drop_at text rest (length text) refl))
+      let same : front ≡ encoding ++ rest = all ∙ begins in
+      same ∙ ap (λ l. encoding ++ l) (sym (ap (drop (length encoding)) same ∙ drop_at encoding rest (length encoding) refl))
 ]
 
 -- a full window shows a front of what stands from its place on

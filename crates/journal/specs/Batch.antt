@@ -2,7 +2,7 @@
 use Rattle.std.specs.Prelude.{◌≡◌, ℕ, ◌-◌, ◌+◌, List, [], ◌∷◌, ◌++◌, length, take, drop, replicate, refl}
 use Rattle.std.specs.Coded.{Coded, code_by, coded×, coded_ℕ, coded_list}
 use Rattle.ipc_model.specs.declared.record.Record.{Record}
-use Rattle.ipc_model.specs.texts.Texts.{records_text}
+use Rattle.ipc_model.specs.encodings.Encodings.{records_encoding}
 use Rattle.ipc_model.specs.store.Store.{closed_gate}
 use Rattle.words.specs.Words.{word, long_word}
 
@@ -20,8 +20,8 @@ abbrev pub empty_batch : BatchValue
 empty_batch = record { count = 0; body = [] }
 
 -- one more record, with this encoding
-abbrev pub with_text : BatchValue → List ℕ → BatchValue
-with_text batch text = record { count = batch.count + 1; body = batch.body ++ text }
+abbrev pub with_encoding : BatchValue → List ℕ → BatchValue
+with_encoding batch encoding = record { count = batch.count + 1; body = batch.body ++ encoding }
 
 -- without the last record, whose encoding has this many bytes
 abbrev pub without_last : BatchValue → ℕ → BatchValue
@@ -33,21 +33,21 @@ content_of batch = word batch.count ++ (long_word (length batch.body) ++ batch.b
 
 -- the bytes between a batch's first twelve, which hold its count and length, and the gate after it
 abbrev pub body_of : List ℕ → List ℕ
-body_of text = drop 12 (take (length text - 1) text)
+body_of encoding = drop 12 (take (length encoding - 1) encoding)
 
 -- no bytes are taken for those of a batch of no records
 abbrev pub padded : List ℕ → List ℕ
 padded [] = replicate 13 0
-padded text = text
+padded encoding = encoding
 
 abbrev pub value_of : ℕ → List ℕ → BatchValue
-value_of count text = record { count = count; body = body_of text }
+value_of count encoding = record { count = count; body = body_of encoding }
 
 -- These bytes are a batch of this many records, and a closed gate after it.
 abbrev pub IsWhole : ℕ → List ℕ → Type 0
-IsWhole count text = text ≡ content_of (value_of count text) ++ closed_gate ∷ []
+IsWhole count encoding = encoding ≡ content_of (value_of count encoding) ++ closed_gate ∷ []
 
 -- The batch is of these records, numbered from n.
 pub record Holds (n : ℕ) (records : List Record) (batch : BatchValue) : Type 0 where
   pub counted : batch.count ≡ length records
-  pub text : batch.body ≡ records_text n records
+  pub encoding : batch.body ≡ records_encoding n records

@@ -4,4 +4,4 @@ use Rattle.std.specs.Prelude.{◌≡◌, ◌⊎◌, ℕ, ◌-◌, List, ◌∷�
 -- The slot as it was, with any bytes after it; or any byte in the place of its gate, which is its last byte, and the
 -- stored bytes after that.
 abbrev pub IsMidStore : List ℕ → List ℕ → List ℕ → Type 0
-IsMidStore text old new = ((tail : List ℕ) × (new ≡ old ++ tail)) ⊎ ((gate : ℕ) × (new ≡ take (length old - 1) old ++ (gate ∷ text)))
+IsMidStore encoding old new = ((tail : List ℕ) × (new ≡ old ++ tail)) ⊎ ((gate : ℕ) × (new ≡ take (length old - 1) old ++ (gate ∷ encoding)))

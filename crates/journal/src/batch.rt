@@ -1,7 +1,7 @@
 ghost use Rattle.std.specs.Prelude.{◌≡◌, ◌+◌, ◌-◌, ◌<◌, ◌≤◌, ◌^◌, ◌++◌, ◌∷◌, [], length, take, drop, vec_len, vec_capacity, OnOk, OnErr};
 ghost use Rattle.ipc_model.specs.store.Store.{closed_gate};
 ghost use Rattle.words.specs.Words.{word, long_word};
-ghost use Rattle.journal.specs.Batch.{content_of, empty_batch, padded, with_text, without_last};
+ghost use Rattle.journal.specs.Batch.{content_of, empty_batch, padded, with_encoding, without_last};
 
 use byteorder::{ByteOrder, LittleEndian};
 use slot_steps::CLOSED_GATE;
@@ -15,7 +15,7 @@ const HEADER: usize = 12;
 /// storing it takes no memory.
 #[derive(Drop)]
 pub struct Batch {
-    text: Vec<u8>,
+    encoding: Vec<u8>,
     count: u32,
 }
 
@@ -26,10 +26,10 @@ impl Model for Batch {
 
     ghost coded = { batch_code };
 
-    ghost view = { λ b. value_of b.count (padded b.text.items) };
+    ghost view = { λ b. value_of b.count (padded b.encoding.items) };
 
     // A closed gate stands after the records. If there are none, there may be no bytes at all.
-    ghost invariant = { λ b. IsWhole b.count (padded b.text.items) };
+    ghost invariant = { λ b. IsWhole b.count (padded b.encoding.items) };
 }
 
 impl Batch {
@@ -38,7 +38,7 @@ impl Batch {
         ensures { result ≡ empty_batch }
     {
         Batch {
-            text: Vec::new(alloc),
+            encoding: Vec::new(alloc),
             count: 0,
         }
     }
@@ -51,16 +51,16 @@ impl Batch {
     }
 
     /// Adds a record by its encoding. If an allocation fails, nothing changed.
-    pub fn add(&mut self, text: &[u8]) -> Result<(), AllocError>
+    pub fn add(&mut self, encoding: &[u8]) -> Result<(), AllocError>
         requires { self.old.count < 2 ^ 32 - 1 }
-        ensures ok { OnOk result (self.new ≡ with_text self.old text.now) }
+        ensures ok { OnOk result (self.new ≡ with_encoding self.old encoding.now) }
         ensures err { OnErr result (self.new ≡ self.old) }
     {
-        write_front(&mut self.text)?;
-        self.text.reserve(text.len())?;
-        push_before_gate(&mut self.text, text);
+        write_front(&mut self.encoding)?;
+        self.encoding.reserve(encoding.len())?;
+        push_before_gate(&mut self.encoding, encoding);
         self.count += 1;
-        write_header(&mut self.text, self.count);
+        write_header(&mut self.encoding, self.count);
         Ok(())
     }
 
@@ -71,69 +71,69 @@ impl Batch {
         ensures { self.new ≡ without_last self.old size }
     {
         let count = self.count();
-        cut_before_gate(&mut self.text, size);
+        cut_before_gate(&mut self.encoding, size);
         self.count = count - 1;
-        write_header(&mut self.text, count - 1);
+        write_header(&mut self.encoding, count - 1);
     }
 
     /// Removes all records. The room that they took stays.
     pub fn clear(&mut self)
         ensures { self.new ≡ empty_batch }
     {
-        self.text.clear();
+        self.encoding.clear();
         self.count = 0;
     }
 
     /// The batch as it is written after its gate, with a closed gate at the end.
-    pub(crate) fn text(&self) -> &[u8]
+    pub(crate) fn encoding(&self) -> &[u8]
         requires { 0 < self.now.count }
         ensures { result.now ≡ content_of self.now ++ closed_gate ∷ [] }
     {
         let _count = self.count();
-        self.text.as_slice()
+        self.encoding.as_slice()
     }
 }
 
 /// Writes the bytes of an empty batch if there are no bytes yet.
-fn write_front(text: &mut Vec<u8>) -> Result<(), AllocError>
-    ensures ok { OnOk result (text.new.items ≡ padded text.old.items) }
-    ensures err { OnErr result (text.new.items ≡ text.old.items) }
+fn write_front(encoding: &mut Vec<u8>) -> Result<(), AllocError>
+    ensures ok { OnOk result (encoding.new.items ≡ padded encoding.old.items) }
+    ensures err { OnErr result (encoding.new.items ≡ encoding.old.items) }
 {
-    if !text.is_empty() {
+    if !encoding.is_empty() {
         return Ok(());
     }
-    text.extend_from_slice(&[0; HEADER + 1])
+    encoding.extend_from_slice(&[0; HEADER + 1])
 }
 
 /// Adds bytes before the gate at the end. There must be room.
-fn push_before_gate(text: &mut Vec<u8>, more: &[u8])
-    requires some { 0 < length text.old.items }
-    requires room { vec_len text.old + length more.now ≤ vec_capacity text.old }
-    ensures { text.new.items ≡ take (length text.old.items - 1) text.old.items ++ (more.now ++ closed_gate ∷ []) }
+fn push_before_gate(encoding: &mut Vec<u8>, more: &[u8])
+    requires some { 0 < length encoding.old.items }
+    requires room { vec_len encoding.old + length more.now ≤ vec_capacity encoding.old }
+    ensures { encoding.new.items ≡ take (length encoding.old.items - 1) encoding.old.items ++ (more.now ++ closed_gate ∷ []) }
 {
-    let end = text.len() - 1;
-    text.truncate(end);
-    let _ = text.extend_from_slice(more);
-    text.push_reserved(CLOSED_GATE);
+    let end = encoding.len() - 1;
+    encoding.truncate(end);
+    let _ = encoding.extend_from_slice(more);
+    encoding.push_reserved(CLOSED_GATE);
 }
 
 /// Removes bytes before the gate at the end.
-fn cut_before_gate(text: &mut Vec<u8>, size: usize)
-    requires { size < length text.old.items }
-    ensures { text.new.items ≡ take (length text.old.items - 1 - size) text.old.items ++ closed_gate ∷ [] }
+fn cut_before_gate(encoding: &mut Vec<u8>, size: usize)
+    requires { size < length encoding.old.items }
+    ensures { encoding.new.items ≡ take (length encoding.old.items - 1 - size) encoding.old.items ++ closed_gate ∷ [] }
 {
-    let end = text.len() - 1 - size;
-    text.truncate(end);
-    text.push_reserved(CLOSED_GATE);
+    let end = encoding.len() - 1 - size;
+    encoding.truncate(end);
+    encoding.push_reserved(CLOSED_GATE);
 }
 
 /// Writes the number and the length of the records into the first bytes of a batch.
-fn write_header(text: &mut Vec<u8>, count: u32)
-    requires { 13 ≤ length text.old.items }
-    ensures { text.new.items ≡ word count ++ (long_word (length text.old.items - 13) ++ drop 12 text.old.items) }
+fn write_header(encoding: &mut Vec<u8>, count: u32)
+    requires { 13 ≤ length encoding.old.items }
+    ensures { encoding.new.items ≡ word count ++ (long_word (length encoding.old.items - 13) ++ drop 12 encoding.old.items) }
 {
-    let length = text.len() - (HEADER + 1);
-    let bytes = text.as_mut_slice();
+    let length = encoding.len() - (HEADER + 1);
+    let bytes = encoding.as_mut_slice();
     LittleEndian::write_u32(bytes, count);
     let (_, rest) = bytes.split_at_mut(4);
     LittleEndian::write_u64(rest, length as u64);

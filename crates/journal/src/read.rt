@@ -3,10 +3,10 @@ ghost use Rattle.codes.specs.declared.limits.TheConstants.{MAX_RECORDS};
 ghost use Rattle.disk.specs.Slots.{slot_of};
 ghost use Rattle.disk.specs.Moments.{Passes, MayLeave, one_more};
 ghost use Rattle.ipc_model.specs.declared.record.Record.{Record};
-ghost use Rattle.ipc_model.specs.texts.Texts.{record_text, IsRecord};
+ghost use Rattle.ipc_model.specs.encodings.Encodings.{record_encoding, IsRecord};
 ghost use Rattle.ipc_model.specs.store.Store.{open_gate, IsClosed};
 ghost use Rattle.journal.specs.Readers.{place_of};
-ghost use Rattle.journal.specs.Reading.{Leads, IsLast, IsNothing, IsInBatch, IsBehindBatches};
+ghost use Rattle.journal.specs.Reading.{Leads, IsLast, IsNothing, IsInBatch, IsAfterBatches};
 ghost use Rattle.journal.specs.Windows.{IsOver, IsFull};
 
 use crate::StoreFault;
@@ -24,7 +24,7 @@ use words::{take_long_word, take_word};
 pub const PIECE: usize = 1 << 20;
 
 /// What stands after the open gate in front of these bytes; `None` if they don't begin with one.
-fn behind_open_gate(bytes: &[u8]) -> Option<&[u8]>
+fn after_open_gate(bytes: &[u8]) -> Option<&[u8]>
     ensures open { IfSome result (λ behind. bytes.now ≡ open_gate ∷ behind.now) }
     ensures closed { IfNone result (IsClosed bytes.now) }
 {
@@ -40,9 +40,9 @@ fn behind_open_gate(bytes: &[u8]) -> Option<&[u8]>
 /// `Damaged`: the batch has bytes after its last record, or no record, or the slot ends within its head.
 fn batch_at(bytes: &[u8], left: u32, size: u64) -> Result<Option<(u32, u64, &[u8])>, StoreFault>
     ensures found { IfOk result (λ found. IfSome found (λ r. IsInBatch left size bytes.now r.0 r.1 r.2.now)) }
-    ensures ended { IfOk result (λ found. IfNone found (IsBehindBatches left size bytes.now)) }
+    ensures ended { IfOk result (λ found. IfNone found (IsAfterBatches left size bytes.now)) }
     ensures no_batch { OnErr result ((count length_of : ℕ) (content : List ℕ) → IsInBatch left size bytes.now count length_of content → ⊥) }
-    ensures no_end { OnErr result (IsBehindBatches left size bytes.now → ⊥) }
+    ensures no_end { OnErr result (IsAfterBatches left size bytes.now → ⊥) }
     ensures faults { OnErr result (result ≡ Err StoreFault.Damaged) }
 {
     if left != 0 {
@@ -51,7 +51,7 @@ fn batch_at(bytes: &[u8], left: u32, size: u64) -> Result<Option<(u32, u64, &[u8
     if size != 0 {
         return Err(StoreFault::Damaged);
     }
-    let Some(head) = behind_open_gate(bytes) else {
+    let Some(head) = after_open_gate(bytes) else {
         return Ok(None);
     };
     let Some((count, rest)) = take_word(head) else {
@@ -75,11 +75,11 @@ fn record_at(
     number: u64,
     size: u64,
 ) -> Result<(Record, &[u8]), StoreFault>
-    ensures found { IfOk result (λ r. bytes.now ≡ record_text number r.0 ++ r.1.now) }
+    ensures found { IfOk result (λ r. bytes.now ≡ record_encoding number r.0 ++ r.1.now) }
     ensures fits { IfOk result (λ r. IsRecord r.0 × (number < MAX_RECORDS)) }
     ensures within { IfOk result (λ r. length bytes.now ≤ size + length r.1.now) }
     ensures damaged { IsErrOf result StoreFault.Damaged → (entry : Record) (rest : List ℕ) → IsRecord entry → number < MAX_RECORDS
-        → length bytes.now ≤ size + length rest → bytes.now ≡ record_text number entry ++ rest → ⊥ }
+        → length bytes.now ≤ size + length rest → bytes.now ≡ record_encoding number entry ++ rest → ⊥ }
     ensures faults { OnErr result ((result ≡ Err StoreFault.Damaged) ⊎ (result ≡ Err StoreFault.NoMemory)) }
 {
     let Some((found, entry, rest)) = take_record(alloc, bytes)? else {

@@ -3,19 +3,19 @@
 ghost use Rattle.std.specs.Prelude.{◌≡◌, ◌<◌, ◌++◌, ◌∷◌, [], length, take, drop, IfOk, OnOk};
 ghost use Rattle.disk.specs.Slots.{slot_of, with_slot};
 ghost use Rattle.disk.specs.Moments.{IsSynced, Passes, Follows, CountsFailure};
-ghost use Rattle.ipc_model.specs.store.Store.{epoch_text, open_gate, closed_gate, IsClosed};
+ghost use Rattle.ipc_model.specs.store.Store.{epoch_encoding, open_gate, closed_gate, IsClosed};
 ghost use Rattle.slot_steps.specs.Steps.{HasSomeGate, IsClosing, IsShut, IsStillClosed, segment_slot as slot_of_epoch};
 
 use crate::Segment;
 use disk::{Disk, DiskFault, Slot};
 use slot_steps::{
-    CLOSED_GATE, OPEN_GATE, SEGMENT_HEADER, close_slot, cut_behind, segment_slot, sync_behind,
-    write_behind, write_gate,
+    CLOSED_GATE, OPEN_GATE, SEGMENT_HEADER, close_slot, cut_after, segment_slot, sync_after,
+    write_after, write_gate,
 };
 
 /// What stands after the gate of a segment without batches: version 1, six zero bytes, its epoch, and a closed gate.
 fn segment_start(epoch: u64) -> [u8; 16]
-    ensures { result ≡ epoch_text epoch ++ closed_gate ∷ [] }
+    ensures { result ≡ epoch_encoding epoch ++ closed_gate ∷ [] }
 {
     let [a, b, c, d, e, f, g, h] = epoch.to_le_bytes();
     [1, 0, 0, 0, 0, 0, 0, a, b, c, d, e, f, g, h, CLOSED_GATE]
@@ -25,15 +25,15 @@ fn segment_start(epoch: u64) -> [u8; 16]
 fn write_header<D: Disk>(disk: &mut D, slot: Slot, epoch: u64) -> Result<(), DiskFault>
     requires { D.honest → 0 < length (slot_of (D.view disk.old).seen slot) }
     ensures header { D.honest → OnOk result ((D.view disk.new).seen ≡ with_slot (D.view disk.old).seen slot
-        (take 1 (slot_of (D.view disk.old).seen slot) ++ (epoch_text epoch ++ closed_gate ∷ []))) }
+        (take 1 (slot_of (D.view disk.old).seen slot) ++ (epoch_encoding epoch ++ closed_gate ∷ []))) }
     ensures synced { D.honest → OnOk result (IsSynced (D.view disk.new) slot) }
     ensures any_moment { D.honest → IsShut (D.view disk.old) slot
         → Passes (D.view disk.old) (D.view disk.new) (Follows (D.view disk.old) slot IsStillClosed) }
     ensures failures { CountsFailure (D.failed_calls disk.old) (D.failed_calls disk.new) result }
 {
-    cut_behind(disk, slot, 1)?;
-    write_behind(disk, slot, 1, &segment_start(epoch))?;
-    sync_behind(disk, slot)
+    cut_after(disk, slot, 1)?;
+    write_after(disk, slot, 1, &segment_start(epoch))?;
+    sync_after(disk, slot)
 }
 
 /// Makes sure that a closed gate stands at the front of the slot of an epoch's segment.
@@ -55,7 +55,7 @@ pub fn roll_close<D: Disk>(disk: &mut D, epoch: u64) -> Result<(), DiskFault>
 pub fn roll_head<D: Disk>(disk: &mut D, epoch: u64) -> Result<(), DiskFault>
     requires { D.honest → 0 < length (slot_of (D.view disk.old).seen (slot_of_epoch epoch)) }
     ensures header { D.honest → OnOk result ((D.view disk.new).seen ≡ with_slot (D.view disk.old).seen (slot_of_epoch epoch)
-        (take 1 (slot_of (D.view disk.old).seen (slot_of_epoch epoch)) ++ (epoch_text epoch ++ closed_gate ∷ []))) }
+        (take 1 (slot_of (D.view disk.old).seen (slot_of_epoch epoch)) ++ (epoch_encoding epoch ++ closed_gate ∷ []))) }
     ensures synced { D.honest → OnOk result (IsSynced (D.view disk.new) (slot_of_epoch epoch)) }
     ensures any_moment { D.honest → IsShut (D.view disk.old) (slot_of_epoch epoch)
         → Passes (D.view disk.old) (D.view disk.new) (Follows (D.view disk.old) (slot_of_epoch epoch) IsStillClosed) }

@@ -20,17 +20,17 @@ pub struct Segment {
 }
 
 /// Writes a batch after a slot's last gate, and opens that gate once the batch is on the disk.
-fn store<D: Disk>(disk: &mut D, slot: Slot, text: &[u8]) -> Result<(), DiskFault>
+fn store<D: Disk>(disk: &mut D, slot: Slot, encoding: &[u8]) -> Result<(), DiskFault>
     requires { D.honest → 0 < length (slot_of (D.view disk.old).seen slot) }
     ensures stored { D.honest → OnOk result ((D.view disk.new).seen ≡ with_slot (D.view disk.old).seen slot
-        (take (length (slot_of (D.view disk.old).seen slot) - 1) (slot_of (D.view disk.old).seen slot) ++ (open_gate ∷ text.now))) }
+        (take (length (slot_of (D.view disk.old).seen slot) - 1) (slot_of (D.view disk.old).seen slot) ++ (open_gate ∷ encoding.now))) }
     ensures synced { D.honest → OnOk result (IsSynced (D.view disk.new) slot) }
     ensures any_moment { D.honest → IsSynced (D.view disk.old) slot
-        → Passes (D.view disk.old) (D.view disk.new) (Follows (D.view disk.old) slot (IsMidStore text.now)) }
+        → Passes (D.view disk.old) (D.view disk.new) (Follows (D.view disk.old) slot (IsMidStore encoding.now)) }
     ensures failures { CountsFailure (D.failed_calls disk.old) (D.failed_calls disk.new) result }
 {
     let gate = disk.length(slot).saturating_sub(1);
-    disk.write_at(slot, gate + 1, text)?;
+    disk.write_at(slot, gate + 1, encoding)?;
     disk.sync(slot)?;
     disk.write_at(slot, gate, &[OPEN_GATE])?;
     disk.sync(slot)
@@ -67,7 +67,7 @@ impl Segment {
         if MAX_RECORDS.saturating_sub(self.records) < count {
             return Err(StoreFault::Full);
         }
-        store(disk, segment_slot(self.epoch), batch.text())?;
+        store(disk, segment_slot(self.epoch), batch.encoding())?;
         self.records += count;
         Ok(())
     }

@@ -23,7 +23,7 @@ use Rattle.ipc_model.specs.messages.Receiving.{without_message}
 use Rattle.ipc_model.specs.messages.Sending.{Ready, ready_to_send, sent}
 use Rattle.kernel.specs.declared.choices.Shown.{Shown}
 use Rattle.receiving.specs.ShownNames.{names_shown}
-use Rattle.receiving.specs.Shows.{preferred_by, text_in}
+use Rattle.receiving.specs.Shows.{preferred_by, encoding_in}
 use Rattle.receiving.specs.declared.asked.Preference.{Preference}
 
 -- a name that was chosen
@@ -40,7 +40,7 @@ space_shown _ = None
 
 -- what a reply shows
 abbrev pub shown_by : Reply → Shown
-shown_by answer = record { name = name_shown answer; space = space_shown answer; preference = preferred_by answer; names = names_shown (text_in answer) }
+shown_by answer = record { name = name_shown answer; space = space_shown answer; preference = preferred_by answer; names = names_shown (encoding_in answer) }
 
 -- If the call may get a reply that shows this, it gets that reply.
 pub record Prefers (old : State) (space : ℕ) (c : Call) (shown : Shown) (answer : Reply) : Type 0 where
@@ -222,7 +222,7 @@ names_of : Shown → List ℕ
 names_of shown = shown.names
 
 pub prefers_receive : (old : State) (space limit : ℕ) (large : Bool) (name : ℕ) (waited : Bool) (shown : Shown) (answer : Reply)
-    → ((other : Reply) → (last : State) → (others : List Effect) → shown.preference ≡ preferred_by other → shown.names ≡ names_shown (text_in other)
+    → ((other : Reply) → (last : State) → (others : List Effect) → shown.preference ≡ preferred_by other → shown.names ≡ names_shown (encoding_in other)
     → ActsIn old space (names_in old space) (call.Receive limit large name waited) other last others → answer ≡ other)
     → Prefers old space (call.Receive limit large name waited) shown answer
 unfolding preference_of names_of

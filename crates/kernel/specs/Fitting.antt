@@ -11,7 +11,7 @@ use Rattle.ipc_model.specs.messages.Receiving.{without_message}
 use Rattle.ipc_model.specs.state.Lawful.{Lawful}
 use Rattle.ipc_model.specs.state.State.{State, Names}
 use Rattle.ipc_model.specs.calls.Step.{Step, ActsFrom, has_record, number_of_call}
-use Rattle.ipc_model.specs.texts.Texts.{number_of_reply, reply_text}
+use Rattle.ipc_model.specs.encodings.Encodings.{number_of_reply, reply_encoding}
 use Rattle.ipc_laws.specs.FrameLengths.{IsWithin, within, from_within, from_number, message_length, refused_number, refused_within}
 use Rattle.ipc_laws.specs.RecordedSteps.{answered_whole}
 use Rattle.kernel.specs.Unrecorded.{IsWithout, receive_without, send_without}
@@ -19,7 +19,7 @@ use Rattle.kernel.specs.Unrecorded.{IsWithout, receive_without, send_without}
 -- a reply of the call's number that fits in a frame
 pub record IsFitting (c : Call) (answer : Reply) : Type 0 where
   pub number_is : number_of_reply answer ≡ number_of_call c
-  pub bytes : length (reply_text answer) ≤ MAX_FRAME_CONTENT
+  pub bytes : length (reply_encoding answer) ≤ MAX_FRAME_CONTENT
 
 without_within : (old : State) (answer : Reply) (new : State) (effects : List Effect) → IsWithout old answer new effects → IsWithin 44 answer
 without_within old answer new effects without =

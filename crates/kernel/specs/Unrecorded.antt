@@ -18,7 +18,7 @@ use Rattle.ipc_model.specs.state.State.{State, Names}
 use Rattle.ipc_model.specs.calls.Step.{Step, ActsFrom, ActsIn, IsRefusedWith, has_record}
 use Rattle.ipc_laws.specs.PortCallLaws.{unrecorded_act}
 use Rattle.ipc_laws.specs.ReceiveLaws.{Outcomes, Takes, outcome_of, taking_of, was_large, was_lacking, was_received}
-use Rattle.ipc_laws.specs.RecordedReceipts.{call_of}
+use Rattle.ipc_laws.specs.RecordedReceives.{call_of}
 use Rattle.ipc_laws.specs.StepLaws.{one_end}
 use Rattle.kernel.specs.Choosing.{SentAs}
 

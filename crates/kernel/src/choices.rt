@@ -36,7 +36,7 @@ impl Shown {
     pub fn of(alloc: Global, reply: &Reply) -> Result<Shown, AllocError>
         ensures { IfOk result (λ shown. shown ≡ choosing.shown_by reply.now) }
     {
-        let names = names_shown(alloc, text_in(reply))?;
+        let names = names_shown(alloc, encoding_in(reply))?;
         Ok(Shown {
             name: name_shown(reply),
             space: space_shown(reply),
@@ -82,8 +82,8 @@ fn preferred_by(reply: &Reply) -> Preference
 }
 
 /// The bytes of the message that was received.
-fn text_in(reply: &Reply) -> &[u8]
-    ensures { result.now ≡ shows.text_in reply.now }
+fn encoding_in(reply: &Reply) -> &[u8]
+    ensures { result.now ≡ shows.encoding_in reply.now }
 {
     match reply {
         Reply::Message { message, .. } => message.as_slice(),

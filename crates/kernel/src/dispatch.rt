@@ -2,7 +2,7 @@ ghost use Rattle.std.specs.Prelude.{◌≡◌, [], false, true, None, IfOk, IfSo
 ghost use Rattle.std.specs.FinMap as map;
 ghost use Rattle.ipc_model.specs.calls.PortCalls.{names_in};
 ghost use Rattle.ipc_model.specs.calls.Step.{ActsIn};
-ghost use Rattle.ipc_model.specs.state.Circular.{Grounded};
+ghost use Rattle.ipc_model.specs.state.Circular.{Acyclic};
 ghost use Rattle.ipc_model.specs.state.Lawful.{Lawful};
 ghost use Rattle.ipc_laws.specs.PortCallLaws.{is_port_call};
 ghost use Rattle.kernel.specs.Choosing.{Prefers, gives_up, hands_over, only_reads, sets_nothing_off};
@@ -101,7 +101,7 @@ pub fn change(
 
 /// Makes a call that gives rights up. If it is refused or an allocation fails, the changes must be rolled back; `None`
 /// for other calls.
-pub fn give_up(
+pub fn give_rights_up(
     alloc: Global,
     state: &mut IpcState,
     space: u32,
@@ -227,7 +227,7 @@ pub fn exchange(
     requires there { IsSome (map.get state.old.current.spaces space) }
     requires rest { state.old.before ≡ state.old.current }
     requires lawful { Lawful state.old.current }
-    requires grounded { Grounded state.old.current }
+    requires acyclic { Acyclic state.old.current }
     ensures acts { IfOk result (λ done. IfSome done (λ reply. ActsIn state.old.current space (names_in state.old.current space) call.now reply state.new.current effects.new)) }
     ensures shown { IfOk result (λ done. IfSome done (λ reply. Prefers state.old.current space call.now shown.now reply)) }
     ensures none { IfOk result (λ done. IfNone done ((is_port_call call.now ≡ true) × (state.new ≡ state.old) × (effects.new ≡ effects.old))) }

@@ -3,10 +3,10 @@ ghost use Rattle.std.specs.FinMap as map;
 ghost use Rattle.codes.specs.declared.limits.TheConstants.{MAX_FRAME_CONTENT};
 ghost use Rattle.ipc_model.specs.state.State.{State, opening_state};
 ghost use Rattle.ipc_model.specs.calls.Step.{Step, has_record, number_of_call};
-ghost use Rattle.ipc_model.specs.texts.Texts.{number_of_reply, reply_text};
-ghost use Rattle.ipc_laws.specs.ImageLaws.{Spellable};
+ghost use Rattle.ipc_model.specs.encodings.Encodings.{number_of_reply, reply_encoding};
+ghost use Rattle.ipc_laws.specs.ImageLaws.{Encodable};
 ghost use Rattle.ipc_laws.specs.RecordedSteps.{IsAnsweredWhole};
-ghost use Rattle.ipc_model.specs.state.Circular.{Grounded};
+ghost use Rattle.ipc_model.specs.state.Circular.{Acyclic};
 ghost use Rattle.ipc_model.specs.state.Lawful.{Lawful, ShortQueues};
 ghost use Rattle.waiting.specs.Places.{names};
 ghost use Rattle.waiting.specs.Waiting.{Wakes};
@@ -58,7 +58,7 @@ impl Drop for Kernel {
 
 impl Model for Kernel {
     ghost use Rattle.std.specs.Prelude.{◌≡◌};
-    ghost use Rattle.ipc_model.specs.state.Circular.{Grounded};
+    ghost use Rattle.ipc_model.specs.state.Circular.{Acyclic};
     ghost use Rattle.ipc_model.specs.state.Lawful.{Lawful, ShortQueues};
     ghost use Rattle.ipc_model.specs.state.State.{State};
     ghost use Rattle.ipc_model.specs.state.StateCode.{state_code};
@@ -71,7 +71,7 @@ impl Model for Kernel {
 
     // Each live port has one receive right, each right names a live port, no ports carry one another in a cycle, and no
     // queue is too long for an image. Between calls there is no change to commit or to roll back.
-    ghost invariant = { λ k. Lawful k.state.current × Grounded k.state.current × ShortQueues k.state.current × (k.state.before ≡ k.state.current) };
+    ghost invariant = { λ k. Lawful k.state.current × Acyclic k.state.current × ShortQueues k.state.current × (k.state.before ≡ k.state.current) };
 }
 
 impl Kernel {
@@ -80,15 +80,15 @@ impl Kernel {
         ensures { IfOk result (λ kernel. kernel ≡ opening_state) }
     {
         let state = IpcState::opening(alloc)?;
-        state.queues_are_short();
+        state.show_queues_short();
         Ok(Kernel { alloc, state })
     }
 
     /// Shows that an image can encode the state, which is lawful. It does nothing else.
-    pub fn has_image(&self)
-        ensures spelled { Spellable self.now }
+    pub fn show_image(&self)
+        ensures encoded { Encodable self.now }
         ensures lawful { Lawful self.now }
-        ensures grounded { Grounded self.now }
+        ensures acyclic { Acyclic self.now }
         ensures short { ShortQueues self.now }
     {
         let _ = &self.state;
@@ -100,19 +100,19 @@ impl Kernel {
         // The reply has the call's number, and fits in a frame; if the call has a record, this is a possible one.
         ensures number { IfOk result (λ reply. number_of_reply reply ≡ number_of_call call.now) }
         ensures recorded { IfOk result (λ reply. has_record call.now reply ≡ true → IsAnsweredWhole call.now reply) }
-        ensures fits { IfOk result (λ reply. length (reply_text reply) ≤ MAX_FRAME_CONTENT) }
+        ensures fits { IfOk result (λ reply. length (reply_encoding reply) ≤ MAX_FRAME_CONTENT) }
         ensures err { OnErr result (self.new ≡ self.old) }
     {
         call_in_range(call);
         let shown = Shown::nothing(self.alloc);
         match step(self.alloc, &mut self.state, space, call, &shown) {
             Ok(reply) => {
-                self.state.keep();
-                self.state.queues_are_short();
+                self.state.commit();
+                self.state.show_queues_short();
                 Ok(reply)
             }
             Err(error) => {
-                self.state.give_up();
+                self.state.roll_back();
                 Err(error)
             }
         }
@@ -131,18 +131,18 @@ impl Kernel {
         ensures number { IfOk result (λ reply. number_of_reply reply ≡ number_of_call call.now) }
         ensures written { IfOk result (λ reply. has_record call.now reply ≡ true → R.wrote recorder.old space call.now reply recorder.new) }
         ensures unwritten { IfOk result (λ reply. has_record call.now reply ≡ false → recorder.new ≡ recorder.old) }
-        ensures fits { IfOk result (λ reply. length (reply_text reply) ≤ MAX_FRAME_CONTENT) }
+        ensures fits { IfOk result (λ reply. length (reply_encoding reply) ≤ MAX_FRAME_CONTENT) }
         ensures err { OnErr result ((self.new ≡ self.old) × (recorder.new ≡ recorder.old)) }
     {
         call_in_range(call);
         match step_recorded(self.alloc, &mut self.state, space, call, recorder) {
             Ok(reply) => {
-                self.state.keep();
-                self.state.queues_are_short();
+                self.state.commit();
+                self.state.show_queues_short();
                 Ok(reply)
             }
             Err(error) => {
-                self.state.give_up();
+                self.state.roll_back();
                 Err(error)
             }
         }
@@ -163,19 +163,19 @@ impl Kernel {
         ensures number { IfOk result (λ reply. number_of_reply reply ≡ number_of_call call.now) }
         ensures written { IfOk result (λ reply. has_record call.now reply ≡ true → R.wrote recorder.old space call.now reply recorder.new) }
         ensures unwritten { IfOk result (λ reply. has_record call.now reply ≡ false → recorder.new ≡ recorder.old) }
-        ensures fits { IfOk result (λ reply. length (reply_text reply) ≤ MAX_FRAME_CONTENT) }
+        ensures fits { IfOk result (λ reply. length (reply_encoding reply) ≤ MAX_FRAME_CONTENT) }
         ensures err { OnErr result ((self.new ≡ self.old) × (recorder.new ≡ recorder.old)) }
     {
         call_in_range(call);
         match step_recorded(self.alloc, &mut self.state, space, call, recorder) {
             Ok(reply) => {
                 self.state.name_places(places);
-                self.state.keep();
-                self.state.queues_are_short();
+                self.state.commit();
+                self.state.show_queues_short();
                 Ok(reply)
             }
             Err(error) => {
-                self.state.give_up();
+                self.state.roll_back();
                 Err(error)
             }
         }
@@ -187,7 +187,7 @@ impl Kernel {
             (λ reply. Step self.now space call.now reply self.now × (has_record call.now reply ≡ false))) }
         ensures none { IfOk result (λ answer. IfNone answer ((reply : Reply) × (new : State)
             × Step self.now space call.now reply new × (has_record call.now reply ≡ true))) }
-        ensures fits { IfOk result (λ answer. IfSome answer (λ reply. length (reply_text reply) ≤ MAX_FRAME_CONTENT)) }
+        ensures fits { IfOk result (λ answer. IfSome answer (λ reply. length (reply_encoding reply) ≤ MAX_FRAME_CONTENT)) }
     {
         let mut other = self.again()?;
         let answer = other.answer_in_place(space, call);
@@ -213,11 +213,11 @@ impl Kernel {
             (λ reply. Step self.old space call.now reply self.old × (has_record call.now reply ≡ false))) }
         ensures none { IfOk result (λ answer. IfNone answer ((reply : Reply) × (new : State)
             × Step self.old space call.now reply new × (has_record call.now reply ≡ true))) }
-        ensures fits { IfOk result (λ answer. IfSome answer (λ reply. length (reply_text reply) ≤ MAX_FRAME_CONTENT)) }
+        ensures fits { IfOk result (λ answer. IfSome answer (λ reply. length (reply_encoding reply) ≤ MAX_FRAME_CONTENT)) }
         ensures same { self.new ≡ self.old }
     {
         let answer = try_answer(self.alloc, &mut self.state, space, call);
-        self.state.give_up();
+        self.state.roll_back();
         answer
     }
 
@@ -264,8 +264,8 @@ impl Kernel {
         call_in_range(&record.call);
         match step_again(alloc, &mut state, record) {
             Ok(()) => {
-                state.keep();
-                state.queues_are_short();
+                state.commit();
+                state.show_queues_short();
                 Ok(Kernel { alloc, state })
             }
             Err(fault) => {
@@ -281,7 +281,7 @@ fn step_again(alloc: Global, state: &mut IpcState, record: &Record) -> Result<()
     requires fresh { map.get state.old.current.ports state.old.current.next ≡ None }
     requires rest { state.old.before ≡ state.old.current }
     requires lawful { Lawful state.old.current }
-    requires grounded { Grounded state.old.current }
+    requires acyclic { Acyclic state.old.current }
     ensures step { OnOk result (Step state.old.current record.now.space record.now.call record.now.reply state.new.current) }
     ensures mismatch { IsErrOf result ReplayFault.Mismatch → (new : State)
         → Step state.old.current record.now.space record.now.call record.now.reply new → ⊥ }

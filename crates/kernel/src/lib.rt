@@ -16,5 +16,5 @@ mod stepping;
 pub use kernel::{Kernel, ReplayFault};
 pub use laws::unrecorded_steps_change_nothing;
 pub use recording::Recorder;
-pub use restoring::{SnapshotFault, lawful};
 pub use snapshot::Snapshot;
+pub use snapshot_loading::{SnapshotFault, lawful};

@@ -2,7 +2,7 @@ ghost use Rattle.std.specs.Prelude.{◌≡◌, [], IfOk, IsSome};
 ghost use Rattle.std.specs.FinMap as map;
 ghost use Rattle.ipc_model.specs.calls.PortCalls.{names_in};
 ghost use Rattle.ipc_model.specs.calls.Step.{ActsIn};
-ghost use Rattle.ipc_model.specs.state.Circular.{Grounded};
+ghost use Rattle.ipc_model.specs.state.Circular.{Acyclic};
 ghost use Rattle.ipc_model.specs.state.Lawful.{Lawful};
 
 use codes::{KernReturn, MACH_PORT_NULL};
@@ -24,14 +24,14 @@ pub fn send(
     requires there { IsSome (map.get state.old.current.spaces space) }
     requires rest { state.old.before ≡ state.old.current }
     requires lawful { Lawful state.old.current }
-    requires grounded { Grounded state.old.current }
+    requires acyclic { Acyclic state.old.current }
     ensures acts { IfOk result (λ reply. ActsIn state.old.current space (names_in state.old.current space) (Call.Send message.now) reply state.new.current effects.new) }
     ensures before { state.new.before ≡ state.old.before }
 {
     match sending::send(alloc, state, space, message, effects) {
         Ok(()) => Ok(Reply::without_message(alloc, KernReturn::Success, 0, MACH_PORT_NULL)),
         Err(SendFault::Refused(code)) => {
-            state.give_up();
+            state.roll_back();
             *effects = Effects::new(alloc);
             Ok(Reply::without_message(alloc, code, 0, MACH_PORT_NULL))
         }

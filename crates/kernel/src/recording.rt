@@ -5,7 +5,7 @@ ghost use Rattle.ipc_laws.specs.RecordedSteps.{IsAnsweredWhole};
 ghost use Rattle.ipc_model.specs.calls.Step.{Step, has_record};
 ghost use Rattle.ipc_model.specs.declared.call.Call.{Call};
 ghost use Rattle.ipc_model.specs.declared.call.Reply.{Reply};
-ghost use Rattle.ipc_model.specs.state.Circular.{Grounded};
+ghost use Rattle.ipc_model.specs.state.Circular.{Acyclic};
 ghost use Rattle.ipc_model.specs.state.Lawful.{Lawful};
 
 use crate::choices::Shown;
@@ -43,7 +43,7 @@ pub(crate) fn step_recorded<R: Recorder>(
     requires fresh { map.get state.old.current.ports state.old.current.next ≡ None }
     requires rest { state.old.before ≡ state.old.current }
     requires lawful { Lawful state.old.current }
-    requires grounded { Grounded state.old.current }
+    requires acyclic { Acyclic state.old.current }
     requires room { R.has_room recorder.old }
     ensures step { IfOk result (λ reply. Step state.old.current space call.now reply state.new.current) }
     ensures written { IfOk result (λ reply. has_record call.now reply ≡ true → R.wrote recorder.old space call.now reply recorder.new) }

@@ -4,8 +4,8 @@ ghost use Rattle.snapshot.specs.LawfulSnapshot.{IsLawfulSnapshot};
 ghost use Rattle.snapshot.specs.Snapshots.{snapshot_of};
 
 use crate::Kernel;
-use restoring::{SnapshotFault, restore};
 use snapshot::Snapshot;
+use snapshot_loading::{SnapshotFault, restore};
 use std::alloc::Global;
 
 impl Kernel {
@@ -17,7 +17,7 @@ impl Kernel {
         ensures unlawful { IsErrOf result SnapshotFault.NotLawful → IsLawfulSnapshot snapshot → ⊥ }
     {
         let state = restore(alloc, &snapshot)?;
-        state.queues_are_short();
+        state.show_queues_short();
         Ok(Kernel { alloc, state })
     }
 }

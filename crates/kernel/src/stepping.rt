@@ -4,16 +4,16 @@ ghost use Rattle.ipc_laws.specs.PortCallLaws.{is_port_call};
 ghost use Rattle.codes.specs.declared.limits.TheConstants.{MAX_FRAME_CONTENT};
 ghost use Rattle.ipc_model.specs.calls.Step.{Step, has_record};
 ghost use Rattle.ipc_model.specs.effects.Effects.{Settles};
-ghost use Rattle.ipc_model.specs.state.Circular.{Grounded};
+ghost use Rattle.ipc_model.specs.state.Circular.{Acyclic};
 ghost use Rattle.ipc_model.specs.state.Lawful.{Lawful};
 ghost use Rattle.ipc_model.specs.state.State.{State};
-ghost use Rattle.ipc_model.specs.texts.Texts.{reply_text};
+ghost use Rattle.ipc_model.specs.encodings.Encodings.{reply_encoding};
 ghost use Rattle.kernel.specs.Choosing.{Prefers, only_reads, sets_nothing_off};
 ghost use Rattle.kernel.specs.Stepping.{PrefersStep};
 ghost use Rattle.port_calls.specs.Trying.{Tries};
 
 use crate::choices::Shown;
-use crate::dispatch::{change, exchange, give_up, hand_over, read};
+use crate::dispatch::{change, exchange, give_rights_up, hand_over, read};
 use crate::reply::is_refusal;
 use codes::KernReturn;
 use death::settle;
@@ -34,7 +34,7 @@ pub fn step(
     requires fresh { map.get state.old.current.ports state.old.current.next ≡ None }
     requires rest { state.old.before ≡ state.old.current }
     requires lawful { Lawful state.old.current }
-    requires grounded { Grounded state.old.current }
+    requires acyclic { Acyclic state.old.current }
     ensures step { IfOk result (λ reply. Step state.old.current space call.now reply state.new.current) }
     ensures shown { IfOk result (λ reply. PrefersStep state.old.current space call.now shown.now reply) }
     ensures before { state.new.before ≡ state.old.before }
@@ -62,12 +62,12 @@ pub fn try_answer(
     requires fresh { map.get state.old.current.ports state.old.current.next ≡ None }
     requires rest { state.old.before ≡ state.old.current }
     requires lawful { Lawful state.old.current }
-    requires grounded { Grounded state.old.current }
+    requires acyclic { Acyclic state.old.current }
     ensures answered { IfOk result (λ answer. IfSome answer
         (λ reply. Step state.old.current space call.now reply state.old.current × (has_record call.now reply ≡ false))) }
     ensures none { IfOk result (λ answer. IfNone answer ((reply : Reply) × (new : State)
         × Step state.old.current space call.now reply new × (has_record call.now reply ≡ true))) }
-    ensures fits { IfOk result (λ answer. IfSome answer (λ reply. length (reply_text reply) ≤ MAX_FRAME_CONTENT)) }
+    ensures fits { IfOk result (λ answer. IfSome answer (λ reply. length (reply_encoding reply) ≤ MAX_FRAME_CONTENT)) }
     ensures before { state.new.before ≡ state.old.before }
 {
     let shown = Shown::nothing(alloc);
@@ -89,7 +89,7 @@ fn step_by_effects(
     requires there { IsSome (map.get state.old.current.spaces space) }
     requires rest { state.old.before ≡ state.old.current }
     requires lawful { Lawful state.old.current }
-    requires grounded { Grounded state.old.current }
+    requires acyclic { Acyclic state.old.current }
     requires no_read { only_reads call.now ≡ false }
     requires no_change { sets_nothing_off call.now ≡ false }
     ensures step { IfOk result (λ reply. Step state.old.current space call.now reply state.new.current) }
@@ -98,20 +98,20 @@ fn step_by_effects(
 {
     let mut effects = Effects::new(alloc);
     if let Some(reply) = exchange(alloc, state, space, call, shown, &mut effects)? {
-        let reply = settle_behind(alloc, state, effects, reply)?;
+        let reply = settle_after(alloc, state, effects, reply)?;
         return Ok(reply);
     }
     let reply = try_call(alloc, state, space, call, shown, &mut effects)?;
     if is_refusal(&reply) {
-        state.give_up();
+        state.roll_back();
         return Ok(reply);
     }
-    let reply = settle_behind(alloc, state, effects, reply)?;
+    let reply = settle_after(alloc, state, effects, reply)?;
     Ok(reply)
 }
 
 /// Drains what a call set off, and then returns its reply.
-fn settle_behind(
+fn settle_after(
     alloc: Global,
     state: &mut IpcState,
     effects: Effects,
@@ -145,7 +145,7 @@ fn try_call(
     ensures shown { IfOk result (λ reply. Prefers state.old.current space call.now shown.now reply) }
     ensures before { state.new.before ≡ state.old.before }
 {
-    if let Some(reply) = give_up(alloc, state, space, call, effects)? {
+    if let Some(reply) = give_rights_up(alloc, state, space, call, effects)? {
         return Ok(reply);
     }
     let Some(reply) = hand_over(alloc, state, space, call, shown, effects)? else {

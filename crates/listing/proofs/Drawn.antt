@@ -47,12 +47,12 @@ edge_is : (references : ℕ) (right : Right) → edge_of (as_seen references rig
 edge_is references right = placed_edge references right.port right.kind right.place
 
 -- edges come after the text that they are added to
-nothing_behind : (text : List ℕ) → text ≡ text ++ []
-nothing_behind [] = refl
-nothing_behind (x ∷ text) = ap (λ rest. x ∷ rest) (nothing_behind text)
+nothing_after : (text : List ℕ) → text ≡ text ++ []
+nothing_after [] = refl
+nothing_after (x ∷ text) = ap (λ rest. x ∷ rest) (nothing_after text)
 
 edges_are : (references : ℕ) (rights : List Right) (text : List ℕ) → all_seen edge_drawn references rights text ≡ text ++ flat_map (edge_line references) rights
-edges_are references [] text = nothing_behind text
+edges_are references [] text = nothing_after text
 edges_are references (right ∷ rest) text =
     edges_are references rest (text ++ edge_of (as_seen references right))
     ∙ ap (λ edge. (text ++ edge) ++ flat_map (edge_line references) rest) (edge_is references right)
@@ -62,14 +62,14 @@ abbrev name_edges : ℕ → ℕ × Entry → List ℕ
 name_edges space e = flat_map (edge_line (references_of e.1)) (rights_of_entry space e.0 e.1)
 
 name_edges_are : (space : ℕ) (es : List (ℕ × Entry)) (text : List ℕ) → names_all_seen edge_drawn space es text ≡ text ++ flat_map (name_edges space) es
-name_edges_are space [] text = nothing_behind text
+name_edges_are space [] text = nothing_after text
 name_edges_are space (e ∷ es) text =
     ap (names_all_seen edge_drawn space es) (edges_are (references_of e.1) (rights_of_entry space e.0 e.1) text)
     ∙ name_edges_are space es (text ++ name_edges space e)
     ∙ append_assoc text (name_edges space e) (flat_map (name_edges space) es)
 
 space_edges_are : (es : List (ℕ × Names)) (text : List ℕ) → spaces_all_seen edge_drawn es text ≡ text ++ flat_map (λ e. space_edges e.0 e.1) es
-space_edges_are [] text = nothing_behind text
+space_edges_are [] text = nothing_after text
 space_edges_are (e ∷ es) text =
     ap (spaces_all_seen edge_drawn es) (name_edges_are e.0 (finmap.entries e.1) text)
     ∙ space_edges_are es (text ++ space_edges e.0 e.1)

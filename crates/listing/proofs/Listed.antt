@@ -13,7 +13,7 @@ use Rattle.snapshot.specs.declared.rows.Snapshot.{Snapshot}
 use Rattle.snapshot.specs.Snapshots.{names_of, snapshot_of}
 use Rattle.listing.specs.declared.tally.Tally.{Tally}
 use Rattle.listing.specs.Gathering.{no_rights, tally_of, gathered}
-use Rattle.listing.specs.Listing.{name_line, space_line, space_lines, place_text, receive_right, receive_text, port_line, store_line, listing}
+use Rattle.listing.specs.Listing.{name_line, space_line, space_lines, place_encoding, receive_right, receive_text, port_line, store_line, listing}
 use Rattle.listing.specs.Rows.{names_rows, spaces_rows, standing_text, port_row, ports_rows, snapshot_rows}
 use Rattle.listing.proofs.Walked.{standing_of}
 use Rattle.listing.proofs.Counted.{gathered_is, tallied, tally_of_all, send_tallied, send_once_tallied, receive_tallied}
@@ -29,7 +29,7 @@ spaces_are : (es : List (ℕ × Names)) → spaces_rows (map (λ e. record { num
 spaces_are [] = refl
 spaces_are (e ∷ es) = both (ap (λ text. space_line e.0 ++ text) (names_are (finmap.entries e.1))) (spaces_are es)
 
-place_is : (place : Place) → standing_text (Some (standing_of place)) ≡ place_text place
+place_is : (place : Place) → standing_text (Some (standing_of place)) ≡ place_encoding place
 place_is (held space name) = refl
 place_is (destination queue) = refl
 place_is (reply queue) = refl

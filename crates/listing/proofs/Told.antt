@@ -14,7 +14,7 @@ use Rattle.ipc_model.specs.declared.message.RightKind.TheVariants as kind
 use Rattle.ipc_model.specs.declared.port.PortState.{PortState}
 use Rattle.ipc_model.specs.state.Placed.{Place, held, reply, body, dead_name_request, no_senders_request, port_destroyed_request, Right, right_to, right_of_carried, right_of_reply, right_of_target, rights_of_message, rights_of_port, rights_of_entry, rights_of_space, placed, same_kind}
 use Rattle.ipc_model.specs.state.State.{State, Names}
-use Rattle.listing.specs.Holders.{IsHeldOrCarried, IsTold, HoldersAreTold}
+use Rattle.listing.specs.Holders.{IsHeldOrCarried, IsListed, HoldersAreListed}
 use Rattle.listing.specs.Listing.{is_receive_right}
 
 -- a receive right stands under a name or in a message
@@ -91,13 +91,13 @@ both_hold true b e = refl
 both_hold false b e = e
 
 -- one that is counted is found
-found : (serial : ℕ) (rights : List Right) → ArePlaced rights → count_by (is_receive_right serial) rights ≡ 1 → IsTold (find (is_receive_right serial) rights)
+found : (serial : ℕ) (rights : List Right) → ArePlaced rights → count_by (is_receive_right serial) rights ≡ 1 → IsListed (find (is_receive_right serial) rights)
 found serial [] are one = absurd (omega (arith, one))
 found serial (right ∷ rest) are one =
-    elim (is_receive_right serial right) as (λ (b : Bool). is_receive_right serial right ≡ b → cond b 1 0 + count_by (is_receive_right serial) rest ≡ 1 → IsTold (cond b (Some right) (find (is_receive_right serial) rest))) [
+    elim (is_receive_right serial right) as (λ (b : Bool). is_receive_right serial right ≡ b → cond b 1 0 + count_by (is_receive_right serial) rest ≡ 1 → IsListed (cond b (Some right) (find (is_receive_right serial) rest))) [
       | true ↦ λ (own : _) (count : _). are.0 (both_hold (same_kind right.kind kind.Receive) (right.port == serial) own)
       | false ↦ λ (other : _) (count : _). found serial rest are.1 (omega (arith, count))
     ] refl (sym (sum_by-cons (λ r. cond (is_receive_right serial r) 1 0) right rest) ∙ one)
 
-pub holders_are_told : HoldersAreTold
-holders_are_told state serial lawful live = found serial (placed state) (all_are state) (lawful.one_receive serial live)
+pub holders_are_listed : HoldersAreListed
+holders_are_listed state serial lawful live = found serial (placed state) (all_are state) (lawful.one_receive serial live)

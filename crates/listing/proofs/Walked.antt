@@ -151,13 +151,13 @@ module _ {S : Type 0} (see : StandingRight → S → S) where
   unfolding state_seen
   state_is serial port s =
       let queued : List Right = flat_map (rights_of_message serial) port.messages in
-      let told : List Right = right_of_target (no_senders_request serial) port.no_senders_target in
+      let listed : List Right = right_of_target (no_senders_request serial) port.no_senders_target in
       let backed : List Right = right_of_target (port_destroyed_request serial) port.port_destroyed_target in
       ap (λ t. target_seen see (PortDestroyedRequest serial) port.port_destroyed_target (target_seen see (NoSendersRequest serial) port.no_senders_target t)) (messages_are serial port.messages s)
       ∙ ap (target_seen see (PortDestroyedRequest serial) port.port_destroyed_target) (no_senders_target_is serial port.no_senders_target (all_seen 0 queued s))
-      ∙ port_destroyed_target_is serial port.port_destroyed_target (all_seen 0 told (all_seen 0 queued s))
-      ∙ sym (seen-append 0 told backed (all_seen 0 queued s))
-      ∙ sym (seen-append 0 queued (told ++ backed) s)
+      ∙ port_destroyed_target_is serial port.port_destroyed_target (all_seen 0 listed (all_seen 0 queued s))
+      ∙ sym (seen-append 0 listed backed (all_seen 0 queued s))
+      ∙ sym (seen-append 0 queued (listed ++ backed) s)
 
   ports_are : (es : List (ℕ × PortState)) (s : S) → ports_seen see (map (λ e. record { serial = e.0; state = e.1 }) es) s ≡ all_seen 0 (kept_rights es) s
   ports_are [] s = refl

@@ -16,10 +16,10 @@ IsHeldOrCarried (no_senders_request port) = ⊥
 IsHeldOrCarried (port_destroyed_request port) = ⊥
 IsHeldOrCarried waiting = ⊥
 
-abbrev pub IsTold : Option Right → Type 0
-IsTold None = ⊥
-IsTold (Some right) = IsHeldOrCarried right.place
+abbrev pub IsListed : Option Right → Type 0
+IsListed None = ⊥
+IsListed (Some right) = IsHeldOrCarried right.place
 
 -- The line of each live port says where its receive right is.
-abbrev pub HoldersAreTold : Type 0
-HoldersAreTold = (state : State) (serial : ℕ) → Lawful state → lives state serial ≡ true → IsTold (receive_right state serial)
+abbrev pub HoldersAreListed : Type 0
+HoldersAreListed = (state : State) (serial : ℕ) → Lawful state → lives state serial ≡ true → IsListed (receive_right state serial)

@@ -41,15 +41,15 @@ abbrev pub space_lines : ℕ → Names → List ℕ
 space_lines space names = space_line space ++ flat_map (λ e. name_line e.0 e.1) (finmap.entries names)
 
 -- where a receive right is: under a name, or in a message of a port's queue; requests keep only send-once rights
-abbrev pub place_text : Place → List ℕ
-place_text (held space name) = codes " held " ++ (decimal space ++ (codes " " ++ hexadecimal name))
-place_text (destination queue) = codes " carried " ++ decimal queue
-place_text (reply queue) = codes " carried " ++ decimal queue
-place_text (body queue) = codes " carried " ++ decimal queue
-place_text (dead_name_request space name) = []
-place_text (no_senders_request port) = []
-place_text (port_destroyed_request port) = []
-place_text waiting = []
+abbrev pub place_encoding : Place → List ℕ
+place_encoding (held space name) = codes " held " ++ (decimal space ++ (codes " " ++ hexadecimal name))
+place_encoding (destination queue) = codes " carried " ++ decimal queue
+place_encoding (reply queue) = codes " carried " ++ decimal queue
+place_encoding (body queue) = codes " carried " ++ decimal queue
+place_encoding (dead_name_request space name) = []
+place_encoding (no_senders_request port) = []
+place_encoding (port_destroyed_request port) = []
+place_encoding waiting = []
 
 -- a port's receive right: each port of a lawful state has one
 abbrev pub is_receive_right : ℕ → Right → Bool
@@ -60,7 +60,7 @@ receive_right state serial = find (is_receive_right serial) (placed state)
 
 abbrev pub receive_text : Option Right → List ℕ
 receive_text None = []
-receive_text (Some right) = place_text right.place
+receive_text (Some right) = place_encoding right.place
 
 -- what a port keeps besides its rights
 unfoldable pub queue_text : PortState → List ℕ
@@ -68,14 +68,14 @@ queue_text port =
     codes " queue " ++ (decimal (length port.messages) ++ (codes " of " ++ (decimal port.limit
     ++ (codes " seqno " ++ (decimal port.sequence_number ++ (codes " mscount " ++ (decimal port.make_send_count ++ codes "\n")))))))
 
-unfoldable pub port_text : ℕ → List ℕ → ℕ → ℕ → PortState → List ℕ
-port_text serial receive send send_once port =
+unfoldable pub port_encoding : ℕ → List ℕ → ℕ → ℕ → PortState → List ℕ
+port_encoding serial receive send send_once port =
     codes "port " ++ (decimal serial ++ (receive ++ (codes " send " ++ (decimal send ++ (codes " once " ++ (decimal send_once ++ queue_text port))))))
 
 -- a live port, where its receive right is, and how many send and send-once rights it has
 abbrev pub port_line : State → ℕ → PortState → List ℕ
 port_line state serial port =
-    port_text serial (receive_text (receive_right state serial)) (send_count state serial) (send_once_count state serial) port
+    port_encoding serial (receive_text (receive_right state serial)) (send_count state serial) (send_once_count state serial) port
 
 -- the epoch of a store, and how many records its segments hold
 unfoldable pub store_line : ℕ → ℕ → List ℕ

@@ -7,7 +7,7 @@ use Rattle.snapshot.specs.declared.rows.Space.{Space}
 use Rattle.listing.specs.declared.standing.Standing.{Standing}
 use Rattle.listing.specs.declared.standing.Standing.TheVariants.{Held, Queued, DeadNameRequest, NoSendersRequest, PortDestroyedRequest}
 use Rattle.listing.specs.Gathering.{Notes, tally_of, gathered}
-use Rattle.listing.specs.Listing.{hexadecimal, name_line, space_line, port_text, store_line}
+use Rattle.listing.specs.Listing.{hexadecimal, name_line, space_line, port_encoding, store_line}
 
 abbrev pub names_rows : List NamedEntry → List ℕ
 names_rows names = flat_map (λ (named : NamedEntry). name_line named.name named.entry) names
@@ -30,7 +30,7 @@ standing_text (Some (PortDestroyedRequest port)) = []
 abbrev pub port_row : Notes → LivePort → List ℕ
 port_row notes port =
     let tally = tally_of notes port.serial in
-    port_text port.serial (standing_text tally.receive) tally.send tally.send_once port.state
+    port_encoding port.serial (standing_text tally.receive) tally.send tally.send_once port.state
 
 abbrev pub ports_rows : Notes → List LivePort → List ℕ
 ports_rows notes ports = flat_map (port_row notes) ports

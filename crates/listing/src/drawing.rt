@@ -4,7 +4,7 @@ ghost use Rattle.snapshot.specs.Snapshots.{snapshot_of};
 ghost use Rattle.listing.specs.Drawing.{drawing};
 ghost use Rattle.listing.specs.Strokes.{names_drawn, space_drawn, spaces_drawn, ports_drawn, edges_drawn, drawn};
 
-use crate::line::push_text;
+use crate::line::push_encoding;
 use crate::standing::StandingRight;
 use crate::stroke::{cluster_head, edge_line, name_node_line, port_node_line};
 use crate::tally::{Tallies, gather};
@@ -26,7 +26,7 @@ fn push_names(
 {
     for named in names {
         let line = name_node_line(alloc, space, named.name, &named.entry)?;
-        push_text(out, line)?;
+        push_encoding(out, line)?;
     }
     Ok(())
 }
@@ -35,7 +35,7 @@ fn push_space(alloc: Global, out: &mut Vec<u8>, space: &Space) -> Result<(), All
     ensures { OnOk result (out.new.items ≡ out.old.items ++ space_drawn space.now) }
 {
     let head = cluster_head(alloc, space.number)?;
-    push_text(out, head)?;
+    push_encoding(out, head)?;
     push_names(alloc, out, space.number, space.names.as_slice())?;
     out.extend_from_slice(b"  }\n")
 }
@@ -60,7 +60,7 @@ fn push_ports(
     for port in ports {
         let tally = tallies.tally(port.serial);
         let line = port_node_line(alloc, port.serial, tally, &port.state)?;
-        push_text(out, line)?;
+        push_encoding(out, line)?;
     }
     Ok(())
 }
@@ -84,7 +84,7 @@ impl Visitor for Edges {
 
     fn see(&mut self, right: StandingRight) -> Result<(), AllocError> {
         let line = edge_line(self.alloc, right)?;
-        push_text(&mut self.text, line)
+        push_encoding(&mut self.text, line)
     }
 }
 

@@ -11,5 +11,5 @@ mod tally;
 mod walk;
 
 pub use drawing::draw;
-pub use laws::holders_are_told;
+pub use laws::holders_are_listed;
 pub use listing::list;

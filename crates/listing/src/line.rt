@@ -1,5 +1,5 @@
 ghost use Rattle.std.specs.Prelude.{◌≡◌, ◌++◌, IfOk, OnOk, string_bytes};
-ghost use Rattle.listing.specs.Listing.{hexadecimal, port_of, references_of, name_line, space_line, queue_text, port_text, store_line};
+ghost use Rattle.listing.specs.Listing.{hexadecimal, port_of, references_of, name_line, space_line, queue_text, port_encoding, store_line};
 ghost use Rattle.listing.specs.Rows.{standing_text};
 
 use crate::standing::Standing;
@@ -28,7 +28,7 @@ pub(crate) fn references_of(entry: &Entry) -> u32
 }
 
 /// Adds a text and drops it, so that a `?` after the call has nothing to drop.
-pub(crate) fn push_text(out: &mut Vec<u8>, text: String) -> Result<(), AllocError>
+pub(crate) fn push_encoding(out: &mut Vec<u8>, text: String) -> Result<(), AllocError>
     ensures { OnOk result (out.new.items ≡ out.old.items ++ string_bytes text) }
 {
     let pushed = out.extend_from_slice(text.as_bytes());
@@ -92,7 +92,7 @@ fn queue_text(alloc: Global, port: &PortState) -> Result<String, AllocError>
     format!(in alloc; " queue {queued} of {limit} seqno {seqno} mscount {mscount}\n")
 }
 
-#[tactic(auto, unfolding(crate::specs::Listing::port_text))]
+#[tactic(auto, unfolding(crate::specs::Listing::port_encoding))]
 /// The line of a port.
 pub(crate) fn port_line(
     alloc: Global,
@@ -100,7 +100,7 @@ pub(crate) fn port_line(
     tally: Tally,
     port: &PortState,
 ) -> Result<String, AllocError>
-    ensures { IfOk result (λ line. string_bytes line ≡ port_text serial (standing_text tally.receive) tally.send tally.send_once port.now) }
+    ensures { IfOk result (λ line. string_bytes line ≡ port_encoding serial (standing_text tally.receive) tally.send tally.send_once port.now) }
 {
     let receive = standing_text(alloc, tally.receive)?;
     let queue = queue_text(alloc, port)?;

@@ -4,7 +4,7 @@ ghost use Rattle.snapshot.specs.Snapshots.{snapshot_of};
 ghost use Rattle.listing.specs.Listing.{listing};
 ghost use Rattle.listing.specs.Rows.{names_rows, space_rows, spaces_rows, ports_rows, snapshot_rows};
 
-use crate::line::{name_line, port_line, push_text, space_line, store_line};
+use crate::line::{name_line, port_line, push_encoding, space_line, store_line};
 use crate::tally::{Tallies, gather};
 use snapshot::{LivePort, NamedEntry, Snapshot, Space};
 use std::alloc::{AllocError, Global};
@@ -14,7 +14,7 @@ fn push_names(alloc: Global, out: &mut Vec<u8>, names: &[NamedEntry]) -> Result<
 {
     for named in names {
         let line = name_line(alloc, named.name, &named.entry)?;
-        push_text(out, line)?;
+        push_encoding(out, line)?;
     }
     Ok(())
 }
@@ -23,7 +23,7 @@ fn push_space(alloc: Global, out: &mut Vec<u8>, space: &Space) -> Result<(), All
     ensures { OnOk result (out.new.items ≡ out.old.items ++ space_rows space.now) }
 {
     let line = space_line(alloc, space.number)?;
-    push_text(out, line)?;
+    push_encoding(out, line)?;
     push_names(alloc, out, space.names.as_slice())
 }
 
@@ -47,7 +47,7 @@ fn push_ports(
     for port in ports {
         let tally = tallies.tally(port.serial);
         let line = port_line(alloc, port.serial, tally, &port.state)?;
-        push_text(out, line)?;
+        push_encoding(out, line)?;
     }
     Ok(())
 }
@@ -62,7 +62,7 @@ fn push_rows(
 ) -> Result<(), AllocError>
     ensures { OnOk result (out.new.items ≡ out.old.items ++ snapshot_rows epoch records snapshot.now) }
 {
-    push_text(out, store_line(alloc, epoch, records)?)?;
+    push_encoding(out, store_line(alloc, epoch, records)?)?;
     push_spaces(alloc, out, snapshot.spaces.as_slice())?;
     let tallies = gather(alloc, snapshot)?;
     let pushed = push_ports(alloc, out, &tallies, snapshot.ports.as_slice());

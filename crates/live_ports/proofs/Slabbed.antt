@@ -13,7 +13,7 @@ use Rattle.tracked_map.specs.Slots.{get_picked}
 use Rattle.live_ports.specs.PortSlot.{PortSlot}
 use Rattle.live_ports.specs.Slabbed.{Keys, by_serial, AreKeyed, IsChangedAt}
 use Rattle.live_ports.specs.Tables.{Slots, slot_changed}
-use Rattle.live_ports.specs.Touched.{worked_off}
+use Rattle.live_ports.specs.Touched.{drained}
 use Rattle.live_ports.proofs.Slotted.{get_slot}
 
 same : (m n : Slots) → ((q : ℕ) → get m q ≡ get n q) → m ≡ n
@@ -182,13 +182,13 @@ pub same_values : (old new : Slab PortSlot) (keys : Keys) → new.slots ≡ old.
 same_values old new keys is keyed = record { there = λ serial key at. ap (λ (l : List (Option PortSlot)). is_some (slice_index_or l key None)) is ∙ keyed.there serial key at; apart = keyed.apart; found = λ key some. keyed.found key (ap (λ (l : List (Option PortSlot)). is_some (slice_index_or l key None)) (sym is) ∙ some) }
 
 -- a slot in which something is to stand is settled, and one in which nothing is to stand is removed
-pub slot_settled : (look : PortSlot → Option PortState) (settle : PortSlot → PortSlot) (slots : Slots) (serial : ℕ) (port : PortSlot) → Some port ≡ get slots serial → is_some (look port) ≡ true → slot_changed slots serial settle ≡ worked_off look settle slots serial
+pub slot_settled : (look : PortSlot → Option PortState) (settle : PortSlot → PortSlot) (slots : Slots) (serial : ℕ) (port : PortSlot) → Some port ≡ get slots serial → is_some (look port) ≡ true → slot_changed slots serial settle ≡ drained look settle slots serial
 slot_settled look settle slots serial port there some =
     ap (λ (o : Option PortSlot). elim o as (λ _. Slots) [ None ↦ slots | Some slot ↦ insert slots serial (settle slot) ]) (sym there)
     ∙ sym (ap (λ (o : Option PortSlot). elim o as (λ _. Slots) [ None ↦ slots | Some slot ↦ cond (is_some (look slot)) (insert slots serial (settle slot)) (remove slots serial) ]) (sym there)
     ∙ ap (λ (b : Bool). cond b (insert slots serial (settle port)) (remove slots serial)) some)
 
-pub slot_goes : (look : PortSlot → Option PortState) (settle : PortSlot → PortSlot) (slots : Slots) (serial : ℕ) (port : PortSlot) → Some port ≡ get slots serial → is_some (look port) ≡ false → remove slots serial ≡ worked_off look settle slots serial
+pub slot_goes : (look : PortSlot → Option PortState) (settle : PortSlot → PortSlot) (slots : Slots) (serial : ℕ) (port : PortSlot) → Some port ≡ get slots serial → is_some (look port) ≡ false → remove slots serial ≡ drained look settle slots serial
 slot_goes look settle slots serial port there none =
     sym (ap (λ (o : Option PortSlot). elim o as (λ _. Slots) [ None ↦ slots | Some slot ↦ cond (is_some (look slot)) (insert slots serial (settle slot)) (remove slots serial) ]) (sym there)
     ∙ ap (λ (b : Bool). cond b (insert slots serial (settle port)) (remove slots serial)) none)

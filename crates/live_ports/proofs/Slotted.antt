@@ -11,7 +11,7 @@ use Rattle.live_ports.specs.Changed.{changed, messages_in}
 use Rattle.live_ports.specs.PortSlot.{PortSlot}
 use Rattle.live_ports.specs.Seen.{Ports}
 use Rattle.live_ports.specs.SeenLaws.{get_changed}
-use Rattle.live_ports.specs.Tables.{Slots, before_of, current_of, former_ports, present_ports, slot_changed, present_changed, buried, kept_slot, given_up_slot, AreMarked}
+use Rattle.live_ports.specs.Tables.{Slots, before_of, current_of, former_ports, present_ports, slot_changed, present_changed, buried, committed_slot, rolled_back_slot, AreMarked}
 use Rattle.live_ports.specs.Touched.{IsSettling, touched_more, touched_none, touched_put}
 
 same : (m n : Ports) → ((q : ℕ) → get m q ≡ get n q) → m ≡ n
@@ -21,11 +21,11 @@ same m n alike = same_map nat_cmp_total nat_cmp-IsAntisymmetric m n alike
 pub present_at : (slots : Slots) (k : ℕ) (found : Option PortSlot) → found ≡ get slots k → option_and_then current_of found ≡ get (present_ports slots) k
 present_at slots k found is = ap (option_and_then current_of) is ∙ sym (get_picked current_of slots k)
 
-pub settles_kept : IsSettling before_of current_of current_of kept_slot
-settles_kept = record { was = λ _. refl; is = λ _. refl; seen = λ _. refl }
+pub settles_committed : IsSettling before_of current_of current_of committed_slot
+settles_committed = record { was = λ _. refl; is = λ _. refl; seen = λ _. refl }
 
-pub settles_given_up : IsSettling before_of current_of before_of given_up_slot
-settles_given_up = record { was = λ _. refl; is = λ _. refl; seen = λ _. refl }
+pub settles_rolled_back : IsSettling before_of current_of before_of rolled_back_slot
+settles_rolled_back = record { was = λ _. refl; is = λ _. refl; seen = λ _. refl }
 
 pub none_left : (slots : Slots) (rest : List ℕ) → length rest ≡ 0 → AreMarked slots rest → AreMarked slots []
 none_left slots [] none still = still

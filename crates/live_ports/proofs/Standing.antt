@@ -28,7 +28,7 @@ rest_stands new raw many serial rest sound = record {
   touched = rest.touched;
   before = same_sound raw _ many _ serial _ rest.before rest.count_before rest.next_before sound;
   current = same_sound raw _ many _ serial _ rest.current rest.count rest.next sound;
-  rises = omega (arith, rest.next, rest.next_before);
+  ascends = omega (arith, rest.next, rest.next_before);
 }
 
 pub rest_view : (new : Tables) (raw : Ports) (many serial : ℕ) → AreAtRest new raw many serial
@@ -41,11 +41,11 @@ pub former_sound : (old mid : Tables) → AreStanding old → SameBefore old mid
 former_sound old mid stands before = same_sound _ _ _ _ _ _ before.ports before.count before.next stands.before
 
 pub now_stands : (old new : Tables) (raw : Ports) (many serial : ℕ) → AreStanding old → SameBefore old new → AreNow new raw many serial → AreSound raw many serial → old.next ≤ serial → AreStanding new
-now_stands old new raw many serial stands before now sound rises = record {
+now_stands old new raw many serial stands before now sound ascends = record {
   touched = before.touched;
   before = former_sound old new stands before;
   current = same_sound raw _ many _ serial _ now.ports now.count now.next sound;
-  rises = omega (arith, now.next, before.next, stands.rises, rises);
+  ascends = omega (arith, now.next, before.next, stands.ascends, ascends);
 }
 
 pub now_view : (old new : Tables) (raw seen : Ports) (many serial : ℕ) → SameBefore old new → AreNow new raw many serial → as_seen raw ≡ seen
@@ -174,20 +174,20 @@ front_holds : (a b : Bool) → b ≡ true → (a || b) ≡ true
 front_holds true b e = refl
 front_holds false b e = e
 
-behind_holds : {A : Type 0} (p : A → Bool) (xs : List A) → list_any p (drop 1 xs) ≡ true → list_any p xs ≡ true
-behind_holds p [] some = some
-behind_holds p (x ∷ xs) some = front_holds (p x) (list_any p xs) some
+after_holds : {A : Type 0} (p : A → Bool) (xs : List A) → list_any p (drop 1 xs) ≡ true → list_any p xs ≡ true
+after_holds p [] some = some
+after_holds p (x ∷ xs) some = front_holds (p x) (list_any p xs) some
 
-behind_shorter : {A : Type 0} (xs : List A) → length (drop 1 xs) ≤ length xs
-behind_shorter [] = omega arith
-behind_shorter (x ∷ xs) = omega arith
+after_shorter : {A : Type 0} (xs : List A) → length (drop 1 xs) ≤ length xs
+after_shorter [] = omega arith
+after_shorter (x ∷ xs) = omega arith
 
 -- a message is taken out of a queue
 pub taken_sound : (ports : Ports) (count next k : ℕ) → AreSound ports count next → AreSound (changed ports k without_first) count next
 taken_sound ports count next k = changed_sound ports count next k without_first (λ port is below. record {
   within = below.within;
-  mentioned = λ s to. below.mentioned s (behind_holds (mentions s) port.messages to);
-  short = omega (arith, below.short, behind_shorter port.messages);
+  mentioned = λ s to. below.mentioned s (after_holds (mentions s) port.messages to);
+  short = omega (arith, below.short, after_shorter port.messages);
 })
 
 short_option : (o p : Option PortState) (f : PortState → PortState) (port : PortState) → p ≡ option_map f o → p ≡ Some port → (from : PortState) → o ≡ Some from → port ≡ f from

@@ -156,12 +156,12 @@ seen_pushed raw s message live = seen_changed raw s (with_message message) (with
     ∙ ap (λ (m : Message). map (seen_message (lives_in raw)) port.messages ++ m ∷ []) (live_message raw message (λ k to. sym (lives_seen raw k) ∙ live k to))))
 
 -- a message that is taken out of a queue
-map_behind : {A B : Type 0} (f : A → B) (xs : List A) → map f (drop 1 xs) ≡ drop 1 (map f xs)
-map_behind f [] = refl
-map_behind f (x ∷ xs) = refl
+map_after : {A B : Type 0} (f : A → B) (xs : List A) → map f (drop 1 xs) ≡ drop 1 (map f xs)
+map_after f [] = refl
+map_after f (x ∷ xs) = refl
 
 pub seen_taken : (raw : Ports) (s : ℕ) → as_seen (changed raw s without_first) ≡ changed (as_seen raw) s without_first
-seen_taken raw s = seen_changed raw s without_first without_first (λ port. ap (λ (ms : List Message). record port { messages = ms }) (map_behind (seen_message (lives_in raw)) port.messages))
+seen_taken raw s = seen_changed raw s without_first without_first (λ port. ap (λ (ms : List Message). record port { messages = ms }) (map_after (seen_message (lives_in raw)) port.messages))
 
 -- a port that dies
 lives_removed : (raw : Ports) (s k : ℕ) → lives_in (remove raw s) k ≡ cond (eq_by_cmp nat_cmp k s) false (lives_in raw k)

@@ -38,11 +38,11 @@ abbrev pub buried : PortSlot → PortSlot
 buried slot = record slot { current = None }
 
 -- a slot whose changes are committed, or rolled back
-abbrev pub kept_slot : PortSlot → PortSlot
-kept_slot slot = slot_at_rest slot.current
+abbrev pub committed_slot : PortSlot → PortSlot
+committed_slot slot = slot_at_rest slot.current
 
-abbrev pub given_up_slot : PortSlot → PortSlot
-given_up_slot slot = slot_at_rest slot.before
+abbrev pub rolled_back_slot : PortSlot → PortSlot
+rolled_back_slot slot = slot_at_rest slot.before
 
 -- each slot that wasn't touched is as it was
 abbrev pub AreMarked : Slots → List ℕ → Type 0
@@ -81,4 +81,4 @@ pub record AreStanding (tables : Tables) : Type 0 where
   pub touched : AreMarked tables.slots tables.touched.items
   pub before : AreSound (former_ports tables.slots) tables.count_before tables.next_before
   pub current : AreSound (present_ports tables.slots) tables.count tables.next
-  pub rises : tables.next_before ≤ tables.next
+  pub ascends : tables.next_before ≤ tables.next

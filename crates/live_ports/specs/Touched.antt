@@ -56,8 +56,8 @@ module _ {X Y : Type 0} where
   AreTouched before current slots touched = (key : ℕ) (slot : Y) → get slots key ≡ Some slot → is_listed key touched ≡ false → IsStill before current slot
 
   -- a slot that is done: settled, or removed if nothing is to stand there
-  abbrev pub worked_off : (Y → Option X) → (Y → Y) → FinMap {K = ℕ} nat_cmp Y → ℕ → FinMap {K = ℕ} nat_cmp Y
-  worked_off look settle slots key = elim (get slots key) as (λ _. FinMap {K = ℕ} nat_cmp Y) [
+  abbrev pub drained : (Y → Option X) → (Y → Y) → FinMap {K = ℕ} nat_cmp Y → ℕ → FinMap {K = ℕ} nat_cmp Y
+  drained look settle slots key = elim (get slots key) as (λ _. FinMap {K = ℕ} nat_cmp Y) [
     | None ↦ slots
     | Some slot ↦ cond (is_some (look slot)) (insert slots key (settle slot)) (remove slots key)
   ]
@@ -86,20 +86,20 @@ module _ {X Y : Type 0} where
   pub untouched_alike : (before current : Y → Option X) (slots : FinMap {K = ℕ} nat_cmp Y) → AreTouched before current slots [] → picked before slots ≡ picked current slots
   untouched_alike before current slots still = picked_alike before current slots (λ key slot is. (still key slot is refl).0)
 
-  pub record IsWorkedOff (before current look : Y → Option X) (slots next : FinMap {K = ℕ} nat_cmp Y) (rest : List ℕ) : Type 0 where
+  pub record IsDrained (before current look : Y → Option X) (slots next : FinMap {K = ℕ} nat_cmp Y) (rest : List ℕ) : Type 0 where
     pub seen : picked look next ≡ picked look slots
     pub touched : AreTouched before current next rest
 
   -- the last touched key is done
-  pub is_worked_off : (before current look : Y → Option X) (settle : Y → Y) (slots next : FinMap {K = ℕ} nat_cmp Y) (touched rest : List ℕ) (key : ℕ) → IsSettling before current look settle → next ≡ worked_off look settle slots key → touched ≡ rest ++ key ∷ []
-      → AreTouched before current slots touched → IsWorkedOff before current look slots next rest
-  is_worked_off before current look settle slots next touched rest key settles at last still =
-      subst (λ (m : FinMap {K = ℕ} nat_cmp Y). IsWorkedOff before current look slots m rest) (sym at) (by_slot (get slots key) refl)
+  pub is_drained : (before current look : Y → Option X) (settle : Y → Y) (slots next : FinMap {K = ℕ} nat_cmp Y) (touched rest : List ℕ) (key : ℕ) → IsSettling before current look settle → next ≡ drained look settle slots key → touched ≡ rest ++ key ∷ []
+      → AreTouched before current slots touched → IsDrained before current look slots next rest
+  is_drained before current look settle slots next touched rest key settles at last still =
+      subst (λ (m : FinMap {K = ℕ} nat_cmp Y). IsDrained before current look slots m rest) (sym at) (by_slot (get slots key) refl)
     where
       left : (q : ℕ) (slot : Y) → get slots q ≡ Some slot → eq_by_cmp nat_cmp q key ≡ false → is_listed q rest ≡ false → IsStill before current slot
       left q slot is other none = still q slot is (ap (is_listed q) last ∙ listed_not q key rest none other)
 
-      by_look : (slot : Y) → get slots key ≡ Some slot → (b : Bool) → is_some (look slot) ≡ b → IsWorkedOff before current look slots (cond b (insert slots key (settle slot)) (remove slots key)) rest
+      by_look : (slot : Y) → get slots key ≡ Some slot → (b : Bool) → is_some (look slot) ≡ b → IsDrained before current look slots (cond b (insert slots key (settle slot)) (remove slots key)) rest
       by_look slot here true some = record {
         seen = same _ _ (λ q. get_picked look (insert slots key (settle slot)) q ∙ seen_at q (eq_by_cmp nat_cmp q key) refl ∙ sym (get_picked look slots q));
         touched = λ q found is none. at_key q found none (eq_by_cmp nat_cmp q key) refl is;
@@ -126,7 +126,7 @@ module _ {X Y : Type 0} where
           at_key q found none false same is = left q found (sym (get_gone slots key q false same) ∙ is) same none
 
       by_slot : (o : Option Y) → get slots key ≡ o
-          → IsWorkedOff before current look slots (elim o as (λ _. FinMap {K = ℕ} nat_cmp Y) [ None ↦ slots | Some slot ↦ cond (is_some (look slot)) (insert slots key (settle slot)) (remove slots key) ]) rest
+          → IsDrained before current look slots (elim o as (λ _. FinMap {K = ℕ} nat_cmp Y) [ None ↦ slots | Some slot ↦ cond (is_some (look slot)) (insert slots key (settle slot)) (remove slots key) ]) rest
       by_slot None nothing = record {
         seen = refl;
         touched = λ q slot is none. left q slot is (elsewhere q slot is (eq_by_cmp nat_cmp q key) refl) none;

@@ -158,19 +158,19 @@ impl Port {
     }
 
     /// Commits the changes. It takes no memory.
-    pub(crate) fn keep(&mut self)
+    pub(crate) fn commit(&mut self)
         ensures { self.new ≡ slot_at_rest self.old.current }
     {
-        self.queue.keep();
+        self.queue.commit();
         self.former = self.numbers;
         self.lived = self.lives;
     }
 
     /// Rolls the changes back. It takes no memory.
-    pub(crate) fn give_up(&mut self)
+    pub(crate) fn roll_back(&mut self)
         ensures { self.new ≡ slot_at_rest self.old.before }
     {
-        self.queue.give_up();
+        self.queue.roll_back();
         self.numbers = self.former;
         self.lives = self.lived;
     }

@@ -125,7 +125,7 @@ impl LivePorts {
     }
 
     /// Shows that no queue holds more messages than a word counts. It does nothing else.
-    pub fn are_short(&self)
+    pub fn show_queues_short(&self)
         ensures { AreShort self.now.current.ports }
     {
         let _ = &self.tables;
@@ -143,7 +143,7 @@ impl LivePorts {
         match self.tables.set_numbers(serial, numbers) {
             Ok(()) => Ok(()),
             Err(error) => {
-                self.tables.give_up();
+                self.tables.roll_back();
                 Err(error)
             }
         }
@@ -163,7 +163,7 @@ impl LivePorts {
         match self.tables.push(serial, message) {
             Ok(()) => Ok(()),
             Err(error) => {
-                self.tables.give_up();
+                self.tables.roll_back();
                 Err(error)
             }
         }
@@ -182,7 +182,7 @@ impl LivePorts {
         match self.tables.take(serial) {
             Ok(()) => Ok(()),
             Err(error) => {
-                self.tables.give_up();
+                self.tables.roll_back();
                 Err(error)
             }
         }
@@ -203,7 +203,7 @@ impl LivePorts {
         match self.tables.add() {
             Ok(()) => Ok(()),
             Err(error) => {
-                self.tables.give_up();
+                self.tables.roll_back();
                 Err(error)
             }
         }
@@ -233,7 +233,7 @@ impl LivePorts {
         match self.tables.bury(serial) {
             Ok(()) => Ok(()),
             Err(error) => {
-                self.tables.give_up();
+                self.tables.roll_back();
                 Err(error)
             }
         }
@@ -248,16 +248,16 @@ impl LivePorts {
     }
 
     /// Commits the changes. It takes no memory.
-    pub fn keep(&mut self)
+    pub fn commit(&mut self)
         ensures { self.new ≡ ports_at_rest self.old.current }
     {
-        self.tables.keep();
+        self.tables.commit();
     }
 
     /// Rolls the changes back. It takes no memory.
-    pub fn give_up(&mut self)
+    pub fn roll_back(&mut self)
         ensures { self.new ≡ ports_at_rest self.old.before }
     {
-        self.tables.give_up();
+        self.tables.roll_back();
     }
 }

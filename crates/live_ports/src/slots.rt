@@ -4,7 +4,7 @@ ghost use Rattle.std.specs.FinMap as map;
 ghost use Rattle.live_ports.specs.Changed.{with_message, with_numbers, without_first};
 ghost use Rattle.live_ports.specs.PortSlot.{PortSlot};
 ghost use Rattle.live_ports.specs.Slabbed.{by_serial, AreKeyed, IsChangedAt};
-ghost use Rattle.live_ports.specs.Tables.{current_of, slot_changed, present_changed, buried, kept_slot, given_up_slot};
+ghost use Rattle.live_ports.specs.Tables.{current_of, slot_changed, present_changed, buried, committed_slot, rolled_back_slot};
 ghost use Rattle.slab.specs.Slab as slab;
 ghost use Rattle.slab.specs.Slab.{Updates};
 
@@ -134,20 +134,20 @@ impl PortSlots {
     }
 
     /// Commits the changes of a port. The next call finds it in one look, however many ports were made since it was.
-    pub(crate) fn keep(&mut self, serial: u128)
-        ensures { self.new ≡ slot_changed self.old serial kept_slot }
+    pub(crate) fn commit(&mut self, serial: u128)
+        ensures { self.new ≡ slot_changed self.old serial committed_slot }
     {
         if let Some(key) = self.keys.find(serial) {
-            keep_at(&mut self.ports, key);
+            commit_at(&mut self.ports, key);
         }
     }
 
     /// Rolls back the changes of a port.
-    pub(crate) fn give_up(&mut self, serial: u128)
-        ensures { self.new ≡ slot_changed self.old serial given_up_slot }
+    pub(crate) fn roll_back(&mut self, serial: u128)
+        ensures { self.new ≡ slot_changed self.old serial rolled_back_slot }
     {
         if let Some(key) = self.keys.get(serial) {
-            give_up_at(&mut self.ports, key);
+            roll_back_at(&mut self.ports, key);
         }
     }
 }
@@ -223,18 +223,18 @@ fn bury_at(ports: &mut Slab<Port>, key: usize)
     }
 }
 
-fn keep_at(ports: &mut Slab<Port>, key: usize)
-    ensures { IsChangedAt kept_slot ports.old ports.new key }
+fn commit_at(ports: &mut Slab<Port>, key: usize)
+    ensures { IsChangedAt committed_slot ports.old ports.new key }
 {
     if let Some(port) = ports.get_mut(key) {
-        port.keep();
+        port.commit();
     }
 }
 
-fn give_up_at(ports: &mut Slab<Port>, key: usize)
-    ensures { IsChangedAt given_up_slot ports.old ports.new key }
+fn roll_back_at(ports: &mut Slab<Port>, key: usize)
+    ensures { IsChangedAt rolled_back_slot ports.old ports.new key }
 {
     if let Some(port) = ports.get_mut(key) {
-        port.give_up();
+        port.roll_back();
     }
 }

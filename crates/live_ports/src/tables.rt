@@ -4,8 +4,8 @@ ghost use Rattle.std.specs.FinMap as map;
 ghost use Rattle.codes.specs.declared.limits.TheConstants.{MAX_PORTS};
 ghost use Rattle.ipc_model.specs.state.State.{new_port};
 ghost use Rattle.live_ports.specs.Changed.{IsMessageAt, changed, messages_at, numbers_of, with_message, with_numbers, without_first};
-ghost use Rattle.live_ports.specs.Tables.{before_of, current_of, former_ports, present_ports, kept_slot, given_up_slot, AreMarked, SameBefore, AreNow, AreAtRest};
-ghost use Rattle.live_ports.specs.Touched.{worked_off};
+ghost use Rattle.live_ports.specs.Tables.{before_of, current_of, former_ports, present_ports, committed_slot, rolled_back_slot, AreMarked, SameBefore, AreNow, AreAtRest};
+ghost use Rattle.live_ports.specs.Touched.{drained};
 
 use crate::port::{Port, PortNumbers};
 use crate::slots::PortSlots;
@@ -161,22 +161,22 @@ impl Tables {
     }
 
     /// Commits the changes. It takes no memory.
-    pub(crate) fn keep(&mut self)
+    pub(crate) fn commit(&mut self)
         requires { AreMarked self.old.slots self.old.touched.items }
         ensures { AreAtRest self.new (present_ports self.old.slots) self.old.count self.old.next }
     {
-        keep_touched(&mut self.slots, &self.touched);
+        commit_touched(&mut self.slots, &self.touched);
         self.touched.clear();
         self.count_before = self.count;
         self.next_before = self.next;
     }
 
     /// Rolls the changes back. It takes no memory.
-    pub(crate) fn give_up(&mut self)
+    pub(crate) fn roll_back(&mut self)
         requires { AreMarked self.old.slots self.old.touched.items }
         ensures { AreAtRest self.new (former_ports self.old.slots) self.old.count_before self.old.next_before }
     {
-        give_up_touched(&mut self.slots, &self.touched);
+        roll_back_touched(&mut self.slots, &self.touched);
         self.touched.clear();
         self.count = self.count_before;
         self.next = self.next_before;
@@ -194,54 +194,54 @@ fn touch(touched: &mut Vec<u128>, serial: u64) -> Result<(), AllocError>
 }
 
 /// Commits the changes of these slots, which are among all that were changed.
-fn keep_touched(slots: &mut PortSlots, touched: &[u128])
+fn commit_touched(slots: &mut PortSlots, touched: &[u128])
     requires { AreMarked slots.old touched.now }
     ensures seen { present_ports slots.new ≡ present_ports slots.old }
     ensures touched { AreMarked slots.new [] }
 {
     let mut rest = touched;
     while let Some((serial, before)) = rest.split_last() {
-        keep_slot(slots, *serial);
+        commit_slot(slots, *serial);
         rest = before;
     }
 }
 
 /// Rolls back the changes of these slots, which are among all that were changed.
-fn give_up_touched(slots: &mut PortSlots, touched: &[u128])
+fn roll_back_touched(slots: &mut PortSlots, touched: &[u128])
     requires { AreMarked slots.old touched.now }
     ensures seen { former_ports slots.new ≡ former_ports slots.old }
     ensures touched { AreMarked slots.new [] }
 {
     let mut rest = touched;
     while let Some((serial, before)) = rest.split_last() {
-        give_up_slot(slots, *serial);
+        roll_back_slot(slots, *serial);
         rest = before;
     }
 }
 
 /// Commits the changes of a slot, which is removed if its port is dead.
-fn keep_slot(slots: &mut PortSlots, serial: u128)
-    ensures { slots.new ≡ worked_off current_of kept_slot slots.old serial }
+fn commit_slot(slots: &mut PortSlots, serial: u128)
+    ensures { slots.new ≡ drained current_of committed_slot slots.old serial }
 {
     let Some(port) = slots.get(serial) else {
         return;
     };
     if port.is_there() {
-        slots.keep(serial);
+        slots.commit(serial);
     } else {
         slots.remove(serial);
     }
 }
 
 /// Rolls back the changes of a slot, which is removed if its port didn't live.
-fn give_up_slot(slots: &mut PortSlots, serial: u128)
-    ensures { slots.new ≡ worked_off before_of given_up_slot slots.old serial }
+fn roll_back_slot(slots: &mut PortSlots, serial: u128)
+    ensures { slots.new ≡ drained before_of rolled_back_slot slots.old serial }
 {
     let Some(port) = slots.get(serial) else {
         return;
     };
     if port.was_there() {
-        slots.give_up(serial);
+        slots.roll_back(serial);
     } else {
         slots.remove(serial);
     }

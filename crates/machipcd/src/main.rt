@@ -3,8 +3,8 @@
 #![tactic(auto)]
 
 use command_line::{question_in, read_words, tell_about};
-use connections::serve_locked;
 use server::{lone, open_locked};
+use socket_server::serve_locked;
 use std::io::{self, BufReader, BufWriter};
 use std::process::ExitCode;
 use wire::WireFault;

@@ -3,26 +3,26 @@ use Rattle.std.specs.Prelude.{◌≡◌, ℕ, ◌+◌, ◌*◌, ◌/◌, ◌%◌
 use Rattle.std.proofs.Common.{sym, ◌∙◌, ap, arith}
 use Rattle.std.proofs.lemmas.Bool.{eq-eqb}
 use Rattle.byteorder.specs.Endian.{little_number}
-use Rattle.ipc_model.specs.messages.Messages.{HasUsedParts, message_text, header_length, complex_bit, is_complex}
+use Rattle.ipc_model.specs.messages.Messages.{HasUsedParts, message_encoding, header_length, complex_bit, is_complex}
 use Rattle.msg_header.specs.declared.header.Header.{Header}
-use Rattle.msg_header.specs.Headers.{parts_by, header_bits, header_text, HeaderFits}
+use Rattle.msg_header.specs.Headers.{parts_by, header_bits, header_encoding, HeaderFits}
 use Rattle.words.specs.WordLaws.{little_number-word}
 use Rattle.words.specs.Words.{word}
 
 -- the bytes of header and body
 abbrev pub HeaderAndBodyAreAMessage : Type 0
 HeaderAndBodyAreAMessage = (header : Header) (seqno : ℕ) (body : List ℕ) → header.size ≡ header_length + length body
-    → header_text header seqno ++ body ≡ message_text (header_bits header) header.remote header.local seqno header.id body
+    → header_encoding header seqno ++ body ≡ message_encoding (header_bits header) header.remote header.local seqno header.id body
 
 pub header_and_body : HeaderAndBodyAreAMessage
-unfolding header_text
+unfolding header_encoding
 header_and_body header seqno body whole =
     ap (λ (size : ℕ). word (header_bits header) ++ (word size ++ (word header.remote ++ (word header.local ++ (word seqno ++ (word header.id ++ body)))))) whole
 
 -- What is written of a header is read back: the bytes are a message with its fields, if its size is theirs.
 abbrev pub WrittenHeadersAreRead : Type 0
 WrittenHeadersAreRead = (header : Header) (seqno : ℕ) (body : List ℕ) → HeaderFits header → header.size ≡ header_length + length body
-    → HasUsedParts (header_text header seqno ++ body) (parts_by header body)
+    → HasUsedParts (header_encoding header seqno ++ body) (parts_by header body)
 
 complex_back : (remote local : ℕ) (complex : Bool) → remote < 2 ^ 8 → local < 2 ^ 8 → is_complex (remote + local * 2 ^ 8 + complex_bit complex) ≡ complex
 complex_back remote local true r l = eq-eqb (((remote + local * 2 ^ 8 + 2 ^ 31) / 2 ^ 31) % 2) 1 (omega (arith, r, l))
@@ -43,7 +43,7 @@ local_back remote local true r l = omega (arith, r, l)
 local_back remote local false r l = omega (arith, r, l)
 
 pub written_back : WrittenHeadersAreRead
-unfolding header_text
+unfolding header_encoding
 written_back header seqno body fits whole =
     let remote : ℕ = header.remote_disposition in
     let local : ℕ = header.local_disposition in

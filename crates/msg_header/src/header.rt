@@ -1,7 +1,7 @@
 ghost use Rattle.std.specs.Prelude.{◌≡◌, ◌<◌, ◌^◌, ◌++◌, ◌+◌, length, IfOk, IfErr, OnOk, OnErr};
 ghost use Rattle.std.specs.Vec.{vec_len, vec_capacity};
 ghost use Rattle.ipc_model.specs.messages.Messages.{HasUsedParts, body_of, header_length};
-ghost use Rattle.msg_header.specs.Headers.{parts_by, header_bits, header_text};
+ghost use Rattle.msg_header.specs.Headers.{parts_by, header_bits, header_encoding};
 
 use byteorder::{ByteOrder, LittleEndian};
 use codes::{HEADER_LENGTH, KernReturn};
@@ -67,13 +67,13 @@ impl Header {
         }
     }
 
-    #[tactic(auto, unfolding(crate::specs::Headers::header_text))]
+    #[tactic(auto, unfolding(crate::specs::Headers::header_encoding))]
     /// Adds the header's 24 bytes, with this sequence number (`msgh_seqno`). The size must fit four bytes.
     ///
     /// If an allocation fails, nothing changed. It takes no memory if there is room for 24 bytes.
     pub fn write_into(&self, sequence_number: u32, out: &mut Vec<u8>) -> Result<(), AllocError>
         requires { self.now.size < 2 ^ 32 }
-        ensures ok { OnOk result (out.new.items ≡ out.old.items ++ header_text self.now sequence_number) }
+        ensures ok { OnOk result (out.new.items ≡ out.old.items ++ header_encoding self.now sequence_number) }
         ensures err { OnErr result (out.new.items ≡ out.old.items) }
         ensures full { OnErr result (vec_capacity out.old < vec_len out.old + header_length) }
     {
@@ -85,8 +85,8 @@ impl Header {
             sequence_number,
             self.id,
         ];
-        let mut text = [0; HEADER_LENGTH];
-        LittleEndian::write_u32_into(&words, &mut text);
-        out.extend_from_slice(&text)
+        let mut encoding = [0; HEADER_LENGTH];
+        LittleEndian::write_u32_into(&words, &mut encoding);
+        out.extend_from_slice(&encoding)
     }
 }

@@ -75,7 +75,7 @@ impl PairCounts {
     {
         let count = self.count(first, second);
         if count == MAX_COUNT {
-            self.give_up();
+            self.roll_back();
             return Err(AllocError);
         }
         self.set(first, second, count + 1)
@@ -148,24 +148,24 @@ impl PairCounts {
         match write(&mut self.counts, first, second, count) {
             Ok(()) => Ok(()),
             Err(error) => {
-                self.counts.give_up();
+                self.counts.roll_back();
                 Err(error)
             }
         }
     }
 
     /// Commits the changes. It takes no memory.
-    pub fn keep(&mut self)
+    pub fn commit(&mut self)
         ensures { self.new ≡ at_rest self.old.current }
     {
-        self.counts.keep();
+        self.counts.commit();
     }
 
     /// Rolls the changes back. It takes no memory.
-    pub fn give_up(&mut self)
+    pub fn roll_back(&mut self)
         ensures { self.new ≡ at_rest self.old.before }
     {
-        self.counts.give_up();
+        self.counts.roll_back();
     }
 }
 

@@ -49,7 +49,7 @@ impl PlaceIndex {
         match replace(&mut self.places, place, former, number) {
             Ok(()) => Ok(()),
             Err(error) => {
-                self.places.give_up();
+                self.places.roll_back();
                 Err(error)
             }
         }
@@ -68,17 +68,17 @@ impl PlaceIndex {
     }
 
     /// Commits the changes. It takes no memory.
-    pub fn keep(&mut self)
+    pub fn commit(&mut self)
         ensures { self.new ≡ at_rest self.old.current }
     {
-        self.places.keep();
+        self.places.commit();
     }
 
     /// Rolls the changes back. It takes no memory.
-    pub fn give_up(&mut self)
+    pub fn roll_back(&mut self)
         ensures { self.new ≡ at_rest self.old.before }
     {
-        self.places.give_up();
+        self.places.roll_back();
     }
 }
 

@@ -9,8 +9,8 @@ use Rattle.ipc_model.specs.calls.PortCalls.{names_in}
 use Rattle.ipc_model.specs.state.State.{State, Names, with_changed, with_names, with_port}
 use Rattle.rights.specs.Passed.{changed_there, under_other_name}
 
-port_beside : (state : State) (space : ℕ) (names : Names) (serial : ℕ) (change : PortState → PortState) → with_port (with_names state space names) serial change ≡ with_names (with_port state serial change) space names
-port_beside state space names serial change =
+port_alongside : (state : State) (space : ℕ) (names : Names) (serial : ℕ) (change : PortState → PortState) → with_port (with_names state space names) serial change ≡ with_names (with_port state serial change) space names
+port_alongside state space names serial change =
     elim (finmap.get state.ports serial) as (λ (o : Option PortState).
     (elim o as (λ _. State) [ None ↦ with_names state space names | Some port ↦ record (with_names state space names) { ports = finmap.insert state.ports serial (change port) } ])
     ≡ with_names (elim o as (λ _. State) [ None ↦ state | Some port ↦ record state { ports = finmap.insert state.ports serial (change port) } ]) space names) [
@@ -18,10 +18,10 @@ port_beside state space names serial change =
       | Some port ↦ refl
     ]
 
-ports_beside : (state : State) (space : ℕ) (names : Names) (serials : List ℕ) (change : PortState → PortState) → with_ports (with_names state space names) serials change ≡ with_names (with_ports state serials change) space names
-ports_beside state space names [] change = refl
-ports_beside state space names (serial ∷ serials) change =
-    ap (λ (s : State). with_ports s serials change) (port_beside state space names serial change) ∙ ports_beside (with_port state serial change) space names serials change
+ports_alongside : (state : State) (space : ℕ) (names : Names) (serials : List ℕ) (change : PortState → PortState) → with_ports (with_names state space names) serials change ≡ with_names (with_ports state serials change) space names
+ports_alongside state space names [] change = refl
+ports_alongside state space names (serial ∷ serials) change =
+    ap (λ (s : State). with_ports s serials change) (port_alongside state space names serial change) ∙ ports_alongside (with_port state serial change) space names serials change
 
 module _ (state : State) (space from to : ℕ) (entry : Entry) (there : IsSome (finmap.get state.spaces space)) (at : finmap.get (names_in state space) from ≡ Some entry) where
   abbrev after : Names
@@ -39,4 +39,4 @@ set_renamed state space from to there at =
     let serials : List ℕ = serials_of_members state (names_in state space) from in
     let into : PortState → PortState = λ port. record port { set = Some to } in
     ap (λ (s : State). with_ports s serials into) (names_renamed state space from to Set there at)
-    ∙ ports_beside state space (finmap.insert (finmap.remove (names_in state space) from) to Set) serials into
+    ∙ ports_alongside state space (finmap.insert (finmap.remove (names_in state space) from) to Set) serials into

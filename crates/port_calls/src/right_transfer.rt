@@ -19,7 +19,7 @@ use codes::{
 };
 use effects::Effects;
 use ipc_model::{CarriedRight, Entry, PortInMessage, Reply, RightKind};
-use rights::{IpcState, arrival_wanted, names_wanted, put_right, take_right};
+use rights::{IpcState, arrival_needed, names_needed, put_right, take_right};
 use std::alloc::AllocError;
 
 /// `mach_port_insert_right`: puts a right that a name hands over under a name that the task chooses. The space must
@@ -173,7 +173,7 @@ pub fn extract_right(
         Ok(right) => right,
         Err(code) => return Ok(refused(MACH_PORT_EXTRACT_RIGHT, code)),
     };
-    let shown = arrival_wanted(state, space, right, wanted);
+    let shown = arrival_needed(state, space, right, wanted);
     put_given(state, space, right, shown)?;
     Ok(Reply::Extracted {
         name: shown,
@@ -212,7 +212,7 @@ fn take_extracted(
     let PortInMessage::Live(_) = right.port else {
         return Ok(Err(KernReturn::InvalidRight));
     };
-    if state.name_count(space) > MAX_NAMES - names_wanted(state, space, &[right]) {
+    if state.name_count(space) > MAX_NAMES - names_needed(state, space, &[right]) {
         return Ok(Err(KernReturn::NoSpace));
     }
     Ok(Ok(right))

@@ -20,7 +20,7 @@ use codes::{
 use effects::Effects;
 use ipc_model::{CarriedRight, PortInMessage, Reply};
 use port_set::{move_ports, received_ports};
-use rights::{IpcState, arrival_wanted, put_right, take_right};
+use rights::{IpcState, arrival_needed, put_right, take_right};
 use std::alloc::{AllocError, Global};
 
 /// Attaches a task to another space, which has to exist.
@@ -168,7 +168,7 @@ fn add_child(
     let (wanted_number, wanted_name) = wanted.unzip();
     let number = space_number(state, wanted_number);
     state.add_space(number)?;
-    let name = arrival_wanted(state, number, right, wanted_name);
+    let name = arrival_needed(state, number, right, wanted_name);
     put_right(state, number, right, name)?;
     Ok((number, name))
 }

@@ -7,7 +7,7 @@ use Rattle.codes.specs.declared.name.TheConstants.{FIRST_NAME}
 use Rattle.ipc_model.specs.declared.entry.Entry.{Entry}
 use Rattle.ipc_model.specs.calls.PortCalls.{stands_elsewhere}
 use Rattle.ipc_model.specs.state.State.{Names, IsUnused, is_number, name_of_port, port_held}
-use Rattle.port_space.specs.Beside.{Numbers, has, holds, StandBeside}
+use Rattle.port_space.specs.Alongside.{Numbers, has, holds, StandAlongside}
 use Rattle.port_space.specs.Crowded.{crowded}
 use Rattle.port_space.specs.Finding.{first_entry, no_entry, some_entry, not_any}
 use Rattle.port_space.specs.Tables.{AreSmall}
@@ -141,23 +141,23 @@ no_number None e = refl
 no_number (Some x) e = absurd (cc e)
 
 -- the least gap
-pub gap_is_free : (names : Names) (by_port gaps : Numbers) (low gap : ℕ) → StandBeside names by_port gaps low → get gaps gap ≡ Some tt → ((k : ℕ) → 0 ≤ k → k < gap → get gaps k ≡ None) → IsFreeName names gap
-gap_is_free names by_port gaps low gap beside there least =
-    let within = beside.free.within gap (ap is_some there) in
-    free_where names gap beside.bounded.few within.0 (no_value (get names gap) (beside.free.below gap within.0 within.1 ∙ ap (λ (o : Option (Unit {0})). not (is_some o)) there))
-    (λ k le lt. beside.free.below k le (omega (arith, lt, within.1)) ∙ ap not (no_number (get gaps k) (least k (omega arith) lt)))
+pub gap_is_free : (names : Names) (by_port gaps : Numbers) (low gap : ℕ) → StandAlongside names by_port gaps low → get gaps gap ≡ Some tt → ((k : ℕ) → 0 ≤ k → k < gap → get gaps k ≡ None) → IsFreeName names gap
+gap_is_free names by_port gaps low gap alongside there least =
+    let within = alongside.free.within gap (ap is_some there) in
+    free_where names gap alongside.bounded.few within.0 (no_value (get names gap) (alongside.free.below gap within.0 within.1 ∙ ap (λ (o : Option (Unit {0})). not (is_some o)) there))
+    (λ k le lt. alongside.free.below k le (omega (arith, lt, within.1)) ∙ ap not (no_number (get gaps k) (least k (omega arith) lt)))
 
 -- the first name past the dense ones, if there is no gap
-pub low_is_free : (names : Names) (by_port gaps : Numbers) (low : ℕ) → StandBeside names by_port gaps low → ((k : ℕ) → 0 ≤ k → k < 2 ^ 128 → get gaps k ≡ None) → IsFreeName names low
-low_is_free names by_port gaps low beside none = free_where names low beside.bounded.few beside.free.from beside.free.next (λ k le lt. beside.free.below k le lt ∙ ap not (no_gap k))
+pub low_is_free : (names : Names) (by_port gaps : Numbers) (low : ℕ) → StandAlongside names by_port gaps low → ((k : ℕ) → 0 ≤ k → k < 2 ^ 128 → get gaps k ≡ None) → IsFreeName names low
+low_is_free names by_port gaps low alongside none = free_where names low alongside.bounded.few alongside.free.from alongside.free.next (λ k le lt. alongside.free.below k le lt ∙ ap not (no_gap k))
   where
     -- the dense names are few
     dense : (n : ℕ) → n ≤ low - FIRST_NAME → n < 2 ^ 32 → n ≤ MAX_NAMES
     dense n le small = omega (
       arith,
-      beside.bounded.few,
+      alongside.bounded.few,
       crowded n names FIRST_NAME (λ k from lt.
-          beside.free.below k from (omega (arith, lt, le, beside.free.from)) ∙ ap not (no_number (get gaps k) (none k (omega arith) (omega (arith, lt, small))))),
+          alongside.free.below k from (omega (arith, lt, le, alongside.free.from)) ∙ ap not (no_number (get gaps k) (none k (omega arith) (omega (arith, lt, small))))),
     )
 
     short : low < 2 ^ 128
@@ -168,7 +168,7 @@ low_is_free names by_port gaps low beside none = free_where names low beside.bou
 
     no_gap : (k : ℕ) → has gaps k ≡ false
     no_gap k = elim (has gaps k) as (λ (b : Bool). has gaps k ≡ b → b ≡ false) [
-      | true ↦ λ (there : _). absurd (cc (sym there ∙ no_number (get gaps k) (none k (omega arith) (omega (arith, (beside.free.within k there).1, short)))))
+      | true ↦ λ (there : _). absurd (cc (sym there ∙ no_number (get gaps k) (none k (omega arith) (omega (arith, (alongside.free.within k there).1, short)))))
       | false ↦ λ (_ : _). refl
     ] refl
 

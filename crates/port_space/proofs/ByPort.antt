@@ -8,7 +8,7 @@ use Rattle.std.specs.FinMap.{get, get-insert, get-remove}
 use Rattle.ipc_model.specs.declared.entry.Entry.{Entry}
 use Rattle.ipc_model.specs.state.State.{Names, is_number, port_held}
 use Rattle.ipc_laws.specs.MapSums.{key_is, same_key}
-use Rattle.port_space.specs.Beside.{Numbers, has, holds, port_key, AreByPort, with_port, without_port}
+use Rattle.port_space.specs.Alongside.{Numbers, has, holds, port_key, AreByPort, with_port, without_port}
 
 same_keys : (s n t m : ℕ) → n < 2 ^ 32 → m < 2 ^ 32 → eq_by_cmp nat_cmp (port_key s n) (port_key t m) ≡ (eq_by_cmp nat_cmp s t && eq_by_cmp nat_cmp n m)
 same_keys s n t m small other = go (eq_by_cmp nat_cmp (port_key s n) (port_key t m)) refl (eq_by_cmp nat_cmp s t) refl (eq_by_cmp nat_cmp n m) refl

@@ -8,7 +8,7 @@ use Rattle.codes.specs.declared.name.TheConstants.{FIRST_NAME}
 use Rattle.ipc_model.specs.declared.entry.Entry.{Entry}
 use Rattle.ipc_model.specs.state.State.{Names}
 use Rattle.ipc_laws.specs.MapSums.{key_is, same_key}
-use Rattle.port_space.specs.Beside.{Numbers, has, AreFree, GoesOn}
+use Rattle.port_space.specs.Alongside.{Numbers, has, AreFree, GoesOn}
 
 not_true : (a : Bool) → (a ≡ true → ⊥) → a ≡ false
 not_true true never = absurd (never refl)

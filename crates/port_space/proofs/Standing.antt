@@ -7,9 +7,9 @@ use Rattle.codes.specs.declared.limits.TheConstants.{MAX_NAMES}
 use Rattle.ipc_model.specs.declared.entry.Entry.{Entry}
 use Rattle.ipc_model.specs.state.State.{Names, is_number, port_held}
 use Rattle.ipc_laws.specs.MapSums.{key_is}
-use Rattle.port_space.specs.Beside.{Numbers, has, with_port, without_port, StandBeside, AreByPort, AreFree, GoesOn}
+use Rattle.port_space.specs.Alongside.{Numbers, has, with_port, without_port, StandAlongside, AreByPort, AreFree, GoesOn}
 use Rattle.port_space.specs.References.{AreBounded, AreFewReferences}
-use Rattle.port_space.specs.Tables.{AreSmall, AreNew, AreKept, AreGivenUp, IsPut, IsRemoved, SameBefore}
+use Rattle.port_space.specs.Tables.{AreSmall, AreNew, AreCommitted, AreRolledBack, IsPut, IsRemoved, SameBefore}
 use Rattle.tracked_map.specs.Tracked.{Tracked, at_rest}
 use Rattle.port_space.specs.declared.tables.Tables.{Tables}
 use Rattle.port_space.proofs.ByPort.{by_port_changed}
@@ -45,24 +45,24 @@ has_inserted gaps name q = ap is_some (get-insert nat_cmp_total gaps name tt q) 
     go false o = refl
 
 pub put_stands : (old new : Tables) (name : ℕ) (entry : Entry) → name < 2 ^ 32 → AreFewReferences entry → (get old.names.current name ≡ None → len old.names.current < MAX_NAMES)
-    → StandBeside old.names.current old.by_port.current old.gaps.current old.low → IsPut old new name entry → StandBeside new.names.current new.by_port.current new.gaps.current new.low
-put_stands old new name entry fits few room beside put = record {
-  bounded = subst AreBounded (sym put.names) (bounded_insert old.names.current name entry beside.bounded room fits few);
-  ports = subst (AreByPort new.names.current) (sym put.by_port) (by_port_changed old.names.current new.names.current old.by_port.current name (Some entry) fits changed beside.ports);
-  free = free_put old.names.current new.names.current old.gaps.current new.gaps.current old.low new.low name entry changed (λ q. ap (λ (n : Numbers). has n q) put.gaps ∙ has_removed old.gaps.current name q) beside.free put.low;
+    → StandAlongside old.names.current old.by_port.current old.gaps.current old.low → IsPut old new name entry → StandAlongside new.names.current new.by_port.current new.gaps.current new.low
+put_stands old new name entry fits few room alongside put = record {
+  bounded = subst AreBounded (sym put.names) (bounded_insert old.names.current name entry alongside.bounded room fits few);
+  ports = subst (AreByPort new.names.current) (sym put.by_port) (by_port_changed old.names.current new.names.current old.by_port.current name (Some entry) fits changed alongside.ports);
+  free = free_put old.names.current new.names.current old.gaps.current new.gaps.current old.low new.low name entry changed (λ q. ap (λ (n : Numbers). has n q) put.gaps ∙ has_removed old.gaps.current name q) alongside.free put.low;
 }
   where
     changed : (q : ℕ) → get new.names.current q ≡ cond (eq_by_cmp nat_cmp q name) (Some entry) (get old.names.current q)
     changed q = ap (λ (n : Names). get n q) put.names ∙ get-insert nat_cmp_total old.names.current name entry q
 
-pub removed_stands : (old new : Tables) (name : ℕ) → name < 2 ^ 32 → StandBeside old.names.current old.by_port.current old.gaps.current old.low → IsRemoved old new name
-    → StandBeside new.names.current new.by_port.current new.gaps.current new.low
-removed_stands old new name fits beside gone = record {
-  bounded = subst AreBounded (sym gone.names) (bounded_remove old.names.current name beside.bounded);
-  ports = subst (AreByPort new.names.current) (sym gone.by_port) (by_port_changed old.names.current new.names.current old.by_port.current name None fits changed beside.ports);
+pub removed_stands : (old new : Tables) (name : ℕ) → name < 2 ^ 32 → StandAlongside old.names.current old.by_port.current old.gaps.current old.low → IsRemoved old new name
+    → StandAlongside new.names.current new.by_port.current new.gaps.current new.low
+removed_stands old new name fits alongside gone = record {
+  bounded = subst AreBounded (sym gone.names) (bounded_remove old.names.current name alongside.bounded);
+  ports = subst (AreByPort new.names.current) (sym gone.by_port) (by_port_changed old.names.current new.names.current old.by_port.current name None fits changed alongside.ports);
   free = subst (AreFree new.names.current new.gaps.current) (sym gone.low) (elim gone.gaps [
-    | inl gap ↦ free_removed old.names.current new.names.current old.gaps.current new.gaps.current old.low name changed (λ q. ap (λ (n : Numbers). has n q) gap.2 ∙ has_inserted old.gaps.current name q) gap.0 gap.1 beside.free
-    | inr none ↦ subst (λ (n : Numbers). AreFree new.names.current n old.low) (sym none.1) (free_without old.names.current new.names.current old.gaps.current old.low name changed none.0 beside.free)
+    | inl gap ↦ free_removed old.names.current new.names.current old.gaps.current new.gaps.current old.low name changed (λ q. ap (λ (n : Numbers). has n q) gap.2 ∙ has_inserted old.gaps.current name q) gap.0 gap.1 alongside.free
+    | inr none ↦ subst (λ (n : Numbers). AreFree new.names.current n old.low) (sym none.1) (free_without old.names.current new.names.current old.gaps.current old.low name changed none.0 alongside.free)
   ]);
 }
   where
@@ -88,7 +88,7 @@ no_number q = ap is_some (get-empty nat_cmp q)
 no_name : (q : ℕ) → get {X = Entry} {R = nat_cmp} empty q ≡ None
 no_name q = get-empty nat_cmp q
 
-pub nothing_stands : StandBeside empty empty empty 256
+pub nothing_stands : StandAlongside empty empty empty 256
 nothing_stands = record {
   bounded = bounded_empty;
   ports = λ serial name fits. no_number _ ∙ sym (ap (λ (o : Option Entry). is_held o serial) (no_name name));
@@ -105,27 +105,27 @@ nothing_stands = record {
 
 -- what the space keeps alongside its names, when the changes began and now
 pub record Stand (t : Tables) : Type 0 where
-  pub before : StandBeside t.names.before t.by_port.before t.gaps.before t.low_before
-  pub current : StandBeside t.names.current t.by_port.current t.gaps.current t.low
+  pub before : StandAlongside t.names.before t.by_port.before t.gaps.before t.low_before
+  pub current : StandAlongside t.names.current t.by_port.current t.gaps.current t.low
 
-stands_at : (names : Names) (by_port gaps : Numbers) (low : ℕ) (t : Tables) → t.names ≡ at_rest names → t.by_port ≡ at_rest by_port → t.gaps ≡ at_rest gaps → t.low ≡ low → t.low_before ≡ low → StandBeside names by_port gaps low → Stand t
-stands_at names by_port gaps low t first second third fourth fifth beside = record {
-  before = subst (λ (n : ℕ). StandBeside t.names.before t.by_port.before t.gaps.before n) (sym fifth) (subst (λ (g : Tracked (Unit {0})). StandBeside t.names.before t.by_port.before g.before low) (sym third)
-      (subst (λ (b : Tracked (Unit {0})). StandBeside t.names.before b.before gaps low) (sym second) (subst (λ (n : Tracked Entry). StandBeside n.before by_port gaps low) (sym first) beside)));
-  current = subst (λ (n : ℕ). StandBeside t.names.current t.by_port.current t.gaps.current n) (sym fourth) (subst (λ (g : Tracked (Unit {0})). StandBeside t.names.current t.by_port.current g.current low) (sym third)
-      (subst (λ (b : Tracked (Unit {0})). StandBeside t.names.current b.current gaps low) (sym second) (subst (λ (n : Tracked Entry). StandBeside n.current by_port gaps low) (sym first) beside)));
+stands_at : (names : Names) (by_port gaps : Numbers) (low : ℕ) (t : Tables) → t.names ≡ at_rest names → t.by_port ≡ at_rest by_port → t.gaps ≡ at_rest gaps → t.low ≡ low → t.low_before ≡ low → StandAlongside names by_port gaps low → Stand t
+stands_at names by_port gaps low t first second third fourth fifth alongside = record {
+  before = subst (λ (n : ℕ). StandAlongside t.names.before t.by_port.before t.gaps.before n) (sym fifth) (subst (λ (g : Tracked (Unit {0})). StandAlongside t.names.before t.by_port.before g.before low) (sym third)
+      (subst (λ (b : Tracked (Unit {0})). StandAlongside t.names.before b.before gaps low) (sym second) (subst (λ (n : Tracked Entry). StandAlongside n.before by_port gaps low) (sym first) alongside)));
+  current = subst (λ (n : ℕ). StandAlongside t.names.current t.by_port.current t.gaps.current n) (sym fourth) (subst (λ (g : Tracked (Unit {0})). StandAlongside t.names.current t.by_port.current g.current low) (sym third)
+      (subst (λ (b : Tracked (Unit {0})). StandAlongside t.names.current b.current gaps low) (sym second) (subst (λ (n : Tracked Entry). StandAlongside n.current by_port gaps low) (sym first) alongside)));
 }
 
 pub new_stand : (new : Tables) → AreNew new → Stand new
 new_stand new are = stands_at empty empty empty 256 new are.names are.by_port are.gaps are.low are.low_before nothing_stands
 
-pub kept_stand : (old new : Tables) → StandBeside old.names.current old.by_port.current old.gaps.current old.low → AreKept old new → Stand new
-kept_stand old new beside are = stands_at old.names.current old.by_port.current old.gaps.current old.low new are.names are.by_port are.gaps are.low are.low_before beside
+pub committed_stand : (old new : Tables) → StandAlongside old.names.current old.by_port.current old.gaps.current old.low → AreCommitted old new → Stand new
+committed_stand old new alongside are = stands_at old.names.current old.by_port.current old.gaps.current old.low new are.names are.by_port are.gaps are.low are.low_before alongside
 
-pub given_up_stand : (old new : Tables) → StandBeside old.names.before old.by_port.before old.gaps.before old.low_before → AreGivenUp old new → Stand new
-given_up_stand old new beside are = stands_at old.names.before old.by_port.before old.gaps.before old.low_before new are.names are.by_port are.gaps are.low are.low_before beside
+pub rolled_back_stand : (old new : Tables) → StandAlongside old.names.before old.by_port.before old.gaps.before old.low_before → AreRolledBack old new → Stand new
+rolled_back_stand old new alongside are = stands_at old.names.before old.by_port.before old.gaps.before old.low_before new are.names are.by_port are.gaps are.low are.low_before alongside
 
-pub same_stands : (old new : Tables) → SameBefore old new → StandBeside old.names.before old.by_port.before old.gaps.before old.low_before → StandBeside new.names.before new.by_port.before new.gaps.before new.low_before
-same_stands old new same beside =
-    subst (λ (n : ℕ). StandBeside new.names.before new.by_port.before new.gaps.before n) (sym same.low) (subst (λ (g : Numbers). StandBeside new.names.before new.by_port.before g old.low_before) (sym same.gaps)
-    (subst (λ (b : Numbers). StandBeside new.names.before b old.gaps.before old.low_before) (sym same.by_port) (subst (λ (n : Names). StandBeside n old.by_port.before old.gaps.before old.low_before) (sym same.names) beside)))
+pub same_stands : (old new : Tables) → SameBefore old new → StandAlongside old.names.before old.by_port.before old.gaps.before old.low_before → StandAlongside new.names.before new.by_port.before new.gaps.before new.low_before
+same_stands old new same alongside =
+    subst (λ (n : ℕ). StandAlongside new.names.before new.by_port.before new.gaps.before n) (sym same.low) (subst (λ (g : Numbers). StandAlongside new.names.before new.by_port.before g old.low_before) (sym same.gaps)
+    (subst (λ (b : Numbers). StandAlongside new.names.before b old.gaps.before old.low_before) (sym same.by_port) (subst (λ (n : Names). StandAlongside n old.by_port.before old.gaps.before old.low_before) (sym same.names) alongside)))

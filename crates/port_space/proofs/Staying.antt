@@ -5,7 +5,7 @@ use Rattle.std.specs.FinMap.{get, insert}
 use Rattle.std.specs.Option.{option_eq}
 use Rattle.std.specs.Prelude.{OnOk}
 use Rattle.ipc_laws.specs.MapSums.{insert-remove, insert-same}
-use Rattle.port_space.specs.Beside.{Numbers, port_key, with_port, without_port}
+use Rattle.port_space.specs.Alongside.{Numbers, port_key, with_port, without_port}
 
 same_port : (former port : Option ℕ) → option_eq nat_eq former port ≡ true → former ≡ port
 same_port None None is = refl

@@ -1,4 +1,4 @@
-pub mod Beside
+pub mod Alongside
 pub mod Crowded
 pub mod References
 pub mod Renaming

@@ -4,7 +4,7 @@ use Rattle.std.specs.FinMap as map
 use Rattle.codes.specs.declared.name.TheConstants.{FIRST_NAME}
 use Rattle.ipc_model.specs.declared.entry.Entry.{Entry}
 use Rattle.ipc_model.specs.state.State.{Names, port_held}
-use Rattle.port_space.specs.Beside.{with_port, without_port, GoesOn}
+use Rattle.port_space.specs.Alongside.{with_port, without_port, GoesOn}
 use Rattle.tracked_map.specs.Tracked.{at_rest}
 use Rattle.port_space.specs.declared.tables.Tables.{Tables}
 
@@ -46,7 +46,7 @@ pub record AreNew (new : Tables) : Type 0 where
   pub low_before : new.low_before ≡ FIRST_NAME
 
 -- the changes are committed
-pub record AreKept (old new : Tables) : Type 0 where
+pub record AreCommitted (old new : Tables) : Type 0 where
   pub names : new.names ≡ at_rest old.names.current
   pub by_port : new.by_port ≡ at_rest old.by_port.current
   pub gaps : new.gaps ≡ at_rest old.gaps.current
@@ -54,7 +54,7 @@ pub record AreKept (old new : Tables) : Type 0 where
   pub low_before : new.low_before ≡ old.low
 
 -- the changes are rolled back
-pub record AreGivenUp (old new : Tables) : Type 0 where
+pub record AreRolledBack (old new : Tables) : Type 0 where
   pub names : new.names ≡ at_rest old.names.before
   pub by_port : new.by_port ≡ at_rest old.by_port.before
   pub gaps : new.gaps ≡ at_rest old.gaps.before

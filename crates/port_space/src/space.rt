@@ -2,7 +2,7 @@ ghost use Rattle.std.specs.Prelude.{◌≡◌, ℕ, ◌≤◌, ◌<◌, ◌^◌,
 ghost use Rattle.std.specs.FinMap as map;
 ghost use Rattle.ipc_model.specs.calls.PortCalls.{stands_elsewhere};
 ghost use Rattle.ipc_model.specs.state.State.{IsUnused, name_of_port};
-ghost use Rattle.port_space.specs.Beside.{holds};
+ghost use Rattle.port_space.specs.Alongside.{holds};
 ghost use Rattle.port_space.specs.References.{AreFewReferences};
 ghost use Rattle.port_space.specs.Walking.{IsNextEntry};
 ghost use Rattle.tracked_map.specs.Tracked.{at_rest};
@@ -24,7 +24,7 @@ pub struct PortSpace {
 impl Model for PortSpace {
     ghost use Rattle.ipc_model.specs.declared.entry.Entry.{Entry};
     ghost use Rattle.ipc_model.specs.contracts.entry.Entry as entry;
-    ghost use Rattle.port_space.specs.Beside.{StandBeside};
+    ghost use Rattle.port_space.specs.Alongside.{StandAlongside};
     ghost use Rattle.tracked_map.specs.Tracked.{Tracked, tracked_code};
 
     ghost Value = { Tracked Entry };
@@ -34,8 +34,8 @@ impl Model for PortSpace {
     ghost view = { λ s. s.tables.names };
 
     ghost invariant = { λ s.
-        StandBeside s.tables.names.before s.tables.by_port.before s.tables.gaps.before s.tables.low_before
-        × StandBeside s.tables.names.current s.tables.by_port.current s.tables.gaps.current s.tables.low };
+        StandAlongside s.tables.names.before s.tables.by_port.before s.tables.gaps.before s.tables.low_before
+        × StandAlongside s.tables.names.current s.tables.by_port.current s.tables.gaps.current s.tables.low };
 }
 
 impl PortSpace {
@@ -81,7 +81,7 @@ impl PortSpace {
         match self.tables.put(name, entry) {
             Ok(former) => Ok(former),
             Err(error) => {
-                self.tables.give_up();
+                self.tables.roll_back();
                 Err(error)
             }
         }
@@ -97,7 +97,7 @@ impl PortSpace {
         match self.tables.remove(name) {
             Ok(former) => Ok(former),
             Err(error) => {
-                self.tables.give_up();
+                self.tables.roll_back();
                 Err(error)
             }
         }
@@ -151,7 +151,7 @@ impl PortSpace {
     }
 
     /// Shows that there are at most `MAX_NAMES` names. It does nothing else.
-    pub fn are_few(&self)
+    pub fn show_names_few(&self)
         ensures { map.len self.now.current ≤ MAX_NAMES }
     {
         let _ = &self.tables;
@@ -169,16 +169,16 @@ impl PortSpace {
     }
 
     /// Commits the changes. It takes no memory.
-    pub fn keep(&mut self)
+    pub fn commit(&mut self)
         ensures { self.new ≡ at_rest self.old.current }
     {
-        self.tables.keep();
+        self.tables.commit();
     }
 
     /// Rolls the changes back. It takes no memory.
-    pub fn give_up(&mut self)
+    pub fn roll_back(&mut self)
         ensures { self.new ≡ at_rest self.old.before }
     {
-        self.tables.give_up();
+        self.tables.roll_back();
     }
 }

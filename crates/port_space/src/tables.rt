@@ -2,8 +2,8 @@
 ghost use Rattle.std.specs.Prelude.{◌≡◌, ◌≤◌, ◌<◌, ◌^◌, ℕ, true, false, None, Some, IfOk, OnOk, MatchOption, is_some, option_and_then};
 ghost use Rattle.std.specs.FinMap as map;
 ghost use Rattle.ipc_model.specs.state.State.{port_held};
-ghost use Rattle.port_space.specs.Beside.{holds, with_port, without_port, port_key, AreByPort, AreFree, GoesOn};
-ghost use Rattle.port_space.specs.Tables.{IsPut, IsRemoved, SameBefore, AreGivenUp, AreKept, AreNew, AreSmall};
+ghost use Rattle.port_space.specs.Alongside.{holds, with_port, without_port, port_key, AreByPort, AreFree, GoesOn};
+ghost use Rattle.port_space.specs.Tables.{IsPut, IsRemoved, SameBefore, AreRolledBack, AreCommitted, AreNew, AreSmall};
 
 use codes::FIRST_NAME;
 use ipc_model::Entry;
@@ -86,22 +86,22 @@ impl Tables {
     }
 
     /// Commits the changes. It takes no memory.
-    pub(crate) fn keep(&mut self)
-        ensures { AreKept self.old self.new }
+    pub(crate) fn commit(&mut self)
+        ensures { AreCommitted self.old self.new }
     {
-        self.names.keep();
-        self.by_port.keep();
-        self.gaps.keep();
+        self.names.commit();
+        self.by_port.commit();
+        self.gaps.commit();
         self.low_before = self.low;
     }
 
     /// Rolls the changes back. It takes no memory.
-    pub(crate) fn give_up(&mut self)
-        ensures { AreGivenUp self.old self.new }
+    pub(crate) fn roll_back(&mut self)
+        ensures { AreRolledBack self.old self.new }
     {
-        self.names.give_up();
-        self.by_port.give_up();
-        self.gaps.give_up();
+        self.names.roll_back();
+        self.by_port.roll_back();
+        self.gaps.roll_back();
         self.low = self.low_before;
     }
 }

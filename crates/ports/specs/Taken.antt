@@ -34,9 +34,9 @@ last_true : (b : Bool) → (b || false) ≡ true → b ≡ true
 last_true true e = refl
 last_true false e = absurd (cc e)
 
-behind_fit : (messages : List Message) → Fit (λ s. list_any (mentions s) messages) → Fit (λ s. list_any (mentions s) (drop 1 messages))
-behind_fit [] fit s to = fit s to
-behind_fit (first ∷ messages) fit s to = fit s (back_holds (mentions s first) (list_any (mentions s) messages) to)
+after_fit : (messages : List Message) → Fit (λ s. list_any (mentions s) messages) → Fit (λ s. list_any (mentions s) (drop 1 messages))
+after_fit [] fit s to = fit s to
+after_fit (first ∷ messages) fit s to = fit s (back_holds (mentions s first) (list_any (mentions s) messages) to)
 
 first_fit : (messages : List Message) → Fit (λ s. list_any (mentions s) messages) → Fit (λ s. list_any (mentions s) (take 1 messages))
 first_fit [] fit s to = fit s to
@@ -55,7 +55,7 @@ taken_at table old new serial port there fits done are = record {
       (alike_indexed (target_at no_senders_of table.ports) _ old.no_senders.current (λ q _. sym (same no_senders_of refl q)) are.no_senders);
   destroyed = subst (IsIndexed (target_at destroyed_of (changed table.ports serial without_first))) (sym done.destroyed)
       (alike_indexed (target_at destroyed_of table.ports) _ old.port_destroyed.current (λ q _. sym (same destroyed_of refl q)) are.destroyed);
-  small = small_changed table serial without_first port there (behind_fit port.messages (are.small.mentioned serial port there)) are.small;
+  small = small_changed table serial without_first port there (after_fit port.messages (are.small.mentioned serial port there)) are.small;
 }
   where
     fewer : (w : Weight) → weighed table.ports w ≡ weighed (changed table.ports serial without_first) w + weigh (message_weigh w serial) (take 1 port.messages)

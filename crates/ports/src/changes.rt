@@ -32,8 +32,8 @@ impl Ports {
         match set_in_both(&mut self.ports, &mut self.indexes, serial, former, numbers) {
             Ok(()) => Ok(()),
             Err(error) => {
-                self.ports.give_up();
-                self.indexes.give_up();
+                self.ports.roll_back();
+                self.indexes.roll_back();
                 Err(error)
             }
         }
@@ -56,8 +56,8 @@ impl Ports {
         match push_in_both(&mut self.ports, &mut self.indexes, serial, message) {
             Ok(()) => Ok(()),
             Err(error) => {
-                self.ports.give_up();
-                self.indexes.give_up();
+                self.ports.roll_back();
+                self.indexes.roll_back();
                 Err(error)
             }
         }
@@ -79,8 +79,8 @@ impl Ports {
         match take_in_both(&mut self.ports, &mut self.indexes, serial) {
             Ok(()) => Ok(()),
             Err(error) => {
-                self.ports.give_up();
-                self.indexes.give_up();
+                self.ports.roll_back();
+                self.indexes.roll_back();
                 Err(error)
             }
         }
@@ -101,7 +101,7 @@ impl Ports {
         match self.ports.add() {
             Ok(()) => Ok(()),
             Err(error) => {
-                self.indexes.give_up();
+                self.indexes.roll_back();
                 Err(error)
             }
         }

@@ -158,8 +158,8 @@ impl Ports {
         match bury_in_both(&mut self.ports, &mut self.indexes, serial) {
             Ok(()) => Ok(()),
             Err(error) => {
-                self.ports.give_up();
-                self.indexes.give_up();
+                self.ports.roll_back();
+                self.indexes.roll_back();
                 Err(error)
             }
         }

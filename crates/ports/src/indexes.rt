@@ -91,23 +91,23 @@ impl PortIndexes {
     }
 
     /// Commits the changes. It takes no memory.
-    pub(crate) fn keep(&mut self)
+    pub(crate) fn commit(&mut self)
         ensures { AreAtRest self.new (present_parts self.old) }
     {
-        self.counts.keep();
-        self.carriers.keep();
-        self.no_senders.keep();
-        self.port_destroyed.keep();
+        self.counts.commit();
+        self.carriers.commit();
+        self.no_senders.commit();
+        self.port_destroyed.commit();
     }
 
     /// Rolls the changes back. It takes no memory.
-    pub(crate) fn give_up(&mut self)
+    pub(crate) fn roll_back(&mut self)
         ensures { AreAtRest self.new (former_parts self.old) }
     {
-        self.counts.give_up();
-        self.carriers.give_up();
-        self.no_senders.give_up();
-        self.port_destroyed.give_up();
+        self.counts.roll_back();
+        self.carriers.roll_back();
+        self.no_senders.roll_back();
+        self.port_destroyed.roll_back();
     }
 }
 

@@ -42,18 +42,18 @@ impl Ports {
     }
 
     /// Commits the changes. It takes no memory.
-    pub fn keep(&mut self)
+    pub fn commit(&mut self)
         ensures { self.new ≡ ports_at_rest self.old.current }
     {
-        self.ports.keep();
-        self.indexes.keep();
+        self.ports.commit();
+        self.indexes.commit();
     }
 
     /// Rolls the changes back. It takes no memory.
-    pub fn give_up(&mut self)
+    pub fn roll_back(&mut self)
         ensures { self.new ≡ ports_at_rest self.old.before }
     {
-        self.ports.give_up();
-        self.indexes.give_up();
+        self.ports.roll_back();
+        self.indexes.roll_back();
     }
 }

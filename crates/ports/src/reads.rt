@@ -84,10 +84,10 @@ impl Ports {
     }
 
     /// Shows that no queue holds more messages than a word counts. It does nothing else.
-    pub fn are_short(&self)
+    pub fn show_queues_short(&self)
         ensures { AreShort self.now.current.ports }
     {
-        self.ports.are_short();
+        self.ports.show_queues_short();
     }
 
     /// How many send rights to a port the messages in queues carry.

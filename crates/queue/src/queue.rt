@@ -124,7 +124,7 @@ impl Queue {
     }
 
     /// Commits the changes. It takes no memory.
-    pub fn keep(&mut self)
+    pub fn commit(&mut self)
         ensures { self.new ≡ list_at_rest self.old.current }
     {
         drop_front(&mut self.messages, self.taken);
@@ -133,7 +133,7 @@ impl Queue {
     }
 
     /// Rolls the changes back. It takes no memory.
-    pub fn give_up(&mut self)
+    pub fn roll_back(&mut self)
         ensures { self.new ≡ list_at_rest self.old.before }
     {
         self.messages.truncate(self.before);

@@ -11,7 +11,7 @@ use Rattle.ipc_model.specs.declared.call.Reply.TheVariants as reply
 use Rattle.ipc_model.specs.declared.message.Message.{Message}
 use Rattle.ipc_model.specs.declared.port.PortState.{PortState}
 use Rattle.ipc_model.specs.effects.Effects.{Effect}
-use Rattle.ipc_model.specs.messages.Receiving.{HoldsReceiveRight, Receipt, Received, Receives, TakesOut, TooLarge, lacks_names, message_size, oldest, received_text, without_message}
+use Rattle.ipc_model.specs.messages.Receiving.{HoldsReceiveRight, Receipt, Received, Receives, TakesOut, TooLarge, lacks_names, message_size, oldest, received_encoding, without_message}
 use Rattle.ipc_model.specs.state.State.{Names, State}
 use Rattle.rights.specs.Passed.{messages_at}
 use Rattle.receiving.specs.Shows.{preferred_by}
@@ -81,8 +81,8 @@ same_source old space names receipt member serial other_member other_serial port
     told port message later (subst (λ (s : ℕ). finmap.get old.ports s ≡ Some port) serials live) first
     (subst (λ (s : ℕ). TakesOut old space names receipt member s port message other last others) serials (subst (λ (n : ℕ). TakesOut old space names receipt n other_serial port message other last others) same may))
 
-by_code : (answer : Reply) (code : KernReturn) (size member : ℕ) (text : List ℕ) → answer ≡ reply.Message code size member text → preferred_by answer ≡ preferred_by (reply.Message code size member text)
-by_code answer code size member text is = ap preferred_by is
+by_code : (answer : Reply) (code : KernReturn) (size member : ℕ) (encoding : List ℕ) → answer ≡ reply.Message code size member encoding → preferred_by answer ≡ preferred_by (reply.Message code size member encoding)
+by_code answer code size member encoding is = ap preferred_by is
 
 -- a message for whose rights the space lacks names
 lacking_first : (receipt : Receipt) (names : Names) (state : State) (serial : ℕ) (port : PortState) (message : Message) (later : List Message) → finmap.get state.ports serial ≡ Some port → port.messages ≡ message ∷ later
@@ -110,11 +110,11 @@ lacking_answer old space names receipt member serial answer new effects has take
 module _ (old : State) (space : ℕ) (names : Names) (receipt : Receipt) (member serial : ℕ) (wanted : Preference) (answer : Reply) (new : State) (effects : List Effect) (source : IsSource old names receipt member serial)
     (prefers : IsPreferred old names receipt wanted member serial) (takes : OfOldest old serial (λ port message. TakesOut old space names receipt member serial port message answer new effects))
     (other : Reply) (last : State) (others : List Effect) (told : ToldBy old space names receipt member serial answer other last others) (shows : wanted ≡ preferred_by other) where
-  by_member : (name port_serial : ℕ) (port : PortState) (message : Message) (later : List Message) (code : KernReturn) (size : ℕ) (text : List ℕ) → Contains (source_list old names receipt) name → HoldsReceiveRight names name port_serial
+  by_member : (name port_serial : ℕ) (port : PortState) (message : Message) (later : List Message) (code : KernReturn) (size : ℕ) (encoding : List ℕ) → Contains (source_list old names receipt) name → HoldsReceiveRight names name port_serial
       → finmap.get old.ports port_serial ≡ Some port → port.messages ≡ message ∷ later → TakesOut old space names receipt name port_serial port message other last others
-      → other ≡ reply.Message code size name text → preferred_by (reply.Message code size name text) ≡ preference.Member name → answer ≡ other
-  by_member name port_serial port message later code size text among holds live first may is by =
-      let same = shown_member old names receipt wanted member serial name port_serial prefers (shows ∙ by_code other code size name text is ∙ by) among holds (has_first old port_serial port message later live first) in
+      → other ≡ reply.Message code size name encoding → preferred_by (reply.Message code size name encoding) ≡ preference.Member name → answer ≡ other
+  by_member name port_serial port message later code size encoding among holds live first may is by =
+      let same = shown_member old names receipt wanted member serial name port_serial prefers (shows ∙ by_code other code size name encoding is ∙ by) among holds (has_first old port_serial port message later live first) in
       same_source old space names receipt member serial name port_serial port message later answer other last others told source.holds holds same live first may
 
   by_lacking : (name port_serial : ℕ) (port : PortState) (message : Message) (later : List Message) → Contains (source_list old names receipt) name → HoldsReceiveRight names name port_serial
@@ -137,7 +137,7 @@ module _ (old : State) (space : ℕ) (names : Names) (receipt : Receipt) (member
         | false ↦ λ (small : _) (rest : _). elim (lacks_names names message) as (λ (lacks : Bool). lacks_names names message ≡ lacks
             → MatchBool lacks ((other ≡ without_message RcvHeaderErrorSpace 0 0) × (last ≡ old) × (others ≡ [])) (Received old space names name port_serial port message other last others) → answer ≡ other) [
               | true ↦ λ (lacks : _) (short : _). by_lacking name port_serial port message later among holds live first small lacks short.0
-              | false ↦ λ (_ : _) (whole : _). by_member name port_serial port message later Success (message_size message) (received_text message name port.sequence_number whole.0) among holds live first may whole.3 refl
+              | false ↦ λ (_ : _) (whole : _). by_member name port_serial port message later Success (message_size message) (received_encoding message name port.sequence_number whole.0) among holds live first may whole.3 refl
             ] refl rest
       ] refl may
 

@@ -11,7 +11,7 @@ use Rattle.ipc_laws.specs.EffectParts.{word_more}
 use Rattle.ipc_laws.specs.ItemLaws.{items_back, items_read}
 use Rattle.ipc_laws.specs.Arrivals.{named_there}
 use Rattle.ipc_laws.specs.MapLaws.{get-there}
-use Rattle.ipc_laws.specs.ReceiptLaws.{port_count, length-kinds, length-words-take}
+use Rattle.ipc_laws.specs.ReceiveArgumentLaws.{port_count, length-kinds, length-words-take}
 use Rattle.ipc_model.specs.declared.entry.Entry.{Entry}
 use Rattle.ipc_model.specs.declared.message.CarriedRight.{CarriedRight}
 use Rattle.ipc_model.specs.declared.message.Message.{Message}
@@ -20,8 +20,8 @@ use Rattle.ipc_model.specs.declared.message.PortInMessage.TheVariants as in_mess
 use Rattle.ipc_model.specs.declared.message.RightKind.{RightKind}
 use Rattle.ipc_model.specs.declared.message.RightKind.TheVariants as kind
 use Rattle.ipc_model.specs.messages.Items.{Item, items_of, filled, body_filled, names_of_item, is_port_item, padded, words_of, AreItems}
-use Rattle.ipc_model.specs.messages.Messages.{UsedParts, HasUsedParts, used_parts, header_length, message_text, remote_disposition, is_complex, complex_bit}
-use Rattle.ipc_model.specs.messages.Receiving.{arriving, reply_right, reply_name, reply_kind_number, body_names, received_body, received_text}
+use Rattle.ipc_model.specs.messages.Messages.{UsedParts, HasUsedParts, used_parts, header_length, message_encoding, remote_disposition, is_complex, complex_bit}
+use Rattle.ipc_model.specs.messages.Receiving.{arriving, reply_right, reply_name, reply_kind_number, body_names, received_body, received_encoding}
 use Rattle.ipc_model.specs.messages.Sending.{items_if_complex}
 use Rattle.ipc_model.specs.rights.CopyOut.{Arrives, MayArrive, names_after, merged_entry}
 use Rattle.ipc_model.specs.rights.Dispositions.{number_of_kind}
@@ -143,15 +143,15 @@ body_shown message names lawful many fit =
 
 -- What is read from a message's bytes.
 
-text_shown : (bits remote local seqno id : ℕ) (body : List ℕ) → bits < 2 ^ 32 → remote < 2 ^ 32
-    → names_shown (message_text bits remote local seqno id body) ≡ name_in_header (remote_disposition bits) remote ++ names_in_items (items_if_complex (is_complex bits) body)
+encoding_shown : (bits remote local seqno id : ℕ) (body : List ℕ) → bits < 2 ^ 32 → remote < 2 ^ 32
+    → names_shown (message_encoding bits remote local seqno id body) ≡ name_in_header (remote_disposition bits) remote ++ names_in_items (items_if_complex (is_complex bits) body)
 unfolding names_shown
-text_shown bits remote local seqno id body bits_fit remote_fits =
-    let text : List ℕ = message_text bits remote local seqno id body in
-    let behind_remote : List ℕ = word local ++ (word seqno ++ (word id ++ body)) in
-    let bits_is : little_number 4 text ≡ bits = little_number-word bits (word (header_length + length body) ++ (word remote ++ behind_remote)) bits_fit in
-    let remote_is : little_number 4 (word remote ++ behind_remote) ≡ remote = little_number-word remote behind_remote remote_fits in
-    ap (λ (short : Bool). if short then [] else names_in_parts (used_parts text)) (le-ltb (length text) header_length (omega arith))
+encoding_shown bits remote local seqno id body bits_fit remote_fits =
+    let encoding : List ℕ = message_encoding bits remote local seqno id body in
+    let after_remote : List ℕ = word local ++ (word seqno ++ (word id ++ body)) in
+    let bits_is : little_number 4 encoding ≡ bits = little_number-word bits (word (header_length + length body) ++ (word remote ++ after_remote)) bits_fit in
+    let remote_is : little_number 4 (word remote ++ after_remote) ≡ remote = little_number-word remote after_remote remote_fits in
+    ap (λ (short : Bool). if short then [] else names_in_parts (used_parts encoding)) (le-ltb (length encoding) header_length (omega arith))
     ∙ (λ i. name_in_header (remote_disposition (bits_is i)) (remote_is i) ++ names_in_items (items_if_complex (is_complex (bits_is i)) body))
 
 -- the bits as received, of a message with this reply right
@@ -183,14 +183,14 @@ complex_back reply destination false r d =
 
 -- the reply right's name before those of the body
 with_reply : (message : Message) (reply : Option CarriedRight) (remote member seqno : ℕ) (names : List ℕ) → LawfulMessage message → length names ≡ length message.rights → FitWords names → remote < 2 ^ 32
-    → names_shown (message_text (bits_with reply message.destination message.complex) remote member seqno message.id (received_body message names)) ≡ name_in_header (reply_kind_number reply) remote ++ names
+    → names_shown (message_encoding (bits_with reply message.destination message.complex) remote member seqno message.id (received_body message names)) ≡ name_in_header (reply_kind_number reply) remote ++ names
 with_reply message reply remote member seqno names lawful many fit remote_fits =
     let to : ℕ = number_of_kind message.destination in
     let body : List ℕ = received_body message names in
     let reply_is : remote_disposition (bits_with reply message.destination message.complex) ≡ reply_kind_number reply = reply_back (reply_kind_number reply) to message.complex (reply_small reply) (kind_small message.destination) in
     let complex_is : is_complex (bits_with reply message.destination message.complex) ≡ message.complex = complex_back (reply_kind_number reply) to message.complex (reply_small reply) (kind_small message.destination) in
     let shown : names_in_items (items_if_complex message.complex body) ≡ names = body_shown message names lawful many fit in
-    text_shown (bits_with reply message.destination message.complex) remote member seqno message.id body (bits_fit (reply_kind_number reply) to message.complex (reply_small reply) (kind_small message.destination)) remote_fits
+    encoding_shown (bits_with reply message.destination message.complex) remote member seqno message.id body (bits_fit (reply_kind_number reply) to message.complex (reply_small reply) (kind_small message.destination)) remote_fits
     ∙ (λ i. name_in_header (reply_is i) remote ++ names_in_items (items_if_complex (complex_is i) body)) ∙ ap (λ (l : List ℕ). name_in_header (reply_kind_number reply) remote ++ l) shown
 
 named_by_kind : (what : RightKind) (name : ℕ) → name_in_header (number_of_kind what) name ≡ name ∷ []
@@ -199,7 +199,7 @@ named_by_kind kind.Send name = refl
 named_by_kind kind.SendOnce name = refl
 
 given_shown : (message : Message) (reply : Option CarriedRight) (member seqno : ℕ) (given : List ℕ) → LawfulMessage message → length given ≡ length (reply_right reply ++ message.rights) → FitWords given
-    → names_shown (message_text (bits_with reply message.destination message.complex) (reply_name reply given) member seqno message.id (received_body message (body_names reply given))) ≡ given
+    → names_shown (message_encoding (bits_with reply message.destination message.complex) (reply_name reply given) member seqno message.id (received_body message (body_names reply given))) ≡ given
 given_shown message None member seqno given lawful many fit = with_reply message None 0 member seqno given lawful many fit (omega arith)
 given_shown message (Some right) member seqno [] lawful many fit = absurd (omega (arith, many))
 given_shown message (Some right) member seqno (name ∷ names) lawful many fit =
@@ -209,7 +209,7 @@ given_shown message (Some right) member seqno (name ∷ names) lawful many fit =
 -- The bytes of a lawful message as received show the names that its rights got.
 abbrev pub ShownAreGiven : Type 0
 ShownAreGiven = (message : Message) (member seqno : ℕ) (given : List ℕ) → LawfulMessage message → length given ≡ length (arriving message) → FitWords given
-    → names_shown (received_text message member seqno given) ≡ given
+    → names_shown (received_encoding message member seqno given) ≡ given
 
 pub shown_are_given : ShownAreGiven
 shown_are_given message member seqno given lawful many fit = given_shown message message.reply member seqno given lawful many fit

@@ -23,6 +23,6 @@ preferred_by (reply.Message code size member message) = preferred_by_code code m
 preferred_by _ = preference.Least
 
 -- the bytes of the message that was received
-abbrev pub text_in : Reply → List ℕ
-text_in (reply.Message code size member message) = message
-text_in _ = []
+abbrev pub encoding_in : Reply → List ℕ
+encoding_in (reply.Message code size member message) = message
+encoding_in _ = []

@@ -9,21 +9,21 @@ use Rattle.ipc_model.specs.declared.call.Reply.TheVariants as reply
 use Rattle.ipc_model.specs.declared.message.Message.{Message}
 use Rattle.ipc_model.specs.declared.port.PortState.{PortState}
 use Rattle.ipc_model.specs.effects.Effects.{Effect}
-use Rattle.ipc_model.specs.messages.Messages.{header_length, message_text}
-use Rattle.ipc_model.specs.messages.Receiving.{Receipt, Received, TakesOut, TooLarge, arriving, body_names, destination_consumed, lacks_names, message_size, received_body, received_text, reply_kind_number, reply_name, without_message, without_oldest}
+use Rattle.ipc_model.specs.messages.Messages.{header_length, message_encoding}
+use Rattle.ipc_model.specs.messages.Receiving.{Receipt, Received, TakesOut, TooLarge, arriving, body_names, destination_consumed, lacks_names, message_size, received_body, received_encoding, reply_kind_number, reply_name, without_message, without_oldest}
 use Rattle.ipc_model.specs.rights.CopyOut.{Arrives}
 use Rattle.ipc_model.specs.rights.Dispositions.{number_of_kind}
 use Rattle.ipc_model.specs.calls.PortCalls.{names_in}
 use Rattle.ipc_model.specs.state.Lawful.{Lawful, LawfulMessage, LawfulNames}
 use Rattle.ipc_model.specs.state.State.{Names, State, next_count, with_names}
-use Rattle.ipc_laws.specs.ReceiptLaws.{as_many_names}
-use Rattle.ipc_laws.specs.RecordedReceipts.{body_long, names_left}
+use Rattle.ipc_laws.specs.ReceiveArgumentLaws.{as_many_names}
+use Rattle.ipc_laws.specs.RecordedReceives.{body_long, names_left}
 use Rattle.rights.specs.Passed.{messages_at, messages_in, numbers_of, lives_in, seen_message, seen_right, PortNumbers}
 use Rattle.msg_header.specs.declared.header.Header.{Header}
 use Rattle.msg_header.specs.HeaderLaws.{header_and_body}
-use Rattle.msg_header.specs.Headers.{header_bits, header_text}
+use Rattle.msg_header.specs.Headers.{header_bits, header_encoding}
 use Rattle.receiving.specs.ShownNames.{arrived_small, lawful_fit, names_shown, shown_are_given}
-use Rattle.receiving.specs.Shows.{text_in}
+use Rattle.receiving.specs.Shows.{encoding_in}
 use Rattle.receiving.specs.Taking.{OfOldest}
 
 -- the messages of a port that lives
@@ -109,7 +109,7 @@ oldest_long state serial sent given is lawful many =
     ap (λ (names : List ℕ). length (received_body sent names)) (sym (body_names_seen (lives_in state.ports) sent.reply given)) ∙ long
 
 -- a header followed by the body is the message as received
-pub text_of_header : (message : Message) (member seqno : ℕ) (given : List ℕ) (header : Header) (first mid last : List ℕ) → length (received_body message (body_names message.reply given)) ≡ length message.body
+pub encoding_of_header : (message : Message) (member seqno : ℕ) (given : List ℕ) (header : Header) (first mid last : List ℕ) → length (received_body message (body_names message.reply given)) ≡ length message.body
     → header ≡ record {
       size = message_size message;
       remote_disposition = reply_kind_number message.reply;
@@ -118,23 +118,23 @@ pub text_of_header : (message : Message) (member seqno : ℕ) (given : List ℕ)
       remote = reply_name message.reply given;
       local = member;
       id = message.id;
-    } → first ≡ [] → mid ≡ first ++ header_text header seqno → last ≡ mid ++ received_body message (body_names message.reply given) → last ≡ received_text message member seqno given
-text_of_header message member seqno given header first mid last long is none header_is last_is =
+    } → first ≡ [] → mid ≡ first ++ header_encoding header seqno → last ≡ mid ++ received_body message (body_names message.reply given) → last ≡ received_encoding message member seqno given
+encoding_of_header message member seqno given header first mid last long is none header_is last_is =
     let body : List ℕ = received_body message (body_names message.reply given) in
     let size : header.size ≡ header_length + length body = ap (λ (h : Header). h.size) is ∙ ap (λ (n : ℕ). header_length + n) (sym long) in
-    last_is ∙ ap (λ (l : List ℕ). l ++ body) (header_is ∙ ap (λ (l : List ℕ). l ++ header_text header seqno) none) ∙ header_and_body header seqno body size
-    ∙ ap (λ (h : Header). message_text (header_bits h) h.remote h.local seqno h.id body) is
+    last_is ∙ ap (λ (l : List ℕ). l ++ body) (header_is ∙ ap (λ (l : List ℕ). l ++ header_encoding header seqno) none) ∙ header_and_body header seqno body size
+    ∙ ap (λ (h : Header). message_encoding (header_bits h) h.remote h.local seqno h.id body) is
 
 -- a message that was taken out whole
-pub whole_received : (old : State) (space : ℕ) (names : Names) (member serial : ℕ) (port : PortState) (message : Message) (answer : Reply) (mid new : State) (effects before : List Effect) (rights : List CarriedRight) (given text : List ℕ) (after : Names) (size : ℕ)
-    → rights ≡ arriving message → Arrives names rights given after → size ≡ message_size message → text ≡ received_text message member port.sequence_number given → answer ≡ reply.Message Success size member text
+pub whole_received : (old : State) (space : ℕ) (names : Names) (member serial : ℕ) (port : PortState) (message : Message) (answer : Reply) (mid new : State) (effects before : List Effect) (rights : List CarriedRight) (given encoding : List ℕ) (after : Names) (size : ℕ)
+    → rights ≡ arriving message → Arrives names rights given after → size ≡ message_size message → encoding ≡ received_encoding message member port.sequence_number given → answer ≡ reply.Message Success size member encoding
     → mid ≡ with_names old space after → new ≡ without_oldest mid serial → before ≡ [] → effects ≡ before ++ destination_consumed message.destination serial
     → Received old space names member serial port message answer new effects
-whole_received old space names member serial port message answer mid new effects before rights given text after size are arrives size_is text_is is named taken none consumed = (
+whole_received old space names member serial port message answer mid new effects before rights given encoding after size are arrives size_is encoding_is is named taken none consumed = (
   given,
   after,
   subst (λ (l : List CarriedRight). Arrives names l given after) are arrives,
-  is ∙ ap (λ (n : ℕ). reply.Message Success n member text) size_is ∙ ap (reply.Message Success (message_size message) member) text_is,
+  is ∙ ap (λ (n : ℕ). reply.Message Success n member encoding) size_is ∙ ap (reply.Message Success (message_size message) member) encoding_is,
   taken ∙ ap (λ (s : State). without_oldest s serial) named ∙ names_then_oldest old space serial after,
   consumed ∙ ap (λ (l : List Effect). l ++ destination_consumed message.destination serial) none,
 )
@@ -166,8 +166,8 @@ lacking_told old space names receipt member serial port message answer other las
 
 pub whole_told : (old : State) (space : ℕ) (names : Names) (receipt : Receipt) (member serial : ℕ) (port : PortState) (message : Message) (answer : Reply) (wanted : List ℕ) (other : Reply) (last : State) (others : List Effect)
     → nat_lt receipt.limit (message_size message) ≡ false → lacks_names names message ≡ false → LawfulMessage message → LawfulNames names
-    → ((after : Names) → Arrives names (arriving message) wanted after → answer ≡ reply.Message Success (message_size message) member (received_text message member port.sequence_number wanted))
-    → wanted ≡ names_shown (text_in other) → TakesOut old space names receipt member serial port message other last others → answer ≡ other
+    → ((after : Names) → Arrives names (arriving message) wanted after → answer ≡ reply.Message Success (message_size message) member (received_encoding message member port.sequence_number wanted))
+    → wanted ≡ names_shown (encoding_in other) → TakesOut old space names receipt member serial port message other last others → answer ≡ other
 whole_told old space names receipt member serial port message answer wanted other last others small fits lawful named told shows may =
     let whole : Received old space names member serial port message other last others =
     subst (λ (b : Bool). MatchBool b ((other ≡ without_message RcvHeaderErrorSpace 0 0) × (last ≡ old) × (others ≡ [])) (Received old space names member serial port message other last others)) fits
@@ -175,9 +175,9 @@ whole_told old space names receipt member serial port message answer wanted othe
     let given : List ℕ = whole.0 in
     let many = as_many_names names (arriving message) given whole.1 whole.2 in
     let same : wanted ≡ given =
-    shows ∙ ap (λ (r : Reply). names_shown (text_in r)) whole.3 ∙ shown_are_given message member port.sequence_number given lawful many (arrived_small names (arriving message) given whole.1 (lawful_fit names named) whole.2) in
+    shows ∙ ap (λ (r : Reply). names_shown (encoding_in r)) whole.3 ∙ shown_are_given message member port.sequence_number given lawful many (arrived_small names (arriving message) given whole.1 (lawful_fit names named) whole.2) in
     told whole.1 (subst (λ (l : List ℕ). Arrives names (arriving message) l whole.1) (sym same) whole.2)
-    ∙ ap (λ (l : List ℕ). reply.Message Success (message_size message) member (received_text message member port.sequence_number l)) same ∙ sym whole.3
+    ∙ ap (λ (l : List ℕ). reply.Message Success (message_size message) member (received_encoding message member port.sequence_number l)) same ∙ sym whole.3
 
 pub names_lawful : (state : State) (space : ℕ) → Lawful state → IsSome (finmap.get state.spaces space) → LawfulNames (names_in state space)
 names_lawful state space lawful there = by_case (finmap.get state.spaces space) refl there

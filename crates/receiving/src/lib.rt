@@ -3,11 +3,11 @@
 #![tactic(auto)]
 
 mod asked;
+mod encoding;
 mod looking;
 mod receiving;
 mod shown;
 mod source;
-mod text;
 
 pub use asked::{Asked, Preference};
 pub use receiving::receive;

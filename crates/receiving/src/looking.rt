@@ -4,12 +4,12 @@ ghost use Rattle.std.specs.FinMap as finmap;
 ghost use Rattle.codes.specs.declared.limits.TheConstants.{MAX_NAMES};
 ghost use Rattle.ipc_model.specs.calls.PortCalls.{names_in};
 ghost use Rattle.ipc_model.specs.messages.Receiving.{arriving, lacks_names, message_size, reply_right};
-ghost use Rattle.ipc_model.specs.rights.CopyOut.{names_wanted};
+ghost use Rattle.ipc_model.specs.rights.CopyOut.{names_needed};
 ghost use Rattle.rights.specs.Passed.{lives_in, seen_message, seen_right};
 
 use codes::{HEADER_LENGTH, MAX_NAMES};
 use ipc_model::{CarriedRight, Message};
-use rights::{IpcState, names_wanted};
+use rights::{IpcState, names_needed};
 use std::alloc::{AllocError, Global};
 
 /// How many bytes a message has, header and body.
@@ -82,10 +82,10 @@ pub(crate) fn lacks_names(
 
 /// Whether rights need more new names than a space has left.
 pub(crate) fn lacks_room(state: &IpcState, space: u32, rights: &[CarriedRight]) -> bool
-    ensures { result ≡ nat_lt MAX_NAMES (finmap.len (names_in state.now.current space) + names_wanted (names_in state.now.current space) [] rights.now) }
+    ensures { result ≡ nat_lt MAX_NAMES (finmap.len (names_in state.now.current space) + names_needed (names_in state.now.current space) [] rights.now) }
 {
     match MAX_NAMES.checked_sub(state.name_count(space)) {
-        Some(left) => names_wanted(state, space, rights) > left,
+        Some(left) => names_needed(state, space, rights) > left,
         None => true,
     }
 }

@@ -6,19 +6,19 @@ ghost use Rattle.ipc_model.specs.calls.Step.{ActsIn};
 ghost use Rattle.ipc_model.specs.declared.call.Call.TheVariants as call;
 ghost use Rattle.ipc_model.specs.declared.call.Reply as machine;
 ghost use Rattle.ipc_model.specs.effects.Effects as waiting;
-ghost use Rattle.ipc_model.specs.messages.Receiving.{Received, TakesOut, TooLarge, arriving, destination_consumed, message_size, received_text};
-ghost use Rattle.ipc_model.specs.rights.CopyOut.{Arrives, names_wanted};
+ghost use Rattle.ipc_model.specs.messages.Receiving.{Received, TakesOut, TooLarge, arriving, destination_consumed, message_size, received_encoding};
+ghost use Rattle.ipc_model.specs.rights.CopyOut.{Arrives, names_needed};
 ghost use Rattle.ipc_model.specs.state.Lawful.{Lawful, LawfulMessage};
 ghost use Rattle.ipc_model.specs.state.State.{Names, State};
 ghost use Rattle.rights.specs.Passed.{messages_at};
 ghost use Rattle.receiving.specs.ShownNames.{names_shown};
-ghost use Rattle.receiving.specs.Shows.{preferred_by, receipt_of, text_in};
+ghost use Rattle.receiving.specs.Shows.{preferred_by, receipt_of, encoding_in};
 ghost use Rattle.receiving.specs.Taking.{OfOldest};
 
 use crate::asked::{Asked, Preference};
+use crate::encoding::received_encoding;
 use crate::looking::{arriving, lacks_room, size_of};
 use crate::source::{Source, find_source};
-use crate::text::received_text;
 use codes::{KernReturn, MACH_PORT_NULL};
 use effects::{Effect, Effects};
 use ipc_model::{CarriedRight, Reply, RightKind, Sequence};
@@ -59,7 +59,7 @@ pub fn receive(
     requires lawful { Lawful state.old.current }
     ensures acts { IfOk result (λ reply. ActsIn state.old.current space (names_in state.old.current space) (call.Receive asked.limit asked.large asked.name asked.waited) reply state.new.current effects.new) }
     // If the call may be answered by a reply that shows this, it is.
-    ensures shown { IfOk result (λ reply. (other : machine.Reply) → (last : State) → (others : List waiting.Effect) → preference ≡ preferred_by other → names.now ≡ names_shown (text_in other)
+    ensures shown { IfOk result (λ reply. (other : machine.Reply) → (last : State) → (others : List waiting.Effect) → preference ≡ preferred_by other → names.now ≡ names_shown (encoding_in other)
         → ActsIn state.old.current space (names_in state.old.current space) (call.Receive asked.limit asked.large asked.name asked.waited) other last others → reply ≡ other) }
     ensures before { state.new.before ≡ state.old.before }
 {
@@ -87,7 +87,7 @@ fn take_out(
     requires lawful { Lawful state.old.current }
     ensures acts { IfOk result (λ reply. OfOldest state.old.current source.port
         (λ port message. TakesOut state.old.current space (names_in state.old.current space) (receipt_of asked) source.member source.port port message reply state.new.current effects.new)) }
-    ensures shown { IfOk result (λ reply. OfOldest state.old.current source.port (λ port message. (other : machine.Reply) → (last : State) → (others : List waiting.Effect) → names.now ≡ names_shown (text_in other)
+    ensures shown { IfOk result (λ reply. OfOldest state.old.current source.port (λ port message. (other : machine.Reply) → (last : State) → (others : List waiting.Effect) → names.now ≡ names_shown (encoding_in other)
         → TakesOut state.old.current space (names_in state.old.current space) (receipt_of asked) source.member source.port port message other last others → reply ≡ other)) }
     ensures before { state.new.before ≡ state.old.before }
 {
@@ -194,28 +194,28 @@ fn take_whole(
     requires lawful { Lawful state.old.current }
     requires rights { OfOldest state.old.current source.port (λ _ message. rights.now ≡ arriving message) }
     requires outline { OfOldest state.old.current source.port (λ _ message. (outline.size ≡ message_size message) × (outline.destination ≡ message.destination)) }
-    requires room { map.len (names_in state.old.current space) + names_wanted (names_in state.old.current space) [] rights.now ≤ MAX_NAMES }
+    requires room { map.len (names_in state.old.current space) + names_needed (names_in state.old.current space) [] rights.now ≤ MAX_NAMES }
     ensures received { IfOk result (λ reply. OfOldest state.old.current source.port
         (λ port message. Received state.old.current space (names_in state.old.current space) source.member source.port port message reply state.new.current effects.new)) }
     ensures wanted { IfOk result (λ reply. OfOldest state.old.current source.port (λ port message. (last : Names) → Arrives (names_in state.old.current space) (arriving message) names.now last
-        → reply ≡ Reply.Message KernReturn.Success (message_size message) source.member (received_text message source.member port.sequence_number names.now))) }
+        → reply ≡ Reply.Message KernReturn.Success (message_size message) source.member (received_encoding message source.member port.sequence_number names.now))) }
     ensures before { state.new.before ≡ state.old.before }
 {
     let mut given = Vec::with_capacity(alloc, rights.len())?;
     arrive(state, space, rights, names, &mut given)?;
-    let text = oldest_text(alloc, state, source, given.as_slice())?;
+    let encoding = oldest_encoding(alloc, state, source, given.as_slice())?;
     consume(outline.destination, source.port, effects)?;
     state.take_message(source.port)?;
     Ok(Reply::Message {
         code: KernReturn::Success,
         size: outline.size,
         member: source.member,
-        message: Sequence::new(text),
+        message: Sequence::new(encoding),
     })
 }
 
 /// The bytes of a port's oldest message as it is received if its rights got these names; none if it has no message.
-fn oldest_text(
+fn oldest_encoding(
     alloc: Global,
     state: &IpcState,
     source: Source,
@@ -223,10 +223,10 @@ fn oldest_text(
 ) -> Result<Vec<u8>, AllocError>
     requires lawful { OfOldest state.now.current source.port (λ _ message. LawfulMessage message) }
     requires given { OfOldest state.now.current source.port (λ _ message. length given.now ≡ length (arriving message)) }
-    ensures { IfOk result (λ text. OfOldest state.now.current source.port (λ port message. text.items ≡ received_text message source.member port.sequence_number given.now)) }
+    ensures { IfOk result (λ encoding. OfOldest state.now.current source.port (λ port message. encoding.items ≡ received_encoding message source.member port.sequence_number given.now)) }
 {
     match (state.oldest(source.port), state.numbers(source.port)) {
-        (Some(message), Some(numbers)) => received_text(
+        (Some(message), Some(numbers)) => received_encoding(
             alloc,
             message,
             source.member,

@@ -1,13 +1,13 @@
 ghost use Rattle.std.specs.Prelude.{◌≡◌, ◌<◌, ◌≤◌, ◌+◌, ◌-◌, ◌^◌, ◌++◌, ℕ, List, IfSome, IsSomeAnd, length, take, drop};
-ghost use Rattle.words.specs.Words.{word, frame_text};
+ghost use Rattle.words.specs.Words.{word, frame_encoding};
 
 use byteorder::{ByteOrder, LittleEndian};
 use words::take_word;
 
 /// The content of the frame that stands in front, and the bytes after it.
 pub fn take_frame(bytes: &[u8]) -> Option<(&[u8], &[u8])>
-    ensures found { IfSome result (λ r. (bytes.now ≡ frame_text r.0.now ++ r.1.now) × (length r.0.now < 2 ^ 32)) }
-    ensures only { (content rest : List ℕ) → length content < 2 ^ 32 → bytes.now ≡ frame_text content ++ rest
+    ensures found { IfSome result (λ r. (bytes.now ≡ frame_encoding r.0.now ++ r.1.now) × (length r.0.now < 2 ^ 32)) }
+    ensures only { (content rest : List ℕ) → length content < 2 ^ 32 → bytes.now ≡ frame_encoding content ++ rest
         → IsSomeAnd result (λ r. (r.0.now ≡ content) × (r.1.now ≡ rest)) }
 {
     let (length, rest) = take_word(bytes)?;

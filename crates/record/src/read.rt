@@ -1,7 +1,7 @@
 ghost use Rattle.std.specs.Prelude.{◌≡◌, ◌<◌, ◌^◌, ◌++◌, ℕ, List, Some, IfOk, IfSome, IsSomeAnd, length};
 ghost use Rattle.ipc_model.specs.declared.record.Record.{Record};
-ghost use Rattle.ipc_model.specs.texts.Texts.{call_text, reply_text, record_text, IsRecord};
-ghost use Rattle.words.specs.Words.{word, long_word, frame_text};
+ghost use Rattle.ipc_model.specs.encodings.Encodings.{call_encoding, reply_encoding, record_encoding, IsRecord};
+ghost use Rattle.words.specs.Words.{word, long_word, frame_encoding};
 
 use crate::frame::take_frame;
 use calls::{read_call, read_recorded_reply};
@@ -13,11 +13,11 @@ use words::{take_long_word, take_word};
 /// The number and the space of the record in front, the encodings of its call and its reply, and the bytes after it.
 fn take_parts(bytes: &[u8]) -> Option<(u64, u32, &[u8], &[u8], &[u8])>
     ensures found { IfSome result (λ r. bytes.now
-        ≡ long_word r.0 ++ (word r.1 ++ (frame_text r.2.now ++ (frame_text r.3.now ++ r.4.now)))) }
+        ≡ long_word r.0 ++ (word r.1 ++ (frame_encoding r.2.now ++ (frame_encoding r.3.now ++ r.4.now)))) }
     ensures fits { IfSome result (λ r. (r.1 < 2 ^ 32) × (length r.2.now < 2 ^ 32) × (length r.3.now < 2 ^ 32)) }
     ensures only { (number space : ℕ) (call reply rest : List ℕ) → number < 2 ^ 64 → space < 2 ^ 32
         → length call < 2 ^ 32 → length reply < 2 ^ 32
-        → bytes.now ≡ long_word number ++ (word space ++ (frame_text call ++ (frame_text reply ++ rest)))
+        → bytes.now ≡ long_word number ++ (word space ++ (frame_encoding call ++ (frame_encoding reply ++ rest)))
         → IsSomeAnd result (λ r. (r.0 ≡ number) × (r.1 ≡ space) × (r.2.now ≡ call) × (r.3.now ≡ reply) × (r.4.now ≡ rest)) }
 {
     let (number, rest) = take_long_word(bytes)?;
@@ -35,9 +35,9 @@ fn read_record(
     reply: &[u8],
 ) -> Result<Option<Record>, AllocError>
     ensures found { IfOk result (λ found. IfSome found (λ entry. (entry.space ≡ space)
-        × (call.now ≡ call_text entry.call) × (reply.now ≡ reply_text entry.reply) × IsRecord entry)) }
-    ensures only { (entry : Record) → IsRecord entry → entry.space ≡ space → call.now ≡ call_text entry.call
-        → reply.now ≡ reply_text entry.reply → IfOk result (λ found. found ≡ Some entry) }
+        × (call.now ≡ call_encoding entry.call) × (reply.now ≡ reply_encoding entry.reply) × IsRecord entry)) }
+    ensures only { (entry : Record) → IsRecord entry → entry.space ≡ space → call.now ≡ call_encoding entry.call
+        → reply.now ≡ reply_encoding entry.reply → IfOk result (λ found. found ≡ Some entry) }
 {
     let most = MAX_FRAME_CONTENT as usize;
     if most < call.len() || most < reply.len() {
@@ -52,13 +52,13 @@ fn read_record(
     Ok(Some(Record { space, call, reply }))
 }
 
-#[tactic(auto, unfolding(ipc_model::specs::texts::Texts::record_text))]
+#[tactic(auto, unfolding(ipc_model::specs::encodings::Texts::record_encoding))]
 /// The record in front, with its number, and the bytes after it. It can run out of memory only for messages.
 pub fn take_record(alloc: Global, bytes: &[u8]) -> Result<Option<(u64, Record, &[u8])>, AllocError>
     ensures found { IfOk result (λ found. IfSome found (λ r.
-        (bytes.now ≡ record_text r.0 r.1 ++ r.2.now) × IsRecord r.1)) }
+        (bytes.now ≡ record_encoding r.0 r.1 ++ r.2.now) × IsRecord r.1)) }
     ensures only { (number : ℕ) (entry : Record) (rest : List ℕ) → number < 2 ^ 64 → IsRecord entry
-        → bytes.now ≡ record_text number entry ++ rest
+        → bytes.now ≡ record_encoding number entry ++ rest
         → IfOk result (λ found. IsSomeAnd found (λ r. (r.0 ≡ number) × (r.1 ≡ entry) × (r.2.now ≡ rest))) }
 {
     let Some((number, space, call, reply, rest)) = take_parts(bytes) else {

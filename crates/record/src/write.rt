@@ -1,29 +1,29 @@
 ghost use Rattle.std.specs.Prelude.{◌≡◌, ◌<◌, ◌^◌, ◌++◌, OnOk, length};
-ghost use Rattle.ipc_model.specs.texts.Texts.{call_text, reply_text, kept_call, record_text};
-ghost use Rattle.words.specs.Words.{frame_text};
+ghost use Rattle.ipc_model.specs.encodings.Encodings.{call_encoding, reply_encoding, canonical_call, record_encoding};
+ghost use Rattle.words.specs.Words.{frame_encoding};
 
 use crate::frame::set_length;
-use calls::{push_kept_call, push_reply};
+use calls::{push_canonical_call, push_reply};
 use ipc_model::{Call, Record, Reply};
 use std::alloc::{AllocError, Global};
 use words::{push_long_word, push_word};
 
 /// Adds the frame of a call as a record keeps it. If an allocation fails, some of its bytes may have been added.
 fn push_call_frame(alloc: Global, out: &mut Vec<u8>, call: &Call) -> Result<(), AllocError>
-    requires { length (call_text call.now) < 2 ^ 32 }
-    ensures { OnOk result (out.new.items ≡ out.old.items ++ frame_text (call_text (kept_call call.now))) }
+    requires { length (call_encoding call.now) < 2 ^ 32 }
+    ensures { OnOk result (out.new.items ≡ out.old.items ++ frame_encoding (call_encoding (canonical_call call.now))) }
 {
     let at = out.len();
     push_word(out, 0)?;
-    push_kept_call(alloc, out, call)?;
+    push_canonical_call(alloc, out, call)?;
     set_length(out, at);
     Ok(())
 }
 
 /// Adds the frame of a reply. If an allocation fails, some of its bytes may have been added.
 fn push_reply_frame(out: &mut Vec<u8>, reply: &Reply) -> Result<(), AllocError>
-    requires { length (reply_text reply.now) < 2 ^ 32 }
-    ensures { OnOk result (out.new.items ≡ out.old.items ++ frame_text (reply_text reply.now)) }
+    requires { length (reply_encoding reply.now) < 2 ^ 32 }
+    ensures { OnOk result (out.new.items ≡ out.old.items ++ frame_encoding (reply_encoding reply.now)) }
 {
     let at = out.len();
     push_word(out, 0)?;
@@ -32,7 +32,7 @@ fn push_reply_frame(out: &mut Vec<u8>, reply: &Reply) -> Result<(), AllocError>
     Ok(())
 }
 
-#[tactic(auto, unfolding(ipc_model::specs::texts::Texts::record_text))]
+#[tactic(auto, unfolding(ipc_model::specs::encodings::Texts::record_encoding))]
 /// Adds the record of a call of a task of this space with this reply, with its number: the call as a record keeps it.
 /// If an allocation fails, some of its bytes may have been added.
 pub fn push_exchange(
@@ -43,9 +43,9 @@ pub fn push_exchange(
     call: &Call,
     reply: &Reply,
 ) -> Result<(), AllocError>
-    requires call { length (call_text call.now) < 2 ^ 32 }
-    requires reply { length (reply_text reply.now) < 2 ^ 32 }
-    ensures { OnOk result (out.new.items ≡ out.old.items ++ record_text number (record { space = space; call = call.now; reply = reply.now })) }
+    requires call { length (call_encoding call.now) < 2 ^ 32 }
+    requires reply { length (reply_encoding reply.now) < 2 ^ 32 }
+    ensures { OnOk result (out.new.items ≡ out.old.items ++ record_encoding number (record { space = space; call = call.now; reply = reply.now })) }
 {
     push_long_word(out, number)?;
     push_word(out, space)?;
@@ -61,9 +61,9 @@ pub fn push_record(
     number: u64,
     record: &Record,
 ) -> Result<(), AllocError>
-    requires call { length (call_text «record».now.call) < 2 ^ 32 }
-    requires reply { length (reply_text «record».now.reply) < 2 ^ 32 }
-    ensures { OnOk result (out.new.items ≡ out.old.items ++ record_text number «record».now) }
+    requires call { length (call_encoding «record».now.call) < 2 ^ 32 }
+    requires reply { length (reply_encoding «record».now.reply) < 2 ^ 32 }
+    ensures { OnOk result (out.new.items ≡ out.old.items ++ record_encoding number «record».now) }
 {
     push_exchange(
         alloc,

@@ -24,7 +24,7 @@ front_has n slot two = get_or-take n slot 1 0 two
 front_of_epoch : (number epoch n : ℕ) (slot : List ℕ) → IsOfEpoch number epoch (take n slot) → IsOfEpoch number epoch slot
 front_of_epoch number epoch n slot is = record {
   rest = is.rest ++ drop n slot;
-  text = sym (take-append-drop n slot) ∙ ap (λ l. l ++ drop n slot) is.text ∙ append_assoc (segment_header open_gate epoch) is.rest (drop n slot);
+  encoding = sym (take-append-drop n slot) ∙ ap (λ l. l ++ drop n slot) is.encoding ∙ append_assoc (segment_header open_gate epoch) is.rest (drop n slot);
   fits = is.fits;
   of_number = is.of_number;
 }
@@ -35,7 +35,7 @@ epoch_of_front number epoch n slot whole is =
     let apart : n ≡ 16 + (n - 16) = omega arith in
     record {
       rest = take (n - 16) is.rest;
-      text = ap (take n) is.text ∙ ap (λ k. take k (segment_header open_gate epoch ++ is.rest)) apart ∙ take-append-add (segment_header open_gate epoch) is.rest (n - 16);
+      encoding = ap (take n) is.encoding ∙ ap (λ k. take k (segment_header open_gate epoch ++ is.rest)) apart ∙ take-append-add (segment_header open_gate epoch) is.rest (n - 16);
       fits = is.fits;
       of_number = is.of_number;
     }
@@ -61,5 +61,5 @@ front_read slot buffer old n count bytes =
     ]
 
 -- an epoch after the front of a header
-pub epoch_behind : (slot rest behind : List ℕ) (epoch : ℕ) → slot ≡ version_one ++ rest → rest ≡ long_word epoch ++ behind → epoch < 2 ^ 64 → IsOfEpoch (epoch % 2) epoch slot
-epoch_behind slot rest behind epoch first second fits = record { rest = behind; text = first ∙ ap (λ l. version_one ++ l) second; fits = fits; of_number = refl }
+pub epoch_after : (slot rest behind : List ℕ) (epoch : ℕ) → slot ≡ version_one ++ rest → rest ≡ long_word epoch ++ behind → epoch < 2 ^ 64 → IsOfEpoch (epoch % 2) epoch slot
+epoch_after slot rest behind epoch first second fits = record { rest = behind; encoding = first ∙ ap (λ l. version_one ++ l) second; fits = fits; of_number = refl }

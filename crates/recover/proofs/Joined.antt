@@ -8,15 +8,15 @@ use Rattle.checkpoint.specs.Images.{ImageValue, open_image, unwritten}
 use Rattle.ipc_model.specs.state.State.{State, opening_state}
 use Rattle.ipc_model.specs.store.Recovery.{HoldsImage, IsNew, Recovered}
 use Rattle.ipc_model.specs.store.Store.{closed_gate}
-use Rattle.ipc_model.specs.texts.Images.{image_text}
+use Rattle.ipc_model.specs.encodings.Images.{image_encoding}
 use Rattle.journal.specs.declared.segment.Segment.{Segment}
 use Rattle.slot_steps.specs.Steps.{IsRemade, image_slot, segment_slot}
 use Rattle.slot_steps.proofs.Moments.{passes_as, passes_then}
-use Rattle.standing.specs.Standing.{as_written, InOne}
+use Rattle.store_layout.specs.Standing.{as_written, InOne}
 use Rattle.recover.specs.AtRest.{IsAtRest}
 use Rattle.recover.specs.Kept.{IsKept}
 use Rattle.recover.specs.Making.{DiffersIn, empty_segment}
-use Rattle.recover.specs.Stopping.{HasLastGate, HaveLastGates, LeavesSame, StandForSame}
+use Rattle.recover.specs.Crashing.{HasLastGate, HaveLastGates, LeavesSame, StandForSame}
 use Rattle.recover.specs.Surveyed.{IsUnused}
 use Rattle.recover.proofs.Gates.{empty_has_gate}
 use Rattle.recover.proofs.Rest.{rest_after, rest_called, rest_is_synced, rest_kept}
@@ -64,12 +64,12 @@ first_image_after mid new content rest fresh made gate image time =
 
 -- the image of epoch 0, as it is written
 abbrev OpeningImage : ImageValue → Type 0
-OpeningImage image = image ≡ unwritten 0 (image_text opening_state)
+OpeningImage image = image ≡ unwritten 0 (image_encoding opening_state)
 
 abbrev WritesImage : View → View → ImageValue → Type 0
-WritesImage mid new image = IsSynced mid (image_slot image.epoch) → Passes mid new (Follows mid (image_slot image.epoch) (IsRemade 24 (open_image image.epoch image.text)))
+WritesImage mid new image = IsSynced mid (image_slot image.epoch) → Passes mid new (Follows mid (image_slot image.epoch) (IsRemade 24 (open_image image.epoch image.encoding)))
 
-pub first_image_same : (old mid new : View) (image : ImageValue) → IsAtRest old → IsUnused old.seen → IsNew (as_written old.seen) → HaveLastGates old.seen → OpeningImage image → HoldsImage 0 (open_image 0 (image_text opening_state)) opening_state
+pub first_image_same : (old mid new : View) (image : ImageValue) → IsAtRest old → IsUnused old.seen → IsNew (as_written old.seen) → HaveLastGates old.seen → OpeningImage image → HoldsImage 0 (open_image 0 (image_encoding opening_state)) opening_state
     → (IsSynced old Segment0 → Passes old mid (Follows old Segment0 (IsRemade 16 (empty_segment 0)))) → mid.seen ≡ with_slot old.seen Segment0 (empty_segment 0) → IsSynced mid Segment0 → WritesImage mid new image
     → Passes old new (StandForSame old.seen)
 first_image_same old mid new image rest unused is_new gates is holds first made synced second =
@@ -78,17 +78,17 @@ first_image_same old mid new image rest unused is_new gates is holds first made 
     let segment1 : mid.seen.segment1 ≡ old.seen.segment1 = ap (λ (s : Slots). s.segment1) made in
     same_after old mid new (first_segment_same old mid rest unused is_new gates first)
     (same_by_one old.seen mid.seen opening_state (fresh_recovered old.seen (unused_fresh old.seen unused is_new)) (fresh_recovered mid.seen fresh))
-    (first_image_after mid new (open_image 0 (image_text opening_state)) rested fresh (ap (λ (s : Slots). s.segment0) made) (subst HasLastGate (sym segment1) gates.1) holds
+    (first_image_after mid new (open_image 0 (image_encoding opening_state)) rested fresh (ap (λ (s : Slots). s.segment0) made) (subst HasLastGate (sym segment1) gates.1) holds
     (subst (WritesImage mid new) is second))
 
-pub first_kept : (old mid new : View) (image : ImageValue) (segment : Segment) → IsAtRest old → IsUnused old.seen → IsNew (as_written old.seen) → OpeningImage image → HoldsImage 0 (open_image 0 (image_text opening_state)) opening_state
+pub first_kept : (old mid new : View) (image : ImageValue) (segment : Segment) → IsAtRest old → IsUnused old.seen → IsNew (as_written old.seen) → OpeningImage image → HoldsImage 0 (open_image 0 (image_encoding opening_state)) opening_state
     → (IsSynced old Segment0 → Passes old mid (Follows old Segment0 (IsRemade 16 (empty_segment 0)))) → mid.seen ≡ with_slot old.seen Segment0 (empty_segment 0) → IsSynced mid Segment0 → segment ≡ record { epoch = 0; records = 0 }
-    → WritesImage mid new image → new.seen ≡ with_slot mid.seen (image_slot image.epoch) (open_image image.epoch image.text) → IsSynced new (image_slot image.epoch) → IsKept new segment opening_state
+    → WritesImage mid new image → new.seen ≡ with_slot mid.seen (image_slot image.epoch) (open_image image.epoch image.encoding) → IsSynced new (image_slot image.epoch) → IsKept new segment opening_state
 first_kept old mid new image segment rest unused is_new is holds first made synced zeros second written stays =
-    let content : List ℕ = open_image 0 (image_text opening_state) in
+    let content : List ℕ = open_image 0 (image_encoding opening_state) in
     let fresh = made_fresh old.seen mid.seen unused is_new made in
     let rested = rest_after Segment0 old mid (IsRemade 16 (empty_segment 0)) (empty_segment 0) (first (rest_is_synced Segment0 old rest)) made synced rest in
-    let at : new.seen ≡ with_slot mid.seen Image0 content = subst (λ (i : ImageValue). new.seen ≡ with_slot mid.seen (image_slot i.epoch) (open_image i.epoch i.text)) is written in
+    let at : new.seen ≡ with_slot mid.seen Image0 content = subst (λ (i : ImageValue). new.seen ≡ with_slot mid.seen (image_slot i.epoch) (open_image i.epoch i.encoding)) is written in
     let there : IsSynced new Image0 = subst (λ (i : ImageValue). IsSynced new (image_slot i.epoch)) is stays in
     let time : Passes mid new (Follows mid Image0 (IsRemade 24 content)) = subst (WritesImage mid new) is second (rest_is_synced Image0 mid rested) in
     let segment0 : mid.seen.segment0 ≡ empty_segment 0 = ap (λ (s : Slots). s.segment0) made in
@@ -124,9 +124,9 @@ go_on_kept old mid new e slot state count end is same parts rest ended =
 -- in the next epoch
 
 abbrev NextContent : ℕ → State → List ℕ
-NextContent e base = open_image (e + 1) (image_text base)
+NextContent e base = open_image (e + 1) (image_encoding base)
 
-pub next_image_same : (old mid new : View) (e : ℕ) (base state : State) (image : ImageValue) (count end : ℕ) → image ≡ unwritten (e + 1) (image_text base) → IsAtRest old → HaveLastGates old.seen → Passes old mid (MayLeave old) → mid.seen ≡ old.seen
+pub next_image_same : (old mid new : View) (e : ℕ) (base state : State) (image : ImageValue) (count end : ℕ) → image ≡ unwritten (e + 1) (image_encoding base) → IsAtRest old → HaveLastGates old.seen → Passes old mid (MayLeave old) → mid.seen ≡ old.seen
     → NextParts old.seen e (NextContent e base) state count end → WritesImage mid new image → Passes old new (StandForSame old.seen)
 next_image_same old mid new e base state image count end is rest gates still same parts writes =
     let rested = rest_kept old mid still same rest in
@@ -135,34 +135,34 @@ next_image_same old mid new e base state image count end is rest gates still sam
     (subst (WritesImage mid new) is writes (rest_is_synced (image_slot (e + 1)) mid rested)))
 
 -- the image was written
-next_rest : (mid written : View) (e : ℕ) (base : State) (image : ImageValue) → image ≡ unwritten (e + 1) (image_text base) → IsAtRest mid → WritesImage mid written image
-    → written.seen ≡ with_slot mid.seen (image_slot image.epoch) (open_image image.epoch image.text) → IsSynced written (image_slot image.epoch) → IsAtRest written
+next_rest : (mid written : View) (e : ℕ) (base : State) (image : ImageValue) → image ≡ unwritten (e + 1) (image_encoding base) → IsAtRest mid → WritesImage mid written image
+    → written.seen ≡ with_slot mid.seen (image_slot image.epoch) (open_image image.epoch image.encoding) → IsSynced written (image_slot image.epoch) → IsAtRest written
 next_rest mid written e base image is rested writes made synced =
-    rest_after (image_slot image.epoch) mid written (IsRemade 24 (open_image image.epoch image.text)) (open_image image.epoch image.text) (writes (rest_is_synced (image_slot image.epoch) mid rested)) made synced rested
+    rest_after (image_slot image.epoch) mid written (IsRemade 24 (open_image image.epoch image.encoding)) (open_image image.epoch image.encoding) (writes (rest_is_synced (image_slot image.epoch) mid rested)) made synced rested
 
-pub next_end_same : (old mid written new : View) (e : ℕ) (base state : State) (image : ImageValue) (slot : Slot) (count end : ℕ) → image ≡ unwritten (e + 1) (image_text base) → slot ≡ segment_slot (e + 1) → IsAtRest old → HaveLastGates old.seen
+pub next_end_same : (old mid written new : View) (e : ℕ) (base state : State) (image : ImageValue) (slot : Slot) (count end : ℕ) → image ≡ unwritten (e + 1) (image_encoding base) → slot ≡ segment_slot (e + 1) → IsAtRest old → HaveLastGates old.seen
     → Passes old mid (MayLeave old) → mid.seen ≡ old.seen → NextParts old.seen e (NextContent e base) state count end → WritesImage mid written image
-    → written.seen ≡ with_slot mid.seen (image_slot image.epoch) (open_image image.epoch image.text) → IsSynced written (image_slot image.epoch) → EndsAt written new slot end → Passes old new (StandForSame old.seen)
+    → written.seen ≡ with_slot mid.seen (image_slot image.epoch) (open_image image.epoch image.encoding) → IsSynced written (image_slot image.epoch) → EndsAt written new slot end → Passes old new (StandForSame old.seen)
 next_end_same old mid written new e base state image slot count end is at rest gates still same parts writes made synced ends =
     let rested = rest_kept old mid still same rest in
     let after = next_rest mid written e base image is rested writes made synced in
     let content : List ℕ = NextContent e base in
     still_then_same old mid new rest gates still same
     (next_ending mid written new e content state count end rested after (subst HaveLastGates (sym same) gates) (subst (λ (s : Slots). NextParts s e content state count end) (sym same) parts)
-    (subst (λ (i : ImageValue). written.seen ≡ with_slot mid.seen (image_slot i.epoch) (open_image i.epoch i.text)) is made)
+    (subst (λ (i : ImageValue). written.seen ≡ with_slot mid.seen (image_slot i.epoch) (open_image i.epoch i.encoding)) is made)
     (subst (WritesImage mid written) is writes (rest_is_synced (image_slot (e + 1)) mid rested)) (subst (λ s. EndsAt written new s end) at ends after))
 
-pub next_kept : (old mid written new : View) (e : ℕ) (base state : State) (image : ImageValue) (slot : Slot) (count end : ℕ) → image ≡ unwritten (e + 1) (image_text base) → slot ≡ segment_slot (e + 1) → mid.seen ≡ old.seen
-    → NextParts old.seen e (NextContent e base) state count end → written.seen ≡ with_slot mid.seen (image_slot image.epoch) (open_image image.epoch image.text) → IsAtRest new
+pub next_kept : (old mid written new : View) (e : ℕ) (base state : State) (image : ImageValue) (slot : Slot) (count end : ℕ) → image ≡ unwritten (e + 1) (image_encoding base) → slot ≡ segment_slot (e + 1) → mid.seen ≡ old.seen
+    → NextParts old.seen e (NextContent e base) state count end → written.seen ≡ with_slot mid.seen (image_slot image.epoch) (open_image image.epoch image.encoding) → IsAtRest new
     → new.seen ≡ with_slot written.seen slot (take (end + 1) (slot_of written.seen slot ++ closed_gate ∷ [])) → IsKept new (record { epoch = e + 1; records = count }) state
 next_kept old mid written new e base state image slot count end is at same parts made rest ended =
     let content : List ℕ = NextContent e base in
     let one = next_written mid.seen written.seen e content state count end (subst (λ (s : Slots). NextParts s e content state count end) (sym same) parts)
-    (subst (λ (i : ImageValue). written.seen ≡ with_slot mid.seen (image_slot i.epoch) (open_image i.epoch i.text)) is made) in
+    (subst (λ (i : ImageValue). written.seen ≡ with_slot mid.seen (image_slot i.epoch) (open_image i.epoch i.encoding)) is made) in
     one_kept written.seen new (e + 1) state count end one rest (subst (λ s. new.seen ≡ with_slot written.seen s (take (end + 1) (slot_of written.seen s ++ closed_gate ∷ []))) at ended)
 
-pub rested_after_image : (old mid written : View) (e : ℕ) (base : State) (image : ImageValue) → image ≡ unwritten (e + 1) (image_text base) → IsAtRest old → Passes old mid (MayLeave old) → mid.seen ≡ old.seen → WritesImage mid written image
-    → written.seen ≡ with_slot mid.seen (image_slot image.epoch) (open_image image.epoch image.text) → IsSynced written (image_slot image.epoch) → IsAtRest written
+pub rested_after_image : (old mid written : View) (e : ℕ) (base : State) (image : ImageValue) → image ≡ unwritten (e + 1) (image_encoding base) → IsAtRest old → Passes old mid (MayLeave old) → mid.seen ≡ old.seen → WritesImage mid written image
+    → written.seen ≡ with_slot mid.seen (image_slot image.epoch) (open_image image.epoch image.encoding) → IsSynced written (image_slot image.epoch) → IsAtRest written
 rested_after_image old mid written e base image is rest still same writes made synced = next_rest mid written e base image is (rest_kept old mid still same rest) writes made synced
 
 -- a crash while a store is kept leaves its state

@@ -3,19 +3,19 @@ use Rattle.std.proofs.Common.{◌≡◌, inl, inr, ℕ, ◌+◌, ◌<◌, List, 
 use Rattle.std.proofs.Math.Seq.{take-append-add}
 use Rattle.disk.specs.declared.slot.Slot.TheVariants.{Image0, Segment0}
 use Rattle.disk.specs.Slots.{Slots, slot_of, with_slot}
-use Rattle.ipc_laws.specs.Counted.{SpellsCounted}
+use Rattle.ipc_laws.specs.Counted.{EncodesCounted}
 use Rattle.ipc_laws.specs.RecoveryLaws.{one_epoch, recovers_once}
 use Rattle.ipc_model.specs.calls.Step.{Run}
 use Rattle.ipc_model.specs.declared.record.Record.{Record}
 use Rattle.ipc_model.specs.state.State.{State, opening_state}
-use Rattle.ipc_model.specs.store.Recovery.{HasHeader, HoldsImage, IsNew, IsOfEpoch, IsOpen, Recovered, Spells, image_header, segment_header_length}
-use Rattle.ipc_model.specs.store.Store.{SpellsBatches, SpellsSegment, IsClosed, IsInUse, NoneEmpty, all_records, open_gate, closed_gate, segment_header, batches_text}
+use Rattle.ipc_model.specs.store.Recovery.{HasHeader, HoldsImage, IsNew, IsOfEpoch, IsOpen, Recovered, Encodes, image_header, segment_header_length}
+use Rattle.ipc_model.specs.store.Store.{EncodesBatches, EncodesSegment, IsClosed, IsInUse, NoneEmpty, all_records, open_gate, closed_gate, segment_header, batches_encoding}
 use Rattle.slot_steps.specs.Steps.{IsRemade, image_slot}
-use Rattle.standing.specs.Changes.{closing_image, two_finished, two_image_changed}
-use Rattle.standing.specs.Spelled.{one_spells, two_spells}
-use Rattle.standing.specs.Standing.{as_written, InOne, InTwo}
+use Rattle.store_layout.specs.Changes.{closing_image, two_finished, two_image_changed}
+use Rattle.store_layout.specs.Encoded.{one_encodes, two_encodes}
+use Rattle.store_layout.specs.Standing.{as_written, InOne, InTwo}
 use Rattle.recover.specs.Making.{empty_segment}
-use Rattle.recover.specs.Stopping.{HasLastGate, RecoverSame}
+use Rattle.recover.specs.Crashing.{HasLastGate, RecoverSame}
 use Rattle.recover.specs.Surveyed.{IsUnused}
 use Rattle.recover.proofs.Gates.{shut_has_gate, empty_has_gate}
 use Rattle.recover.proofs.Surveys.{each_number}
@@ -31,21 +31,21 @@ pub same_by_one : (s c : Slots) (state : State) → Recovered (as_written s) sta
 same_by_one s c state one other found is = subst (Recovered (as_written c)) (recovers_once (as_written s) state found one is) other
 
 pub one_recovered : (s : Slots) (e : ℕ) (base state : State) (records : List Record) → InOne s e base records → Run base records state → Recovered (as_written s) state
-one_recovered s e base state records one run = record { base = base; records = records; spelled = one_spells s e base records one; run = run }
+one_recovered s e base state records one run = record { base = base; records = records; encoded = one_encodes s e base records one; run = run }
 
 pub two_recovered : (s : Slots) (e : ℕ) (base mid state : State) (first next : List Record) → InTwo s e base first next → Run base first mid → Run mid next state → Recovered (as_written s) state
-two_recovered s e base mid state first next two run more = record { base = base; records = first ++ next; spelled = two_spells s e base first next two; run = run_join base mid state first next run more }
+two_recovered s e base mid state first next two run more = record { base = base; records = first ++ next; encoded = two_encodes s e base first next two; run = run_join base mid state first next run more }
 
 -- a store that was never in use
 
 pub record IsFresh (s : Slots) : Type 0 where
   pub image0 : IsOpen image_header s.image0 → ⊥
   pub image1 : IsOpen image_header s.image1 → ⊥
-  pub segment0 : IsOpen segment_header_length s.segment0 → SpellsSegment 0 s.segment0 []
+  pub segment0 : IsOpen segment_header_length s.segment0 → EncodesSegment 0 s.segment0 []
   pub segment1 : IsOpen segment_header_length s.segment1 → ⊥
 
-abbrev no_records : (content : List ℕ) → IsClosed content → SpellsBatches content []
-no_records content shut = record { batches = []; rest = content; text = refl; closed = shut; none_empty = tt; flat = refl; canonical = tt; bounded = omega arith }
+abbrev no_records : (content : List ℕ) → IsClosed content → EncodesBatches content []
+no_records content shut = record { batches = []; rest = content; encoding = refl; closed = shut; none_empty = tt; flat = refl; canonical = tt; bounded = omega arith }
 
 pub unused_fresh : (s : Slots) → IsUnused s → IsNew (as_written s) → IsFresh s
 unused_fresh s unused new = record {
@@ -54,7 +54,7 @@ unused_fresh s unused new = record {
   segment0 = λ is_open.
       let is = unused.first is_open in
       let shut = (new.unused 0 0 (omega arith) is_open is).1 in
-      record { content = is.rest; text = is.text; spelled = no_records is.rest (subst IsClosed (ap (λ (l : List ℕ). drop 16 l) is.text) shut) };
+      record { content = is.rest; encoding = is.encoding; encoded = no_records is.rest (subst IsClosed (ap (λ (l : List ℕ). drop 16 l) is.encoding) shut) };
   segment1 = unused.second;
 }
 
@@ -63,15 +63,15 @@ no_batches : (batches : List (List Record)) → NoneEmpty batches → [] ≡ all
 no_batches [] none is = refl
 no_batches (batch ∷ batches) none is = absurd (omega (arith, none.0, ap length is, length-append batch (all_records batches)))
 
-closed_behind : (content : List ℕ) → SpellsBatches content [] → IsClosed content
-closed_behind content spelled =
-    subst IsClosed (sym (spelled.text ∙ ap (λ (b : List (List Record)). batches_text 0 b ++ spelled.rest) (no_batches spelled.batches spelled.none_empty spelled.flat))) spelled.closed
+closed_after : (content : List ℕ) → EncodesBatches content [] → IsClosed content
+closed_after content encoded =
+    subst IsClosed (sym (encoded.encoding ∙ ap (λ (b : List (List Record)). batches_encoding 0 b ++ encoded.rest) (no_batches encoded.batches encoded.none_empty encoded.flat))) encoded.closed
 
-of_epoch_0 : (slot : List ℕ) → SpellsSegment 0 slot [] → IsOfEpoch 0 0 slot
-of_epoch_0 slot spelled = record { rest = spelled.content; text = spelled.text; fits = omega arith; of_number = refl }
+of_epoch_0 : (slot : List ℕ) → EncodesSegment 0 slot [] → IsOfEpoch 0 0 slot
+of_epoch_0 slot encoded = record { rest = encoded.content; encoding = encoded.encoding; fits = omega arith; of_number = refl }
 
-pub fresh_spells : (s : Slots) → IsFresh s → Spells (as_written s) opening_state []
-fresh_spells s fresh = record {
+pub fresh_encodes : (s : Slots) → IsFresh s → Encodes (as_written s) opening_state []
+fresh_encodes s fresh = record {
   headers = each_number (λ n. HasHeader image_header n ((as_written s).image n) × HasHeader segment_header_length n ((as_written s).segment n))
       ((λ is_open. absurd (fresh.image0 is_open)), (λ is_open. (0, of_epoch_0 s.segment0 (fresh.segment0 is_open)))) ((λ is_open. absurd (fresh.image1 is_open)), (λ is_open. absurd (fresh.segment1 is_open)));
   reading = inl (
@@ -80,8 +80,8 @@ fresh_spells s fresh = record {
       unused = λ (number epoch : ℕ) (small : _). each_number (λ n. IsOpen segment_header_length ((as_written s).segment n) → IsOfEpoch n epoch ((as_written s).segment n)
           → (epoch ≡ 0) × IsClosed (drop segment_header_length ((as_written s).segment n)))
           (λ (is_open : _) (is : _).
-          let spelled = fresh.segment0 is_open in
-          (one_epoch epoch 0 is.rest spelled.content is.fits (omega arith) (sym is.text ∙ spelled.text), subst IsClosed (sym (ap (λ (l : List ℕ). drop 16 l) spelled.text)) (closed_behind spelled.content spelled.spelled)))
+          let encoded = fresh.segment0 is_open in
+          (one_epoch epoch 0 is.rest encoded.content is.fits (omega arith) (sym is.encoding ∙ encoded.encoding), subst IsClosed (sym (ap (λ (l : List ℕ). drop 16 l) encoded.encoding)) (closed_after encoded.content encoded.encoded)))
           (λ (is_open : _) (_ : _). absurd (fresh.segment1 is_open)) number small;
     },
     refl,
@@ -90,26 +90,26 @@ fresh_spells s fresh = record {
 }
 
 pub fresh_recovered : (s : Slots) → IsFresh s → Recovered (as_written s) opening_state
-fresh_recovered s fresh = record { base = opening_state; records = []; spelled = fresh_spells s fresh; run = refl }
+fresh_recovered s fresh = record { base = opening_state; records = []; encoded = fresh_encodes s fresh; run = refl }
 
 -- it is made
 
-pub empty_spells : (e : ℕ) (slot : List ℕ) → slot ≡ empty_segment e → SpellsSegment e slot []
-empty_spells e slot is = record { content = closed_gate ∷ []; text = is; spelled = no_records (closed_gate ∷ []) (λ e. cc) }
+pub empty_encodes : (e : ℕ) (slot : List ℕ) → slot ≡ empty_segment e → EncodesSegment e slot []
+empty_encodes e slot is = record { content = closed_gate ∷ []; encoding = is; encoded = no_records (closed_gate ∷ []) (λ e. cc) }
 
 pub empty_in_use : (e : ℕ) (slot : List ℕ) → slot ≡ empty_segment e → IsInUse e slot []
-empty_in_use e slot is = record { content = closed_gate ∷ []; text = is; spelled = no_records (closed_gate ∷ []) (λ e. cc); ended = refl }
+empty_in_use e slot is = record { content = closed_gate ∷ []; encoding = is; encoded = no_records (closed_gate ∷ []) (λ e. cc); ended = refl }
 
 pub fresh_segment : (s : Slots) (x : List ℕ) → IsFresh s → IsRemade 16 (empty_segment 0) s.segment0 x → IsFresh (with_slot s Segment0 x)
 fresh_segment s x fresh remade = record {
   image0 = fresh.image0;
   image1 = fresh.image1;
-  segment0 = λ is_open. elim remade as (λ _. SpellsSegment 0 x []) [
-    | inl closing ↦ elim closing as (λ _. SpellsSegment 0 x []) [
-      | inl same ↦ subst (λ l. SpellsSegment 0 l []) (sym same) (fresh.segment0 (subst (IsOpen segment_header_length) same is_open))
+  segment0 = λ is_open. elim remade as (λ _. EncodesSegment 0 x []) [
+    | inl closing ↦ elim closing as (λ _. EncodesSegment 0 x []) [
+      | inl same ↦ subst (λ l. EncodesSegment 0 l []) (sym same) (fresh.segment0 (subst (IsOpen segment_header_length) same is_open))
       | inr shut ↦ absurd (shut is_open)
     ]
-    | inr whole ↦ empty_spells 0 x whole
+    | inr whole ↦ empty_encodes 0 x whole
   ];
   segment1 = fresh.segment1;
 }
@@ -125,7 +125,7 @@ pub first_made : (s : Slots) (x : List ℕ) → IsFresh s → s.segment0 ≡ emp
 first_made s x fresh segment image = record {
   fits = omega arith;
   image = image;
-  segment = empty_spells 0 s.segment0 segment;
+  segment = empty_encodes 0 s.segment0 segment;
   other_image = inl fresh.image1;
   other_segment = inl fresh.segment1;
 }
@@ -155,42 +155,42 @@ next_image s e base mid state first next x content two run more image remade = e
 -- a segment that is ended after its batches
 
 -- of what stands after the batches a closed gate is left, or one is put there
-gate_behind : (rest : List ℕ) → IsClosed rest → IsClosed (take 1 (rest ++ closed_gate ∷ [])) × (length (take 1 (rest ++ closed_gate ∷ [])) ≡ 1)
-gate_behind [] is = (λ e. cc, refl)
-gate_behind (gate ∷ rest) is = (is, refl)
+gate_after : (rest : List ℕ) → IsClosed rest → IsClosed (take 1 (rest ++ closed_gate ∷ [])) × (length (take 1 (rest ++ closed_gate ∷ [])) ≡ 1)
+gate_after [] is = (λ e. cc, refl)
+gate_after (gate ∷ rest) is = (is, refl)
 
-pub ended_in_use : (e : ℕ) (segment batches new : List ℕ) (records : List Record) (size end : ℕ) → segment ≡ segment_header open_gate e ++ batches → SpellsCounted batches records size → end ≡ 16 + size → new ≡ take (end + 1) (segment ++ closed_gate ∷ [])
+pub ended_in_use : (e : ℕ) (segment batches new : List ℕ) (records : List Record) (size end : ℕ) → segment ≡ segment_header open_gate e ++ batches → EncodesCounted batches records size → end ≡ 16 + size → new ≡ take (end + 1) (segment ++ closed_gate ∷ [])
     → IsInUse e new records
 ended_in_use e segment batches new records size end is counted placed cut =
-    let spelled = counted.spelled in
+    let encoded = counted.encoded in
     let header : List ℕ = segment_header open_gate e in
-    let text : List ℕ = batches_text 0 spelled.batches in
-    let tail : List ℕ = take 1 (spelled.rest ++ closed_gate ∷ []) in
-    let gate = gate_behind spelled.rest spelled.closed in
-    let sized : size ≡ length text = omega (arith, counted.sized, ap length spelled.text, length-append text spelled.rest) in
-    let joined : segment ++ closed_gate ∷ [] ≡ (header ++ text) ++ (spelled.rest ++ closed_gate ∷ []) =
-    ap (λ l. l ++ closed_gate ∷ []) (is ∙ ap (λ l. header ++ l) spelled.text ∙ sym (append_assoc header text spelled.rest)) ∙ append_assoc (header ++ text) spelled.rest (closed_gate ∷ []) in
-    let long : end + 1 ≡ length (header ++ text) + 1 = omega (arith, placed, sized, length-append header text) in
-    let left : new ≡ header ++ (text ++ tail) =
-    cut ∙ (λ i. take (long i) (joined i)) ∙ take-append-add (header ++ text) (spelled.rest ++ closed_gate ∷ []) 1 ∙ append_assoc header text tail in
+    let encoding : List ℕ = batches_encoding 0 encoded.batches in
+    let tail : List ℕ = take 1 (encoded.rest ++ closed_gate ∷ []) in
+    let gate = gate_after encoded.rest encoded.closed in
+    let sized : size ≡ length encoding = omega (arith, counted.sized, ap length encoded.encoding, length-append encoding encoded.rest) in
+    let joined : segment ++ closed_gate ∷ [] ≡ (header ++ encoding) ++ (encoded.rest ++ closed_gate ∷ []) =
+    ap (λ l. l ++ closed_gate ∷ []) (is ∙ ap (λ l. header ++ l) encoded.encoding ∙ sym (append_assoc header encoding encoded.rest)) ∙ append_assoc (header ++ encoding) encoded.rest (closed_gate ∷ []) in
+    let long : end + 1 ≡ length (header ++ encoding) + 1 = omega (arith, placed, sized, length-append header encoding) in
+    let left : new ≡ header ++ (encoding ++ tail) =
+    cut ∙ (λ i. take (long i) (joined i)) ∙ take-append-add (header ++ encoding) (encoded.rest ++ closed_gate ∷ []) 1 ∙ append_assoc header encoding tail in
     record {
-      content = text ++ tail;
-      text = left;
-      spelled = record {
-        batches = spelled.batches;
+      content = encoding ++ tail;
+      encoding = left;
+      encoded = record {
+        batches = encoded.batches;
         rest = tail;
-        text = refl;
+        encoding = refl;
         closed = gate.0;
-        none_empty = spelled.none_empty;
-        flat = spelled.flat;
-        canonical = spelled.canonical;
-        bounded = spelled.bounded;
+        none_empty = encoded.none_empty;
+        flat = encoded.flat;
+        canonical = encoded.canonical;
+        bounded = encoded.bounded;
       };
       ended = gate.1;
     }
 
-pub in_use_spells : (e : ℕ) (segment : List ℕ) (records : List Record) → IsInUse e segment records → SpellsSegment e segment records
-in_use_spells e segment records used = record { content = used.content; text = used.text; spelled = used.spelled }
+pub in_use_encodes : (e : ℕ) (segment : List ℕ) (records : List Record) → IsInUse e segment records → EncodesSegment e segment records
+in_use_encodes e segment records used = record { content = used.content; encoding = used.encoding; encoded = used.encoded }
 
 some_with_tail : (rest tail : List ℕ) → 0 < length rest → 0 < length (take 1 rest ++ tail)
 some_with_tail [] tail some = absurd (omega (arith, some))
@@ -200,33 +200,33 @@ gate_and_tail : (rest tail : List ℕ) → 0 < length rest → IsClosed rest →
 gate_and_tail [] tail some shut = absurd (omega (arith, some))
 gate_and_tail (gate ∷ rest) tail some shut = shut
 
-pub cut_spells : (e : ℕ) (segment batches after : List ℕ) (records : List Record) (size end : ℕ) → segment ≡ segment_header open_gate e ++ batches → (counted : SpellsCounted batches records size) → end ≡ 16 + size → 0 < length counted.spelled.rest
-    → take (end + 1) after ≡ take (end + 1) segment → (known : SpellsSegment e after records) × (0 < length known.spelled.rest)
-cut_spells e segment batches after records size end is counted placed some same =
-    let spelled = counted.spelled in
+pub cut_encodes : (e : ℕ) (segment batches after : List ℕ) (records : List Record) (size end : ℕ) → segment ≡ segment_header open_gate e ++ batches → (counted : EncodesCounted batches records size) → end ≡ 16 + size → 0 < length counted.encoded.rest
+    → take (end + 1) after ≡ take (end + 1) segment → (known : EncodesSegment e after records) × (0 < length known.encoded.rest)
+cut_encodes e segment batches after records size end is counted placed some same =
+    let encoded = counted.encoded in
     let header : List ℕ = segment_header open_gate e in
-    let text : List ℕ = batches_text 0 spelled.batches in
+    let encoding : List ℕ = batches_encoding 0 encoded.batches in
     let tail : List ℕ = drop (end + 1) after in
-    let sized : size ≡ length text = omega (arith, counted.sized, ap length spelled.text, length-append text spelled.rest) in
-    let joined : segment ≡ (header ++ text) ++ spelled.rest = is ∙ ap (λ l. header ++ l) spelled.text ∙ sym (append_assoc header text spelled.rest) in
-    let long : end + 1 ≡ length (header ++ text) + 1 = omega (arith, placed, sized, length-append header text) in
-    let front : take (end + 1) after ≡ (header ++ text) ++ take 1 spelled.rest =
-    same ∙ (λ i. take (long i) (joined i)) ∙ take-append-add (header ++ text) spelled.rest 1 in
-    let whole : after ≡ header ++ (text ++ (take 1 spelled.rest ++ tail)) =
-    sym (take-append-drop (end + 1) after) ∙ ap (λ l. l ++ tail) front ∙ append_assoc (header ++ text) (take 1 spelled.rest) tail ∙ append_assoc header text (take 1 spelled.rest ++ tail) in (
+    let sized : size ≡ length encoding = omega (arith, counted.sized, ap length encoded.encoding, length-append encoding encoded.rest) in
+    let joined : segment ≡ (header ++ encoding) ++ encoded.rest = is ∙ ap (λ l. header ++ l) encoded.encoding ∙ sym (append_assoc header encoding encoded.rest) in
+    let long : end + 1 ≡ length (header ++ encoding) + 1 = omega (arith, placed, sized, length-append header encoding) in
+    let front : take (end + 1) after ≡ (header ++ encoding) ++ take 1 encoded.rest =
+    same ∙ (λ i. take (long i) (joined i)) ∙ take-append-add (header ++ encoding) encoded.rest 1 in
+    let whole : after ≡ header ++ (encoding ++ (take 1 encoded.rest ++ tail)) =
+    sym (take-append-drop (end + 1) after) ∙ ap (λ l. l ++ tail) front ∙ append_assoc (header ++ encoding) (take 1 encoded.rest) tail ∙ append_assoc header encoding (take 1 encoded.rest ++ tail) in (
       record {
-        content = text ++ (take 1 spelled.rest ++ tail);
-        text = whole;
-        spelled = record {
-          batches = spelled.batches;
-          rest = take 1 spelled.rest ++ tail;
-          text = refl;
-          closed = gate_and_tail spelled.rest tail some spelled.closed;
-          none_empty = spelled.none_empty;
-          flat = spelled.flat;
-          canonical = spelled.canonical;
-          bounded = spelled.bounded;
+        content = encoding ++ (take 1 encoded.rest ++ tail);
+        encoding = whole;
+        encoded = record {
+          batches = encoded.batches;
+          rest = take 1 encoded.rest ++ tail;
+          encoding = refl;
+          closed = gate_and_tail encoded.rest tail some encoded.closed;
+          none_empty = encoded.none_empty;
+          flat = encoded.flat;
+          canonical = encoded.canonical;
+          bounded = encoded.bounded;
         };
       },
-      some_with_tail spelled.rest tail some,
+      some_with_tail encoded.rest tail some,
     )

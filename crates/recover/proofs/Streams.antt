@@ -4,10 +4,10 @@ use Rattle.std.specs.Prelude.{◌↔◌}
 use Rattle.ipc_model.specs.declared.record.Record.{Record}
 use Rattle.ipc_model.specs.state.State.{State}
 use Rattle.ipc_model.specs.calls.Step.{Step, Run}
-use Rattle.ipc_model.specs.store.Store.{batches_text, all_records, IsClosed, NoneEmpty, AreRecords, SpellsBatches}
-use Rattle.ipc_model.specs.texts.Texts.{records_text}
-use Rattle.ipc_laws.specs.Counted.{SpellsCounted}
-use Rattle.journal.specs.Reading.{MAX_RECORDS, Place, SpellsFrom, Leads, IsLast, IsNothing}
+use Rattle.ipc_model.specs.store.Store.{batches_encoding, all_records, IsClosed, NoneEmpty, AreRecords, EncodesBatches}
+use Rattle.ipc_model.specs.encodings.Encodings.{records_encoding}
+use Rattle.ipc_laws.specs.Counted.{EncodesCounted}
+use Rattle.journal.specs.Reading.{MAX_RECORDS, Place, EncodesFrom, Leads, IsLast, IsNothing}
 use Rattle.recover.specs.Replayed.{Replays, ReplaysAll}
 
 -- What is left to be replayed from here on, in this state, is what was to be replayed at first.
@@ -15,13 +15,13 @@ pub record IsLeft (segment : List ℕ) (first place : Place) (old now : State) :
   pub same : (state : State) (count end : ℕ) → Replays segment place now state count end ↔ Replays segment first old state count end
 
 -- the records after the first, from the state after it
-behind : (segment : List ℕ) (place next : Place) (entry : Record) (now mid state : State) (records more : List Record) (count end : ℕ) → records ≡ entry ∷ more → SpellsFrom segment next more end
+behind : (segment : List ℕ) (place next : Place) (entry : Record) (now mid state : State) (records more : List Record) (count end : ℕ) → records ≡ entry ∷ more → EncodesFrom segment next more end
     → ((other : State) → Step now entry.space entry.call entry.reply other → other ≡ mid) → next.number ≡ place.number + 1 → Run now records state → count ≡ place.number + length records → Replays segment next mid state count end
-behind segment place next entry now mid state records more count end are spelled only numbered run counted =
+behind segment place next entry now mid state records more count end are encoded only numbered run counted =
     let first : Run now (entry ∷ more) state = subst (λ (l : List Record). Run now l state) are run in
     record {
       records = more;
-      spelled = spelled;
+      encoded = encoded;
       run = subst (λ (s : State). Run s more state) (only first.0 first.1) first.2;
       counted = omega (arith, ap length are);
     }
@@ -32,13 +32,13 @@ left_on segment first place next entry old now mid so_far leads numbered step on
   same = λ state count end. (
     λ r. (so_far.same state count end).0 (record {
       records = entry ∷ r.records;
-      spelled = (leads.on (entry ∷ r.records) end).1 (r.records, refl, r.spelled);
+      encoded = (leads.on (entry ∷ r.records) end).1 (r.records, refl, r.encoded);
       run = (mid, step, r.run);
       counted = omega (arith, r.counted);
     }),
     λ r.
         let here = (so_far.same state count end).1 r in
-        let apart = (leads.on here.records end).0 here.spelled in
+        let apart = (leads.on here.records end).0 here.encoded in
         behind segment place next entry now mid state here.records apart.0 count end apart.1 apart.2 only numbered here.run here.counted,
   );
 }
@@ -48,70 +48,70 @@ pub none_left : (segment : List ℕ) (first place next : Place) (entry : Record)
     → ((new : State) → Step now entry.space entry.call entry.reply new → ⊥) → (state : State) (count end : ℕ) → Replays segment first old state count end → ⊥
 none_left segment first place next entry old now so_far leads fails state count end r =
     let here = (so_far.same state count end).1 r in
-    let apart = (leads.on here.records end).0 here.spelled in
+    let apart = (leads.on here.records end).0 here.encoded in
     let run : Run now (entry ∷ apart.0) state = subst (λ (l : List Record). Run now l state) apart.1 here.run in
     fails run.0 run.1
 
 -- bytes that encode nothing
 pub unread : (segment : List ℕ) (first place : Place) (old now : State) → IsLeft segment first place old now → IsNothing segment place → (state : State) (count end : ℕ) → Replays segment first old state count end → ⊥
 unread segment first place old now so_far nothing state count end r =
-    let here = (so_far.same state count end).1 r in nothing here.records end here.spelled
+    let here = (so_far.same state count end).1 r in nothing here.records end here.encoded
 
 -- no record is left
 pub all_replayed : (segment : List ℕ) (first place : Place) (old now : State) → IsLeft segment first place old now → IsLast segment place → Replays segment first old now place.number place.at
 all_replayed segment first place old now so_far last =
-    (so_far.same now place.number place.at).0 (record { records = []; spelled = last; run = refl; counted = omega arith })
+    (so_far.same now place.number place.at).0 (record { records = []; encoded = last; run = refl; counted = omega arith })
 
 -- where a reader begins
 abbrev pub first_place : ℕ → Place
 first_place batches = record { at = batches; number = 0; left = 0; size = 0 }
 
-counted_from : (segment : List ℕ) (batches end : ℕ) (records batch : List Record) (all : List (List Record)) (tail : List ℕ) → batches ≤ length segment → length batch ≡ 0 → drop batches segment ≡ records_text 0 batch ++ (batches_text (0 + length batch) all ++ tail)
+counted_from : (segment : List ℕ) (batches end : ℕ) (records batch : List Record) (all : List (List Record)) (tail : List ℕ) → batches ≤ length segment → length batch ≡ 0 → drop batches segment ≡ records_encoding 0 batch ++ (batches_encoding (0 + length batch) all ++ tail)
     → IsClosed tail → NoneEmpty all → records ≡ batch ++ all_records all → AreRecords records → length records ≤ MAX_RECORDS → end + length tail ≡ length segment
-    → SpellsCounted (drop batches segment) records (end - batches) × (batches ≤ end) × (end ≤ length segment)
-counted_from segment batches end records (first ∷ batch) all tail inside none text closed some flat are room ended = absurd (omega arith)
-counted_from segment batches end records [] all tail inside none text closed some flat are room ended =
-    let long : length (drop batches segment) ≡ length (batches_text 0 all) + length tail = ap length text ∙ length-append (batches_text 0 all) tail in
+    → EncodesCounted (drop batches segment) records (end - batches) × (batches ≤ end) × (end ≤ length segment)
+counted_from segment batches end records (first ∷ batch) all tail inside none encoding closed some flat are room ended = absurd (omega arith)
+counted_from segment batches end records [] all tail inside none encoding closed some flat are room ended =
+    let long : length (drop batches segment) ≡ length (batches_encoding 0 all) + length tail = ap length encoding ∙ length-append (batches_encoding 0 all) tail in
     let left : length (drop batches segment) ≡ length segment - batches = length-drop batches segment in (
       record {
-        spelled = record { batches = all; rest = tail; text = text; closed = closed; none_empty = some; flat = flat; canonical = are; bounded = room };
+        encoded = record { batches = all; rest = tail; encoding = encoding; closed = closed; none_empty = some; flat = flat; canonical = are; bounded = room };
         sized = omega arith;
       },
       omega arith,
       omega arith,
     )
 
-pub counted_first : (segment : List ℕ) (batches end : ℕ) (records : List Record) → batches ≤ length segment → SpellsFrom segment (first_place batches) records end
-    → SpellsCounted (drop batches segment) records (end - batches) × (batches ≤ end) × (end ≤ length segment)
-counted_first segment batches end records inside spells =
-    counted_from segment batches end records spells.batch spells.batches spells.tail inside spells.counted spells.text spells.closed spells.none_empty spells.flat spells.canonical (omega (arith, spells.bounded)) spells.ended
+pub counted_first : (segment : List ℕ) (batches end : ℕ) (records : List Record) → batches ≤ length segment → EncodesFrom segment (first_place batches) records end
+    → EncodesCounted (drop batches segment) records (end - batches) × (batches ≤ end) × (end ≤ length segment)
+counted_first segment batches end records inside encodes =
+    counted_from segment batches end records encodes.batch encodes.batches encodes.tail inside encodes.counted encodes.encoding encodes.closed encodes.none_empty encodes.flat encodes.canonical (omega (arith, encodes.bounded)) encodes.ended
 
-pub first_spells : (segment : List ℕ) (batches : ℕ) (records : List Record) → batches ≤ length segment → (spelled : SpellsBatches (drop batches segment) records)
-    → SpellsFrom segment (first_place batches) records (length segment - length spelled.rest)
-first_spells segment batches records inside spelled =
-    let long : length (drop batches segment) ≡ length (batches_text 0 spelled.batches) + length spelled.rest = ap length spelled.text ∙ length-append (batches_text 0 spelled.batches) spelled.rest in
+pub first_encodes : (segment : List ℕ) (batches : ℕ) (records : List Record) → batches ≤ length segment → (encoded : EncodesBatches (drop batches segment) records)
+    → EncodesFrom segment (first_place batches) records (length segment - length encoded.rest)
+first_encodes segment batches records inside encoded =
+    let long : length (drop batches segment) ≡ length (batches_encoding 0 encoded.batches) + length encoded.rest = ap length encoded.encoding ∙ length-append (batches_encoding 0 encoded.batches) encoded.rest in
     record {
       batch = [];
-      batches = spelled.batches;
-      tail = spelled.rest;
-      text = spelled.text;
+      batches = encoded.batches;
+      tail = encoded.rest;
+      encoding = encoded.encoding;
       counted = refl;
       sized = refl;
-      closed = spelled.closed;
-      none_empty = spelled.none_empty;
-      flat = spelled.flat;
-      canonical = spelled.canonical;
-      bounded = omega (arith, spelled.bounded);
+      closed = encoded.closed;
+      none_empty = encoded.none_empty;
+      flat = encoded.flat;
+      canonical = encoded.canonical;
+      bounded = omega (arith, encoded.bounded);
       ended = omega (arith, length-drop batches segment);
     }
 
 pub never_replayed : (segment : List ℕ) (batches : ℕ) (old : State) → batches ≤ length segment → ((state : State) (count end : ℕ) → Replays segment (first_place batches) old state count end → ⊥)
-    → (records : List Record) (state : State) → SpellsBatches (drop batches segment) records → Run old records state → ⊥
-never_replayed segment batches old inside none records state spelled run =
-    none state (length records) (length segment - length spelled.rest) (record { records = records; spelled = first_spells segment batches records inside spelled; run = run; counted = omega arith })
+    → (records : List Record) (state : State) → EncodesBatches (drop batches segment) records → Run old records state → ⊥
+never_replayed segment batches old inside none records state encoded run =
+    none state (length records) (length segment - length encoded.rest) (record { records = records; encoded = first_encodes segment batches records inside encoded; run = run; counted = omega arith })
 
 -- all that was replayed, from the first batch on
 pub replayed_all : (segment : List ℕ) (old new : State) (count end : ℕ) → 16 ≤ length segment → Replays segment (first_place 16) old new count end → ReplaysAll segment old new count end
 replayed_all segment old new count end inside replays =
-    let counted = counted_first segment 16 end replays.records inside replays.spelled in
-    record { records = replays.records; spelled = counted.0; run = replays.run; counted = omega (arith, replays.counted); behind = counted.1; inside = counted.2 }
+    let counted = counted_first segment 16 end replays.records inside replays.encoded in
+    record { records = replays.records; encoded = counted.0; run = replays.run; counted = omega (arith, replays.counted); behind = counted.1; inside = counted.2 }

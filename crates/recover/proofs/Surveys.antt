@@ -6,11 +6,11 @@ use Rattle.disk.specs.Slots.{Slots, slot_of}
 use Rattle.ipc_laws.specs.RecoveryLaws.{image_header_is, image_is_open, one_epoch, segment_is_open}
 use Rattle.ipc_model.specs.declared.record.Record.{Record}
 use Rattle.ipc_model.specs.state.State.{State}
-use Rattle.ipc_model.specs.store.Recovery.{Continues, HasOtherVersion, HoldsImage, IsNew, IsOfEpoch, IsOpen, IsStored, Spells, image_header, segment_header_length}
-use Rattle.ipc_model.specs.store.Store.{SpellsSegment}
+use Rattle.ipc_model.specs.store.Recovery.{Continues, HasOtherVersion, HoldsImage, IsNew, IsOfEpoch, IsOpen, IsStored, Encodes, image_header, segment_header_length}
+use Rattle.ipc_model.specs.store.Store.{EncodesSegment}
 use Rattle.slot_steps.specs.Steps.{image_slot, segment_slot}
-use Rattle.standing.specs.Standing.{as_written}
-use Rattle.standing.specs.Slots.{image_at, segment_at, one_of_two}
+use Rattle.store_layout.specs.Standing.{as_written}
+use Rattle.store_layout.specs.Slots.{image_at, segment_at, one_of_two}
 use Rattle.recover.specs.Headers.{IsForeign, SayAll, Says, TellAll, Tells}
 use Rattle.recover.specs.Surveyed.{Adjoins, IsLatest, IsNoLater}
 use Rattle.recover.specs.declared.headers.Header.{Header}
@@ -45,10 +45,10 @@ tell_odd s e a b c d odd t =
 
 -- the epoch that a slot is of is the only one
 told_epoch : (length number n e o : ℕ) (slot : List ℕ) → Tells length number slot (Some o) → IsOfEpoch n e slot → o ≡ e
-told_epoch length number n e o slot tells is = one_epoch o e tells.1.rest is.rest tells.1.fits is.fits (sym tells.1.text ∙ is.text)
+told_epoch length number n e o slot tells is = one_epoch o e tells.1.rest is.rest tells.1.fits is.fits (sym tells.1.encoding ∙ is.encoding)
 
-spelled_epoch : (e : ℕ) (slot : List ℕ) (records : List Record) → e < 2 ^ 64 → SpellsSegment e slot records → IsOfEpoch (e % 2) e slot
-spelled_epoch e slot records fits spelled = record { rest = spelled.content; text = spelled.text; fits = fits; of_number = refl }
+encoded_epoch : (e : ℕ) (slot : List ℕ) (records : List Record) → e < 2 ^ 64 → EncodesSegment e slot records → IsOfEpoch (e % 2) e slot
+encoded_epoch e slot records fits encoded = record { rest = encoded.content; encoding = encoded.encoding; fits = fits; of_number = refl }
 
 -- if the disk encodes something, its epoch is the latest image's
 
@@ -79,22 +79,22 @@ epoch_is s e other own_segment other_segment tells latest base records stored =
     let least : e ≤ stored.epoch = stored.latest (e % 2) e (omega arith) (subst (IsOpen image_header) (sym (image_at s e)) tells.image.0) (subst (IsOfEpoch (e % 2) e) (sym (image_at s e)) tells.image.1) in
     omega (arith, least, at_most s e other own_segment other_segment tells latest base records stored)
 
-own_told : (e : ℕ) (slot : List ℕ) (o : Option ℕ) (records : List Record) → Tells segment_header_length (e % 2) slot o → e < 2 ^ 64 → SpellsSegment e slot records → o ≡ Some e
-own_told e slot None records told fits spelled = absurd (told (segment_is_open e slot records spelled))
-own_told e slot (Some o) records told fits spelled = ap Some (told_epoch segment_header_length (e % 2) (e % 2) e o slot told (spelled_epoch e slot records fits spelled))
+own_told : (e : ℕ) (slot : List ℕ) (o : Option ℕ) (records : List Record) → Tells segment_header_length (e % 2) slot o → e < 2 ^ 64 → EncodesSegment e slot records → o ≡ Some e
+own_told e slot None records told fits encoded = absurd (told (segment_is_open e slot records encoded))
+own_told e slot (Some o) records told fits encoded = ap Some (told_epoch segment_header_length (e % 2) (e % 2) e o slot told (encoded_epoch e slot records fits encoded))
 
 other_told : (e : ℕ) (slot : List ℕ) (o : Option ℕ) (next : List Record) → Tells segment_header_length ((e + 1) % 2) slot o → Continues e slot next → (o ≡ Some (e + 1)) ⊎ Adjoins e o
 other_told e slot None next told continues = inr tt
 other_told e slot (Some o) next told (inl closed) = absurd (closed.0 told.0)
 other_told e slot (Some o) next told (inr (inl before)) = inr (omega (arith, before.1, told_epoch segment_header_length ((e + 1) % 2) (before.0 % 2) before.0 o slot told before.2))
-other_told e slot (Some o) next told (inr (inr spelled)) = inl (ap Some (told_epoch segment_header_length ((e + 1) % 2) ((e + 1) % 2) (e + 1) o slot told (spelled_epoch (e + 1) slot next spelled.0 spelled.1)))
+other_told e slot (Some o) next told (inr (inr encoded)) = inl (ap Some (told_epoch segment_header_length ((e + 1) % 2) ((e + 1) % 2) (e + 1) o slot told (encoded_epoch (e + 1) slot next encoded.0 encoded.1)))
 
 -- the parts of a store in use of this epoch, by slots
 pub record PartsOf (s : Slots) (e : ℕ) (base : State) (records : List Record) : Type 0 where
   pub first : List Record
   pub next : List Record
   pub image : HoldsImage e (slot_of s (image_slot e)) base
-  pub segment : SpellsSegment e (slot_of s (segment_slot e)) first
+  pub segment : EncodesSegment e (slot_of s (segment_slot e)) first
   pub other : Continues e (slot_of s (segment_slot (e + 1))) next
   pub joined : records ≡ first ++ next
 
@@ -104,7 +104,7 @@ parts_of s e base records stored is =
       first = stored.first;
       next = stored.next;
       image = subst (λ l. HoldsImage stored.epoch l base) (image_at s stored.epoch) stored.image;
-      segment = subst (λ l. SpellsSegment stored.epoch l stored.first) (segment_at s stored.epoch) stored.segment;
+      segment = subst (λ l. EncodesSegment stored.epoch l stored.first) (segment_at s stored.epoch) stored.segment;
       other = subst (λ l. Continues stored.epoch l stored.next) (segment_at s (stored.epoch + 1)) stored.other;
       joined = stored.joined;
     } in
@@ -115,8 +115,8 @@ pub never_new : (s : Slots) (e : ℕ) → IsOpen image_header (slot_of s (image_
 never_new s e is_open new = new.no_image (e % 2) (omega arith) (subst (IsOpen image_header) (sym (image_at s e)) is_open)
 
 pub told_damaged : (s : Slots) (e : ℕ) (other own_segment other_segment : Option ℕ) → TellOf s e (Some e) other own_segment other_segment → IsLatest e other
-    → (own_segment ≢ Some e) ⊎ ((other_segment ≢ Some (e + 1)) × (Adjoins e other_segment → ⊥)) → (base : State) (records : List Record) → Spells (as_written s) base records → ⊥
-told_damaged s e other own_segment other_segment tells latest wrong base records spelled = elim spelled.reading as (λ _. ⊥) [
+    → (own_segment ≢ Some e) ⊎ ((other_segment ≢ Some (e + 1)) × (Adjoins e other_segment → ⊥)) → (base : State) (records : List Record) → Encodes (as_written s) base records → ⊥
+told_damaged s e other own_segment other_segment tells latest wrong base records encoded = elim encoded.reading as (λ _. ⊥) [
   | inl new ↦ never_new s e tells.image.0 new.0
   | inr stored ↦
       let parts = parts_of s e base records stored (epoch_is s e other own_segment other_segment tells latest base records stored) in
@@ -145,8 +145,8 @@ first_none_or_0 s None told new = inl refl
 first_none_or_0 s (Some o) told new = inr (ap Some (new.unused 0 o (omega arith) told.0 told.1).0)
 
 pub unused_damaged : (s : Slots) (segment0 segment1 : Option ℕ) → TellAll s None None segment0 segment1 → (segment1 ≢ None) ⊎ ((segment0 ≢ None) × (segment0 ≢ Some 0))
-    → (base : State) (records : List Record) → Spells (as_written s) base records → ⊥
-unused_damaged s segment0 segment1 tells wrong base records spelled = elim spelled.reading as (λ _. ⊥) [
+    → (base : State) (records : List Record) → Encodes (as_written s) base records → ⊥
+unused_damaged s segment0 segment1 tells wrong base records encoded = elim encoded.reading as (λ _. ⊥) [
   | inl new ↦ elim wrong as (λ _. ⊥) [
     | inl second ↦ second (second_none s segment1 tells.segment1 new.0)
     | inr first ↦ elim (first_none_or_0 s segment0 tells.segment0 new.0) as (λ _. ⊥) [ inl none ↦ first.0 none | inr zero_is ↦ first.1 zero_is ]
@@ -157,22 +157,22 @@ unused_damaged s segment0 segment1 tells wrong base records spelled = elim spell
 -- headers
 
 of_version_one : (header number epoch : ℕ) (slot : List ℕ) → IsOfEpoch number epoch slot → HasOtherVersion header slot → ⊥
-of_version_one header number epoch slot is other = other.1 (ap (λ (l : List ℕ). slice_index l 1) is.text)
+of_version_one header number epoch slot is other = other.1 (ap (λ (l : List ℕ). slice_index l 1) is.encoding)
 
 -- a header that no slot of its number may have
 foreign_fails : (header number : ℕ) (slot : List ℕ) (h : Header) → Says header slot h → IsForeign h number → (IsOpen header slot → (epoch : ℕ) × IsOfEpoch number epoch slot) → ⊥
 foreign_fails header number slot Closed says foreign fits = foreign
 foreign_fails header number slot (Open epoch) says foreign fits =
     let known = fits says.0 in
-    foreign (ap (λ e. e % 2) (one_epoch epoch known.0 says.1.rest known.1.rest says.1.fits known.1.fits (sym says.1.text ∙ known.1.text)) ∙ known.1.of_number)
+    foreign (ap (λ e. e % 2) (one_epoch epoch known.0 says.1.rest known.1.rest says.1.fits known.1.fits (sym says.1.encoding ∙ known.1.encoding)) ∙ known.1.of_number)
 foreign_fails header number slot OtherVersion says foreign fits = let known = fits says.0 in of_version_one header number known.0 slot known.1 says
 foreign_fails header number slot Unreadable says foreign fits = let known = fits says.0 in says.2 number known.0 known.1
 
 pub foreign_damaged : (s : Slots) (image0 image1 segment0 segment1 : Header) → SayAll s image0 image1 segment0 segment1
-    → IsForeign image0 0 ⊎ (IsForeign image1 1 ⊎ (IsForeign segment0 0 ⊎ IsForeign segment1 1)) → (base : State) (records : List Record) → Spells (as_written s) base records → ⊥
-foreign_damaged s image0 image1 segment0 segment1 says foreign base records spelled =
-    let zero_fits = spelled.headers 0 (omega arith) in
-    let one_fits = spelled.headers 1 (omega arith) in
+    → IsForeign image0 0 ⊎ (IsForeign image1 1 ⊎ (IsForeign segment0 0 ⊎ IsForeign segment1 1)) → (base : State) (records : List Record) → Encodes (as_written s) base records → ⊥
+foreign_damaged s image0 image1 segment0 segment1 says foreign base records encoded =
+    let zero_fits = encoded.headers 0 (omega arith) in
+    let one_fits = encoded.headers 1 (omega arith) in
     elim foreign as (λ _. ⊥) [
       | inl a ↦ foreign_fails image_header 0 s.image0 image0 says.image0 a zero_fits.0
       | inr others ↦ elim others as (λ _. ⊥) [
@@ -189,7 +189,7 @@ pub says_tells : (header number : ℕ) (slot : List ℕ) (h : Header) (o : Optio
 says_tells header number slot h o says (inl none) = subst (Tells header number slot) (sym none.0) (subst (Says header slot) none.1 says)
 says_tells header number slot h o says (inr some) =
     let said = subst (Says header slot) some.2 says in
-    subst (Tells header number slot) (sym some.1) (said.0, record { rest = said.1.rest; text = said.1.text; fits = said.1.fits; of_number = some.3 })
+    subst (Tells header number slot) (sym some.1) (said.0, record { rest = said.1.rest; encoding = said.1.encoding; fits = said.1.fits; of_number = some.3 })
 
 pub tells_of : (header number : ℕ) (slot : List ℕ) (h : Header) (o : Option ℕ) → Says header slot h → IfSome o (λ epoch. (h ≡ Open epoch) × (epoch % 2 ≡ number)) → IfNone o (h ≡ Closed) → Tells header number slot o
 tells_of header number slot h None says some none = says_tells header number slot h None says (inl (refl, none))

@@ -4,48 +4,48 @@ use Rattle.std.specs.Prelude.{◌-◌, min}
 use Rattle.std.proofs.lemmas.List.{append-nil, drop-drop, take_at}
 use Rattle.words.specs.WordLaws.{same_long_word}
 use Rattle.words.specs.Words.{long_word}
-use Rattle.ipc_model.specs.state.Circular.{Grounded}
+use Rattle.ipc_model.specs.state.Circular.{Acyclic}
 use Rattle.ipc_model.specs.state.Lawful.{Lawful, ShortQueues}
 use Rattle.ipc_model.specs.state.State.{State}
 use Rattle.ipc_model.specs.store.Recovery.{HoldsImage, IsImageOf, IsOfEpoch}
 use Rattle.ipc_model.specs.store.Store.{image_content, open_gate, segment_header}
-use Rattle.ipc_model.specs.texts.Images.{image_text}
+use Rattle.ipc_model.specs.encodings.Images.{image_encoding}
 use Rattle.image.specs.Fitting.{FitsImage}
 use Rattle.image.specs.LawfulFits.{lawful_snapshots_fit}
 use Rattle.image.specs.RowLaws.{image_of_state}
-use Rattle.image.specs.Rows.{snapshot_text}
+use Rattle.image.specs.Rows.{snapshot_encoding}
 use Rattle.snapshot.specs.LawfulSnapshot.{IsLawfulSnapshot}
 use Rattle.snapshot.specs.Rows.{one_state}
 use Rattle.snapshot.specs.Snapshots.{snapshot_of}
 use Rattle.snapshot.specs.declared.rows.Snapshot.{Snapshot}
-use Rattle.recover.specs.Loaded.{HoldsText}
+use Rattle.recover.specs.Loaded.{HoldsEncoding}
 
 -- bytes that follow their length are determined
-pub one_text : (a b x y : List ℕ) → length a < 2 ^ 64 → length b < 2 ^ 64 → long_word (length a) ++ (a ++ x) ≡ long_word (length b) ++ (b ++ y) → a ≡ b
-one_text a b x y fits fits_too is =
+pub one_encoding : (a b x y : List ℕ) → length a < 2 ^ 64 → length b < 2 ^ 64 → long_word (length a) ++ (a ++ x) ≡ long_word (length b) ++ (b ++ y) → a ≡ b
+one_encoding a b x y fits fits_too is =
     let long : length a ≡ length b = same_long_word (length a) (length b) (a ++ x) (b ++ y) fits fits_too is in
     let behind : a ++ x ≡ b ++ y = ap (λ (l : List ℕ). drop 8 l) is in
     sym (take_at a x (length b) long) ∙ ap (take (length b)) behind ∙ take_at b y (length b) refl
 
 -- the image of a state, and its encoding
-pub image_behind : (epoch : ℕ) (slot : List ℕ) (state : State) → HoldsImage epoch slot state → HoldsText slot (image_text state)
-image_behind epoch slot state image = record {
+pub image_after : (epoch : ℕ) (slot : List ℕ) (state : State) → HoldsImage epoch slot state → HoldsEncoding slot (image_encoding state)
+image_after epoch slot state image = record {
   rest = image.rest;
   fits = image.fits;
-  behind = ap (λ (l : List ℕ). drop 16 l) image.text ∙ append_assoc (long_word (length (image_text state))) (image_text state) image.rest;
+  behind = ap (λ (l : List ℕ). drop 16 l) image.encoding ∙ append_assoc (long_word (length (image_encoding state))) (image_encoding state) image.rest;
 }
 
-pub text_is_image : (number epoch : ℕ) (slot text : List ℕ) (state : State) → IsOfEpoch number epoch slot → HoldsText slot text → IsImageOf text state → HoldsImage epoch slot state
-text_is_image number epoch slot text state is holds image =
-    let same : drop 16 slot ≡ is.rest = ap (λ (l : List ℕ). drop 16 l) is.text in
-    let whole : slot ≡ segment_header open_gate epoch ++ (long_word (length text) ++ (text ++ holds.rest)) = is.text ∙ ap (λ (l : List ℕ). segment_header open_gate epoch ++ l) (sym same ∙ holds.behind) in
+pub encoding_is_image : (number epoch : ℕ) (slot encoding : List ℕ) (state : State) → IsOfEpoch number epoch slot → HoldsEncoding slot encoding → IsImageOf encoding state → HoldsImage epoch slot state
+encoding_is_image number epoch slot encoding state is holds image =
+    let same : drop 16 slot ≡ is.rest = ap (λ (l : List ℕ). drop 16 l) is.encoding in
+    let whole : slot ≡ segment_header open_gate epoch ++ (long_word (length encoding) ++ (encoding ++ holds.rest)) = is.encoding ∙ ap (λ (l : List ℕ). segment_header open_gate epoch ++ l) (sym same ∙ holds.behind) in
     record {
       rest = holds.rest;
-      text = whole ∙ ap (λ (l : List ℕ). segment_header open_gate epoch ++ l) (sym (append_assoc (long_word (length text)) text holds.rest))
-          ∙ ap (λ (t : List ℕ). (open_gate ∷ image_content epoch t) ++ holds.rest) image.text_is;
-      fits = subst (λ (t : List ℕ). length t < 2 ^ 64) image.text_is holds.fits;
+      encoding = whole ∙ ap (λ (l : List ℕ). segment_header open_gate epoch ++ l) (sym (append_assoc (long_word (length encoding)) encoding holds.rest))
+          ∙ ap (λ (t : List ℕ). (open_gate ∷ image_content epoch t) ++ holds.rest) image.encoding_is;
+      fits = subst (λ (t : List ℕ). length t < 2 ^ 64) image.encoding_is holds.fits;
       lawful = image.lawful;
-      grounded = image.grounded;
+      acyclic = image.acyclic;
       short = image.short;
     }
 
@@ -63,9 +63,9 @@ word_read slot buffer old behind n size long one count bytes found =
     nothing (x ∷ l) is = absurd (omega (arith, is))
 
 -- an encoding that is read after a slot's whole header
-pub text_read : (slot buffer old rest : List ℕ) (n size : ℕ) → drop 16 slot ≡ long_word size ++ rest → size < 2 ^ 64 → size ≤ length slot - 24 → 24 ≤ length slot → length old ≡ size → n ≡ min (length old) (length slot - 24)
-    → buffer ≡ take n (drop 24 slot) ++ drop n old → HoldsText slot buffer
-text_read slot buffer old rest n size word fits room long made count bytes =
+pub encoding_read : (slot buffer old rest : List ℕ) (n size : ℕ) → drop 16 slot ≡ long_word size ++ rest → size < 2 ^ 64 → size ≤ length slot - 24 → 24 ≤ length slot → length old ≡ size → n ≡ min (length old) (length slot - 24)
+    → buffer ≡ take n (drop 24 slot) ++ drop n old → HoldsEncoding slot buffer
+encoding_read slot buffer old rest n size word fits room long made count bytes =
     let all : n ≡ size = omega (arith, room, long, made, count) in
     let none : drop size old ≡ [] = nothing (drop size old) (omega (arith, length-drop size old, made)) in
     let front : buffer ≡ take size (drop 24 slot) = bytes ∙ (λ i. take (all i) (drop 24 slot) ++ drop (all i) old) ∙ ap (λ (l : List ℕ). take size (drop 24 slot) ++ l) none ∙ append-nil (take size (drop 24 slot)) in
@@ -87,24 +87,24 @@ text_read slot buffer old rest n size word fits room long made count bytes =
 
 -- the image of a lawful state, read as rows
 
-pub image_fits : (text : List ℕ) (state : State) → IsImageOf text state → FitsImage (snapshot_of state)
-image_fits text state is = lawful_snapshots_fit state is.lawful is.short
+pub image_fits : (encoding : List ℕ) (state : State) → IsImageOf encoding state → FitsImage (snapshot_of state)
+image_fits encoding state is = lawful_snapshots_fit state is.lawful is.short
 
-pub image_as_rows : (text : List ℕ) (state : State) → IsImageOf text state → text ≡ snapshot_text (snapshot_of state)
-image_as_rows text state is = is.text_is ∙ sym (image_of_state state)
+pub image_as_rows : (encoding : List ℕ) (state : State) → IsImageOf encoding state → encoding ≡ snapshot_encoding (snapshot_of state)
+image_as_rows encoding state is = is.encoding_is ∙ sym (image_of_state state)
 
-pub rows_are_image : (text : List ℕ) (snapshot : Snapshot) (state : State) → text ≡ snapshot_text snapshot → snapshot ≡ snapshot_of state → IsLawfulSnapshot snapshot → IsImageOf text state
-rows_are_image text snapshot state is same lawful =
+pub rows_are_image : (encoding : List ℕ) (snapshot : Snapshot) (state : State) → encoding ≡ snapshot_encoding snapshot → snapshot ≡ snapshot_of state → IsLawfulSnapshot snapshot → IsImageOf encoding state
+rows_are_image encoding snapshot state is same lawful =
     let one : lawful.state ≡ state = one_state lawful.state state (sym lawful.same ∙ same) in
     record {
-      text_is = is ∙ ap snapshot_text same ∙ image_of_state state;
+      encoding_is = is ∙ ap snapshot_encoding same ∙ image_of_state state;
       lawful = subst Lawful one lawful.lawful;
-      grounded = subst Grounded one lawful.grounded;
+      acyclic = subst Acyclic one lawful.acyclic;
       short = subst ShortQueues one lawful.short;
     }
 
-pub lawful_rows : (text : List ℕ) (snapshot : Snapshot) (state : State) → snapshot ≡ snapshot_of state → IsImageOf text state → IsLawfulSnapshot snapshot
-lawful_rows text snapshot state same is = record { state = state; same = same; lawful = is.lawful; grounded = is.grounded; short = is.short }
+pub lawful_rows : (encoding : List ℕ) (snapshot : Snapshot) (state : State) → snapshot ≡ snapshot_of state → IsImageOf encoding state → IsLawfulSnapshot snapshot
+lawful_rows encoding snapshot state same is = record { state = state; same = same; lawful = is.lawful; acyclic = is.acyclic; short = is.short }
 
 -- a vector that was filled to its end
 pub filled : (buffer items : List ℕ) (len : ℕ) → len ≡ length buffer → take len (buffer ++ drop (length buffer) items) ≡ buffer
@@ -115,12 +115,12 @@ read_length slot buffer old n count bytes =
     omega (arith, ap length bytes, length-append (take n (drop 24 slot)) (drop n old), length-take n (drop 24 slot), length-drop 24 slot, length-drop n old, count)
 
 -- the encoding that stands in a slot with an image is the image's
-pub text_of_image : (epoch : ℕ) (slot text : List ℕ) (state : State) → HoldsText slot text → HoldsImage epoch slot state → IsImageOf text state
-text_of_image epoch slot text state holds image =
-    let own = image_behind epoch slot state image in
+pub encoding_of_image : (epoch : ℕ) (slot encoding : List ℕ) (state : State) → HoldsEncoding slot encoding → HoldsImage epoch slot state → IsImageOf encoding state
+encoding_of_image epoch slot encoding state holds image =
+    let own = image_after epoch slot state image in
     record {
-      text_is = one_text text (image_text state) holds.rest own.rest holds.fits own.fits (sym holds.behind ∙ own.behind);
+      encoding_is = one_encoding encoding (image_encoding state) holds.rest own.rest holds.fits own.fits (sym holds.behind ∙ own.behind);
       lawful = image.lawful;
-      grounded = image.grounded;
+      acyclic = image.acyclic;
       short = image.short;
     }

@@ -4,34 +4,34 @@ use Rattle.std.specs.Prelude.{◌-◌, Bool, true, false}
 use Rattle.disk.specs.Moments.{View, MayLeave, Passes, Follows}
 use Rattle.disk.specs.Slots.{Slots, slot_of, with_slot}
 use Rattle.ipc_laws.specs.BatchLaws.{one_segment}
-use Rattle.ipc_laws.specs.Counted.{SpellsCounted}
+use Rattle.ipc_laws.specs.Counted.{EncodesCounted}
 use Rattle.ipc_laws.specs.ImageLaws.{image_once}
 use Rattle.ipc_laws.specs.RecoveryLaws.{image_header_is, image_is_open, one_epoch}
 use Rattle.ipc_laws.specs.RunLaws.{run_split}
-use Rattle.ipc_laws.specs.Spelling.{lawful_is_spellable}
+use Rattle.ipc_laws.specs.Encoding.{lawful_is_encodable}
 use Rattle.ipc_laws.specs.StepsKeep.{FitCalls, one_run}
 use Rattle.ipc_model.specs.calls.Step.{Run}
 use Rattle.ipc_model.specs.declared.record.Record.{Record}
 use Rattle.ipc_model.specs.state.State.{State, opening_state}
 use Rattle.ipc_model.specs.store.Recovery.{Continues, HoldsImage, IsNew, IsOfEpoch, IsOpen, IsStored, Recovered, image_header, segment_header_length}
-use Rattle.ipc_model.specs.store.Store.{AreRecords, SpellsBatches, SpellsSegment, IsInUse, image_content, open_gate, closed_gate, segment_header}
-use Rattle.ipc_model.specs.texts.Images.{image_text}
+use Rattle.ipc_model.specs.store.Store.{AreRecords, EncodesBatches, EncodesSegment, IsInUse, image_content, open_gate, closed_gate, segment_header}
+use Rattle.ipc_model.specs.encodings.Images.{image_encoding}
 use Rattle.slot_steps.specs.Steps.{IsRemade, image_slot, segment_slot}
 use Rattle.slot_steps.proofs.Moments.{passes_as, passes_then, own_bytes}
-use Rattle.standing.specs.Changes.{one_segment_changed, two_finished}
-use Rattle.standing.specs.Slots.{beside_image, by_parity, image_at, one_of_two}
-use Rattle.standing.specs.Spelled.{one_spells, two_spells}
-use Rattle.standing.specs.Standing.{as_written, InOne, InTwo}
+use Rattle.store_layout.specs.Changes.{one_segment_changed, two_finished}
+use Rattle.store_layout.specs.Slots.{alongside_image, by_parity, image_at, one_of_two}
+use Rattle.store_layout.specs.Encoded.{one_encodes, two_encodes}
+use Rattle.store_layout.specs.Standing.{as_written, InOne, InTwo}
 use Rattle.recover.specs.AtRest.{IsAtRest}
 use Rattle.recover.specs.Found.{IsLatestEpoch, Reads, ReadsOne}
 use Rattle.recover.specs.Kept.{IsKept}
 use Rattle.recover.specs.Making.{DiffersIn}
 use Rattle.recover.specs.Replayed.{ReplaysAll}
-use Rattle.recover.specs.Stopping.{HasLastGate, HaveLastGates, RecoverSame, StandForSame}
+use Rattle.recover.specs.Crashing.{HasLastGate, HaveLastGates, RecoverSame, StandForSame}
 use Rattle.recover.specs.Surveyed.{IsInUse as Uses, IsUnused}
 use Rattle.recover.proofs.Gates.{has_gate}
 use Rattle.recover.proofs.Rest.{rest_called}
-use Rattle.recover.proofs.Stages.{cut_spells, ended_in_use, fresh_spells, in_use_spells, next_image, one_recovered, run_join, same_by_one, two_recovered, unused_fresh}
+use Rattle.recover.proofs.Stages.{cut_encodes, ended_in_use, fresh_encodes, in_use_encodes, next_image, one_recovered, run_join, same_by_one, two_recovered, unused_fresh}
 use Rattle.recover.proofs.Surveys.{never_new, parts_of}
 
 -- stretches of time in which a store stands for the same
@@ -57,8 +57,8 @@ recover_as s c is = subst (RecoverSame s) (sym is) (recover_self s)
 
 -- last gates of slots of which one is changed
 
-pub gates_beside_image : (s : Slots) (x : List ℕ) (e : ℕ) → HaveLastGates s → HaveLastGates (with_slot s (image_slot e) x)
-gates_beside_image s x e gates = by_parity (λ a b c d. HaveLastGates (with_slot s a x)) gates gates e
+pub gates_alongside_image : (s : Slots) (x : List ℕ) (e : ℕ) → HaveLastGates s → HaveLastGates (with_slot s (image_slot e) x)
+gates_alongside_image s x e gates = by_parity (λ a b c d. HaveLastGates (with_slot s a x)) gates gates e
 
 pub gates_with_segment : (s : Slots) (x : List ℕ) (e : ℕ) → HaveLastGates s → HasLastGate x → HaveLastGates (with_slot s (segment_slot e) x)
 gates_with_segment s x e gates own = by_parity (λ a b c d. HaveLastGates (with_slot s c x)) (own, gates.1) (gates.0, own) e
@@ -69,18 +69,18 @@ own_last_gate s e gates = by_parity (λ a b c d. HasLastGate (slot_of s c)) gate
 -- what a segment that was replayed encodes
 
 header_apart : (n e : ℕ) (slot : List ℕ) → IsOfEpoch n e slot → slot ≡ segment_header open_gate e ++ drop 16 slot
-header_apart n e slot is = is.text ∙ ap (λ (l : List ℕ). segment_header open_gate e ++ l) (sym (ap (λ (l : List ℕ). drop 16 l) is.text))
+header_apart n e slot is = is.encoding ∙ ap (λ (l : List ℕ). segment_header open_gate e ++ l) (sym (ap (λ (l : List ℕ). drop 16 l) is.encoding))
 
-pub replayed_spells : (n e : ℕ) (slot : List ℕ) (old new : State) (count end : ℕ) → IsOfEpoch n e slot → (r : ReplaysAll slot old new count end) → SpellsSegment e slot r.records
-replayed_spells n e slot old new count end is r = record { content = drop 16 slot; text = header_apart n e slot is; spelled = r.spelled.spelled }
+pub replayed_encodes : (n e : ℕ) (slot : List ℕ) (old new : State) (count end : ℕ) → IsOfEpoch n e slot → (r : ReplaysAll slot old new count end) → EncodesSegment e slot r.records
+replayed_encodes n e slot old new count end is r = record { content = drop 16 slot; encoding = header_apart n e slot is; encoded = r.encoded.encoded }
 
 -- the parts of a store in use
 
-pub one_of_parts : (s : Slots) (e : ℕ) (base : State) (records : List Record) → Uses s e false → HoldsImage e (slot_of s (image_slot e)) base → SpellsSegment e (slot_of s (segment_slot e)) records → InOne s e base records
+pub one_of_parts : (s : Slots) (e : ℕ) (base : State) (records : List Record) → Uses s e false → HoldsImage e (slot_of s (image_slot e)) base → EncodesSegment e (slot_of s (segment_slot e)) records → InOne s e base records
 one_of_parts s e base records used image segment = record { fits = used.fits; image = image; segment = segment; other_image = used.other_image; other_segment = used.other }
 
-pub two_of_parts : (s : Slots) (e : ℕ) (base : State) (first next : List Record) → Uses s e true → HoldsImage e (slot_of s (image_slot e)) base → SpellsSegment e (slot_of s (segment_slot e)) first
-    → SpellsSegment (e + 1) (slot_of s (segment_slot (e + 1))) next → InTwo s e base first next
+pub two_of_parts : (s : Slots) (e : ℕ) (base : State) (first next : List Record) → Uses s e true → HoldsImage e (slot_of s (image_slot e)) base → EncodesSegment e (slot_of s (segment_slot e)) first
+    → EncodesSegment (e + 1) (slot_of s (segment_slot (e + 1))) next → InTwo s e base first next
 two_of_parts s e base first next used image segment more = record { fits = used.other.0; image = image; segment = segment; other_image = used.other_image; next_segment = more }
 
 -- the epoch in use is that of what is stored
@@ -93,7 +93,7 @@ at_most s e follows used base records stored =
       | inl own ↦
           let here : IsOfEpoch (e % 2) f (slot_of s (image_slot e)) =
           subst (IsOfEpoch (e % 2) f) (image_at s e) (subst (λ n. IsOfEpoch n f ((as_written s).image n)) own image_is) in
-          omega (arith, one_epoch f e here.rest used.image.rest here.fits used.image.fits (sym here.text ∙ used.image.text))
+          omega (arith, one_epoch f e here.rest used.image.rest here.fits used.image.fits (sym here.encoding ∙ used.image.encoding))
       | inr next ↦
           let here : IsOfEpoch ((e + 1) % 2) f (slot_of s (image_slot (e + 1))) =
           subst (IsOfEpoch ((e + 1) % 2) f) (image_at s (e + 1)) (subst (λ n. IsOfEpoch n f ((as_written s).image n)) next image_is) in
@@ -101,7 +101,7 @@ at_most s e follows used base records stored =
           subst (IsOpen image_header) (image_at s (e + 1)) (subst (λ n. IsOpen image_header ((as_written s).image n)) next is_open) in
           elim used.other_image as (λ _. f ≤ e) [
             | inl shut ↦ absurd (shut open_here)
-            | inr before ↦ omega (arith, before.1, one_epoch f before.0 here.rest before.2.rest here.fits before.2.fits (sym here.text ∙ before.2.text))
+            | inr before ↦ omega (arith, before.1, one_epoch f before.0 here.rest before.2.rest here.fits before.2.fits (sym here.encoding ∙ before.2.encoding))
           ]
     ]
 
@@ -117,13 +117,13 @@ pub record RunsIn (s : Slots) (e : ℕ) (state : State) : Type 0 where
   pub first : List Record
   pub next : List Record
   pub image : HoldsImage e (slot_of s (image_slot e)) base
-  pub segment : SpellsSegment e (slot_of s (segment_slot e)) first
+  pub segment : EncodesSegment e (slot_of s (segment_slot e)) first
   pub other : Continues e (slot_of s (segment_slot (e + 1))) next
   pub run : Run base first mid
   pub more : Run mid next state
 
 pub runs_in : (s : Slots) (e : ℕ) (follows : Bool) (state : State) → Uses s e follows → Recovered (as_written s) state → RunsIn s e state
-runs_in s e follows state used found = elim found.spelled.reading as (λ _. RunsIn s e state) [
+runs_in s e follows state used found = elim found.encoded.reading as (λ _. RunsIn s e state) [
   | inl new ↦ absurd (never_new s e used.image_open new.0)
   | inr stored ↦
       let parts = parts_of s e found.base found.records stored (epoch_in_use s e follows used found.base found.records stored) in
@@ -132,18 +132,18 @@ runs_in s e follows state used found = elim found.spelled.reading as (λ _. Runs
 ]
 
 -- the records of the segment that follows
-pub next_spells : (s : Slots) (e : ℕ) (next : List Record) → Uses s e true → Continues e (slot_of s (segment_slot (e + 1))) next → SpellsSegment (e + 1) (slot_of s (segment_slot (e + 1))) next
-next_spells s e next used (inl closed) = absurd (closed.0 (subst (IsOpen segment_header_length) (sym used.other.1.text) (omega arith, refl)))
-next_spells s e next used (inr (inl before)) = absurd (omega (arith, before.1, one_epoch before.0 (e + 1) before.2.rest used.other.1.rest before.2.fits used.other.1.fits (sym before.2.text ∙ used.other.1.text)))
-next_spells s e next used (inr (inr spelled)) = spelled.1
+pub next_encodes : (s : Slots) (e : ℕ) (next : List Record) → Uses s e true → Continues e (slot_of s (segment_slot (e + 1))) next → EncodesSegment (e + 1) (slot_of s (segment_slot (e + 1))) next
+next_encodes s e next used (inl closed) = absurd (closed.0 (subst (IsOpen segment_header_length) (sym used.other.1.encoding) (omega arith, refl)))
+next_encodes s e next used (inr (inl before)) = absurd (omega (arith, before.1, one_epoch before.0 (e + 1) before.2.rest used.other.1.rest before.2.fits used.other.1.fits (sym before.2.encoding ∙ used.other.1.encoding)))
+next_encodes s e next used (inr (inr encoded)) = encoded.1
 
 -- one run from one image
 
 one_base : (e : ℕ) (slot : List ℕ) (one other : State) → HoldsImage e slot one → HoldsImage e slot other → one ≡ other
 one_base e slot one other first second =
-    let whole : (open_gate ∷ image_content e (image_text one)) ++ first.rest ≡ (open_gate ∷ image_content e (image_text other)) ++ second.rest = sym first.text ∙ second.text in
-    let texts : image_text one ++ first.rest ≡ image_text other ++ second.rest = ap (λ (l : List ℕ). drop 24 l) whole in
-    (image_once one other first.rest second.rest (lawful_is_spellable one first.lawful first.short) (lawful_is_spellable other second.lawful second.short) texts).0
+    let whole : (open_gate ∷ image_content e (image_encoding one)) ++ first.rest ≡ (open_gate ∷ image_content e (image_encoding other)) ++ second.rest = sym first.encoding ∙ second.encoding in
+    let encodings : image_encoding one ++ first.rest ≡ image_encoding other ++ second.rest = ap (λ (l : List ℕ). drop 24 l) whole in
+    (image_once one other first.rest second.rest (lawful_is_encodable one first.lawful first.short) (lawful_is_encodable other second.lawful second.short) encodings).0
 
 records_fit : (records : List Record) → AreRecords records → FitCalls records
 records_fit [] are = tt
@@ -154,43 +154,43 @@ pub one_read : (s : Slots) (e n : ℕ) (state other : State) (count end : ℕ) �
 one_read s e n state other count end is r runs =
     let segment = slot_of s (segment_slot e) in
     let base : runs.base ≡ r.base = one_base e (slot_of s (image_slot e)) runs.base r.base runs.image r.image in
-    let spelled = replayed_spells n e segment r.base state count end is r.replays in
-    let records : runs.first ≡ r.replays.records = one_segment e segment runs.first r.replays.records runs.segment spelled in
-    one_run r.base r.replays.records runs.mid state (records_fit r.replays.records r.replays.spelled.spelled.canonical) r.image.lawful r.image.grounded
+    let encoded = replayed_encodes n e segment r.base state count end is r.replays in
+    let records : runs.first ≡ r.replays.records = one_segment e segment runs.first r.replays.records runs.segment encoded in
+    one_run r.base r.replays.records runs.mid state (records_fit r.replays.records r.replays.encoded.encoded.canonical) r.image.lawful r.image.acyclic
     (subst (λ (b : State). Run b r.replays.records runs.mid) base (subst (λ (l : List Record). Run runs.base l runs.mid) records runs.run)) r.replays.run
 
 -- nothing is recovered if there is no image, or no run of records
 pub read_damaged : (s : Slots) (e : ℕ) (follows : Bool) → Uses s e follows
-    → ((base state : State) (records : List Record) → HoldsImage e (slot_of s (image_slot e)) base → SpellsSegment e (slot_of s (segment_slot e)) records → Run base records state → ⊥)
+    → ((base state : State) (records : List Record) → HoldsImage e (slot_of s (image_slot e)) base → EncodesSegment e (slot_of s (segment_slot e)) records → Run base records state → ⊥)
     → (state : State) → Recovered (as_written s) state → ⊥
 read_damaged s e follows used none state found = let runs = runs_in s e follows state used found in none runs.base runs.mid runs.first runs.image runs.segment runs.run
 
 -- nor if the segment that follows has no run of records
 pub next_damaged : (s : Slots) (e : ℕ) (mid : State) (count end : ℕ) → Uses s e true → ReadsOne s e mid count end
-    → ((records : List Record) (state : State) → SpellsBatches (drop 16 (slot_of s (segment_slot (e + 1)))) records → Run mid records state → ⊥)
+    → ((records : List Record) (state : State) → EncodesBatches (drop 16 (slot_of s (segment_slot (e + 1)))) records → Run mid records state → ⊥)
     → (state : State) → Recovered (as_written s) state → ⊥
 next_damaged s e mid count end used read none state found =
     let runs = runs_in s e true state used found in
-    let spelled = next_spells s e runs.next used runs.other in
+    let encoded = next_encodes s e runs.next used runs.other in
     let same : runs.mid ≡ mid = one_read s e (e % 2) mid state count end used.segment read runs in
-    none runs.next state (subst (λ (l : List ℕ). SpellsBatches l runs.next) (sym (ap (λ (l : List ℕ). drop 16 l) spelled.text)) spelled.spelled) (subst (λ (m : State). Run m runs.next state) same runs.more)
+    none runs.next state (subst (λ (l : List ℕ). EncodesBatches l runs.next) (sym (ap (λ (l : List ℕ). drop 16 l) encoded.encoding)) encoded.encoded) (subst (λ (m : State). Run m runs.next state) same runs.more)
 
 -- the segment in use is ended
 
-own_gate : (n e : ℕ) (slot : List ℕ) (old new : State) (count end : ℕ) → IsOfEpoch n e slot → HasLastGate slot → (r : ReplaysAll slot old new count end) → 0 < length r.spelled.spelled.rest
-unfolding replayed_spells
-own_gate n e slot old new count end is has r = has e r.records (replayed_spells n e slot old new count end is r)
+own_gate : (n e : ℕ) (slot : List ℕ) (old new : State) (count end : ℕ) → IsOfEpoch n e slot → HasLastGate slot → (r : ReplaysAll slot old new count end) → 0 < length r.encoded.encoded.rest
+unfolding replayed_encodes
+own_gate n e slot old new count end is has r = has e r.records (replayed_encodes n e slot old new count end is r)
 
 pub gate_inside : (n e : ℕ) (slot : List ℕ) (old new : State) (count end : ℕ) → IsOfEpoch n e slot → HasLastGate slot → ReplaysAll slot old new count end → end < length slot
 gate_inside n e slot old new count end is has r =
-    omega (arith, own_gate n e slot old new count end is has r, r.spelled.sized, ap length (header_apart n e slot is), length-append (segment_header open_gate e) (drop 16 slot), r.behind)
+    omega (arith, own_gate n e slot old new count end is has r, r.encoded.sized, ap length (header_apart n e slot is), length-append (segment_header open_gate e) (drop 16 slot), r.behind)
 
 pub ended_one : (s : Slots) (e : ℕ) (base state : State) (count end : ℕ) (x : List ℕ) → IsOfEpoch (e % 2) e (slot_of s (segment_slot e)) → (r : ReplaysAll (slot_of s (segment_slot e)) base state count end) → InOne s e base r.records
     → x ≡ take (end + 1) (slot_of s (segment_slot e) ++ closed_gate ∷ []) → IsInUse e x r.records × InOne (with_slot s (segment_slot e) x) e base r.records
 ended_one s e base state count end x is r one cut =
     let slot = slot_of s (segment_slot e) in
-    let used = ended_in_use e slot (drop 16 slot) x r.records (end - 16) end (header_apart (e % 2) e slot is) r.spelled (omega (arith, r.behind)) cut in
-    (used, one_segment_changed s e base r.records r.records x one (in_use_spells e x r.records used))
+    let used = ended_in_use e slot (drop 16 slot) x r.records (end - 16) end (header_apart (e % 2) e slot is) r.encoded (omega (arith, r.behind)) cut in
+    (used, one_segment_changed s e base r.records r.records x one (in_use_encodes e x r.records used))
 
 pub ending_same : (old new : View) (e : ℕ) (base state : State) (count end : ℕ) → IsAtRest old → HaveLastGates old.seen → IsOfEpoch (e % 2) e (slot_of old.seen (segment_slot e))
     → (r : ReplaysAll (slot_of old.seen (segment_slot e)) base state count end) → InOne old.seen e base r.records
@@ -201,7 +201,7 @@ ending_same old new e base state count end rest gates is r one time =
     let own = own_gate (e % 2) e segment base state count end is (own_last_gate old.seen e gates) r in
     passes_as old new (DiffersIn old.seen slot (λ after. take (end + 1) after ≡ take (end + 1) segment)) (StandForSame old.seen) time (λ c differs.
     let x = slot_of c slot in
-    let known = cut_spells e segment (drop 16 segment) x r.records (end - 16) end (header_apart (e % 2) e segment is) r.spelled (omega (arith, r.behind)) own differs.0 in
+    let known = cut_encodes e segment (drop 16 segment) x r.records (end - 16) end (header_apart (e % 2) e segment is) r.encoded (omega (arith, r.behind)) own differs.0 in
     subst (StandForSame old.seen) (sym differs.1) (
       same_by_one old.seen (with_slot old.seen slot x) state (one_recovered old.seen e base state r.records one r.run)
           (one_recovered (with_slot old.seen slot x) e base state r.records (one_segment_changed old.seen e base r.records r.records x one known.0) r.run),
@@ -218,7 +218,7 @@ image_same old new e base mid state first next content rest gates two run more i
     let x = slot_of c slot in
     subst (StandForSame old.seen) (sym differs.1) (
       same_by_one old.seen (with_slot old.seen slot x) state found (next_image old.seen e base mid state first next x content two run more image differs.0),
-      gates_beside_image old.seen x (e + 1) gates,
+      gates_alongside_image old.seen x (e + 1) gates,
     ))
 
 -- A store that continues in an epoch: what was read of it.
@@ -233,7 +233,7 @@ one_parts s e state count end used read = record {
   base = read.base;
   header = used.segment;
   replays = read.replays;
-  one = one_of_parts s e read.base read.replays.records used read.image (replayed_spells (e % 2) e (slot_of s (segment_slot e)) read.base state count end used.segment read.replays);
+  one = one_of_parts s e read.base read.replays.records used read.image (replayed_encodes (e % 2) e (slot_of s (segment_slot e)) read.base state count end used.segment read.replays);
 }
 
 pub one_found : (s : Slots) (e : ℕ) (state : State) (count end : ℕ) → OneParts s e state count end → Recovered (as_written s) state
@@ -282,8 +282,8 @@ next_parts s e content mid state number stop count end used read replays image =
   header = used.other.1;
   run = read.replays.run;
   replays = replays;
-  two = two_of_parts s e read.base read.replays.records replays.records used read.image (replayed_spells (e % 2) e (slot_of s (segment_slot e)) read.base mid number stop used.segment read.replays)
-      (replayed_spells ((e + 1) % 2) (e + 1) (slot_of s (segment_slot (e + 1))) mid state count end used.other.1 replays);
+  two = two_of_parts s e read.base read.replays.records replays.records used read.image (replayed_encodes (e % 2) e (slot_of s (segment_slot e)) read.base mid number stop used.segment read.replays)
+      (replayed_encodes ((e + 1) % 2) (e + 1) (slot_of s (segment_slot (e + 1))) mid state count end used.other.1 replays);
   image = image;
 }
 
@@ -298,11 +298,11 @@ next_writing old new e content state count end rest gates parts time =
 -- the image stands in its slot
 pub next_written : (s new : Slots) (e : ℕ) (content : List ℕ) (state : State) (count end : ℕ) → NextParts s e content state count end → new ≡ with_slot s (image_slot (e + 1)) content → OneParts new (e + 1) state count end
 next_written s new e content state count end parts is =
-    let same : slot_of new (segment_slot (e + 1)) ≡ slot_of s (segment_slot (e + 1)) = ap (λ (t : Slots). slot_of t (segment_slot (e + 1))) is ∙ (beside_image s content e).2 in
+    let same : slot_of new (segment_slot (e + 1)) ≡ slot_of s (segment_slot (e + 1)) = ap (λ (t : Slots). slot_of t (segment_slot (e + 1))) is ∙ (alongside_image s content e).2 in
     let replays : ReplaysAll (slot_of new (segment_slot (e + 1))) parts.mid state count end =
     record {
       records = parts.replays.records;
-      spelled = subst (λ (l : List ℕ). SpellsCounted (drop 16 l) parts.replays.records (end - 16)) (sym same) parts.replays.spelled;
+      encoded = subst (λ (l : List ℕ). EncodesCounted (drop 16 l) parts.replays.records (end - 16)) (sym same) parts.replays.encoded;
       run = parts.replays.run;
       counted = parts.replays.counted;
       behind = parts.replays.behind;
@@ -323,7 +323,7 @@ next_ending old mid new e content state count end rest at_rest gates parts is fi
     let one = next_written old.seen mid.seen e content state count end parts is in
     same_after old mid new (next_writing old mid e content state count end rest gates parts first)
     (same_by_one old.seen mid.seen state (next_found old.seen e content state count end parts) (one_found mid.seen (e + 1) state count end one))
-    (one_ending mid new (e + 1) state count end at_rest (subst HaveLastGates (sym is) (gates_beside_image old.seen content (e + 1) gates)) one second)
+    (one_ending mid new (e + 1) state count end at_rest (subst HaveLastGates (sym is) (gates_alongside_image old.seen content (e + 1) gates)) one second)
 
 -- what is read without a write
 
@@ -332,7 +332,7 @@ new_reads s unused new = record {
   latest = inl (unused.no_image, refl);
   base = opening_state;
   records = [];
-  spelled = fresh_spells s (unused_fresh s unused new);
+  encoded = fresh_encodes s (unused_fresh s unused new);
   run = refl;
   counted = refl;
 }
@@ -343,26 +343,26 @@ latest_in_use s e follows used = inr (used.image_open, used.image, used.other_im
 pub one_reads : (s : Slots) (e : ℕ) (state : State) (count end : ℕ) → Uses s e false → ReadsOne s e state count end → Reads s e count state
 one_reads s e state count end used read =
     let parts = one_parts s e state count end used read in
-    record { latest = latest_in_use s e false used; base = parts.base; records = parts.replays.records; spelled = one_spells s e parts.base parts.replays.records parts.one; run = parts.replays.run; counted = parts.replays.counted }
+    record { latest = latest_in_use s e false used; base = parts.base; records = parts.replays.records; encoded = one_encodes s e parts.base parts.replays.records parts.one; run = parts.replays.run; counted = parts.replays.counted }
 
 pub two_reads : (s : Slots) (e : ℕ) (mid state : State) (number stop count end : ℕ) → Uses s e true → ReadsOne s e mid number stop → ReplaysAll (slot_of s (segment_slot (e + 1))) mid state count end → Reads s e (number + count) state
 two_reads s e mid state number stop count end used read replays =
-    let two = two_of_parts s e read.base read.replays.records replays.records used read.image (replayed_spells (e % 2) e (slot_of s (segment_slot e)) read.base mid number stop used.segment read.replays)
-    (replayed_spells ((e + 1) % 2) (e + 1) (slot_of s (segment_slot (e + 1))) mid state count end used.other.1 replays) in
+    let two = two_of_parts s e read.base read.replays.records replays.records used read.image (replayed_encodes (e % 2) e (slot_of s (segment_slot e)) read.base mid number stop used.segment read.replays)
+    (replayed_encodes ((e + 1) % 2) (e + 1) (slot_of s (segment_slot (e + 1))) mid state count end used.other.1 replays) in
     record {
       latest = latest_in_use s e true used;
       base = read.base;
       records = read.replays.records ++ replays.records;
-      spelled = two_spells s e read.base read.replays.records replays.records two;
+      encoded = two_encodes s e read.base read.replays.records replays.records two;
       run = run_join read.base mid state read.replays.records replays.records read.replays.run replays.run;
       counted = omega (arith, read.replays.counted, replays.counted, length-append read.replays.records replays.records);
     }
 
 -- no run begins from the state of an image whose segment encodes none
-pub no_run : (e : ℕ) (image_bytes segment_bytes : List ℕ) (read base state : State) (records : List Record) → HoldsImage e image_bytes read → HoldsImage e image_bytes base → SpellsSegment e segment_bytes records → Run base records state
-    → ((rs : List Record) (s : State) → SpellsBatches (drop 16 segment_bytes) rs → Run read rs s → ⊥) → ⊥
-no_run e image_bytes segment_bytes read base state records one other spelled run none =
-    none records state (subst (λ (l : List ℕ). SpellsBatches l records) (sym (ap (λ (l : List ℕ). drop 16 l) spelled.text)) spelled.spelled)
+pub no_run : (e : ℕ) (image_bytes segment_bytes : List ℕ) (read base state : State) (records : List Record) → HoldsImage e image_bytes read → HoldsImage e image_bytes base → EncodesSegment e segment_bytes records → Run base records state
+    → ((rs : List Record) (s : State) → EncodesBatches (drop 16 segment_bytes) rs → Run read rs s → ⊥) → ⊥
+no_run e image_bytes segment_bytes read base state records one other encoded run none =
+    none records state (subst (λ (l : List ℕ). EncodesBatches l records) (sym (ap (λ (l : List ℕ). drop 16 l) encoded.encoding)) encoded.encoded)
     (subst (λ (b : State). Run b records state) (one_base e image_bytes base read other one) run)
 
 -- what was read of an epoch
@@ -371,4 +371,4 @@ reads_one s e base state count end image replays = record { base = base; image =
 
 -- two segments hold no more records than a word counts
 pub two_few : (s : Slots) (e : ℕ) (mid state : State) (number stop count end : ℕ) → ReadsOne s e mid number stop → ReplaysAll (slot_of s (segment_slot (e + 1))) mid state count end → number + count < 2 ^ 64
-two_few s e mid state number stop count end read replays = omega (arith, read.replays.counted, read.replays.spelled.spelled.bounded, replays.counted, replays.spelled.spelled.bounded)
+two_few s e mid state number stop count end read replays = omega (arith, read.replays.counted, read.replays.encoded.encoded.bounded, replays.counted, replays.encoded.encoded.bounded)

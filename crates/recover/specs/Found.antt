@@ -4,9 +4,9 @@ use Rattle.disk.specs.Slots.{Slots, slot_of}
 use Rattle.ipc_model.specs.calls.Step.{Run}
 use Rattle.ipc_model.specs.declared.record.Record.{Record}
 use Rattle.ipc_model.specs.state.State.{State}
-use Rattle.ipc_model.specs.store.Recovery.{HoldsImage, IsOfEpoch, IsOpen, Spells, image_header}
+use Rattle.ipc_model.specs.store.Recovery.{HoldsImage, IsOfEpoch, IsOpen, Encodes, image_header}
 use Rattle.slot_steps.specs.Steps.{image_slot, segment_slot}
-use Rattle.standing.specs.Standing.{as_written, IsPassedImage}
+use Rattle.store_layout.specs.Standing.{as_written, IsPassedImage}
 use Rattle.recover.specs.Replayed.{ReplaysAll}
 
 -- an epoch's image is open, and its segment
@@ -32,6 +32,6 @@ pub record Reads (slots : Slots) (epoch count : ℕ) (state : State) : Type 0 wh
   pub latest : IsLatestEpoch slots epoch
   pub base : State
   pub records : List Record
-  pub spelled : Spells (as_written slots) base records
+  pub encoded : Encodes (as_written slots) base records
   pub run : Run base records state
   pub counted : count ≡ length records

@@ -8,7 +8,7 @@ use Rattle.ipc_model.specs.state.State.{State}
 use Rattle.ipc_model.specs.store.Store.{IsInUse}
 use Rattle.journal.specs.declared.segment.Segment.{Segment}
 use Rattle.slot_steps.specs.Steps.{segment_slot}
-use Rattle.standing.specs.Standing.{InOne}
+use Rattle.store_layout.specs.Standing.{InOne}
 use Rattle.recover.specs.AtRest.{IsAtRest}
 
 -- All of the disk is synced. It holds the image of the epoch in use and that epoch's segment, with this many records

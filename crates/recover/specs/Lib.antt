@@ -8,5 +8,5 @@ pub mod Making
 pub mod Opened
 pub mod Replayed
 pub mod Steps
-pub mod Stopping
+pub mod Crashing
 pub mod Surveyed

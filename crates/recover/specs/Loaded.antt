@@ -3,7 +3,7 @@ use Rattle.std.specs.Prelude.{◌≡◌, ℕ, ◌^◌, ◌<◌, List, ◌++◌, 
 use Rattle.words.specs.Words.{long_word}
 
 -- A slot holds these bytes, preceded by their length, after the sixteen bytes of a gate, a version and an epoch.
-pub record HoldsText (slot text : List ℕ) : Type 0 where
+pub record HoldsEncoding (slot encoding : List ℕ) : Type 0 where
   pub rest : List ℕ
-  pub fits : length text < 2 ^ 64
-  pub behind : drop 16 slot ≡ long_word (length text) ++ (text ++ rest)
+  pub fits : length encoding < 2 ^ 64
+  pub behind : drop 16 slot ≡ long_word (length encoding) ++ (encoding ++ rest)

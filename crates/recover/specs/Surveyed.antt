@@ -3,7 +3,7 @@ use Rattle.std.specs.Prelude.{◌≡◌, ℕ, ◌+◌, ◌%◌, ◌^◌, ◌<◌
 use Rattle.disk.specs.Slots.{Slots, slot_of}
 use Rattle.ipc_model.specs.store.Recovery.{HeadersFit, IsOfEpoch, IsOpen, image_header, segment_header_length}
 use Rattle.slot_steps.specs.Steps.{image_slot, segment_slot}
-use Rattle.standing.specs.Standing.{as_written, IsPassedImage, IsPassedSegment}
+use Rattle.store_layout.specs.Standing.{as_written, IsPassedImage, IsPassedSegment}
 use Rattle.recover.specs.declared.survey.Latest.{Latest}
 use Rattle.recover.specs.declared.survey.Latest.TheVariants as latest
 use Rattle.recover.specs.declared.survey.Survey.{Survey}

@@ -24,17 +24,17 @@ pub(crate) fn both<T: Drop, U: Drop, E: Drop>(value: T, made: Result<U, E>) -> R
 }
 
 /// Writes an image, and then returns a value.
-pub(crate) fn write_behind<D: Disk, T: Drop>(
+pub(crate) fn write_after<D: Disk, T: Drop>(
     disk: &mut D,
     image: &Image,
     value: T,
 ) -> Result<T, DiskFault>
     ensures value { IfOk result (λ v. v ≡ value) }
     ensures made { D.honest → OnOk result ((D.view disk.new).seen
-        ≡ with_slot (D.view disk.old).seen (slot_of_epoch image.now.epoch) (open_image image.now.epoch image.now.text)) }
+        ≡ with_slot (D.view disk.old).seen (slot_of_epoch image.now.epoch) (open_image image.now.epoch image.now.encoding)) }
     ensures synced { D.honest → OnOk result (IsSynced (D.view disk.new) (slot_of_epoch image.now.epoch)) }
     ensures any_moment { D.honest → IsSynced (D.view disk.old) (slot_of_epoch image.now.epoch)
-        → Passes (D.view disk.old) (D.view disk.new) (Follows (D.view disk.old) (slot_of_epoch image.now.epoch) (IsRemade 24 (open_image image.now.epoch image.now.text))) }
+        → Passes (D.view disk.old) (D.view disk.new) (Follows (D.view disk.old) (slot_of_epoch image.now.epoch) (IsRemade 24 (open_image image.now.epoch image.now.encoding))) }
     ensures failures { CountsFailure (D.failed_calls disk.old) (D.failed_calls disk.new) result }
 {
     let written = image.write(disk);
@@ -42,7 +42,7 @@ pub(crate) fn write_behind<D: Disk, T: Drop>(
 }
 
 /// Ends a segment, and then returns a value.
-pub(crate) fn end_behind<D: Disk, T: Drop>(
+pub(crate) fn end_after<D: Disk, T: Drop>(
     disk: &mut D,
     slot: Slot,
     end: u64,

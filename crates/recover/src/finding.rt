@@ -6,12 +6,12 @@ ghost use Rattle.ipc_model.specs.calls.Step.{Run};
 ghost use Rattle.ipc_model.specs.declared.record.Record.{Record};
 ghost use Rattle.ipc_model.specs.state.State.{State};
 ghost use Rattle.ipc_model.specs.store.Recovery.{HoldsImage, IsNew};
-ghost use Rattle.ipc_model.specs.store.Store.{IsClosed, SpellsSegment};
+ghost use Rattle.ipc_model.specs.store.Store.{IsClosed, EncodesSegment};
 ghost use Rattle.recover.specs.Found.{HasOwn, ReadsOne};
 ghost use Rattle.recover.specs.Headers.{Says};
 ghost use Rattle.recover.specs.Surveyed.{IsUnused};
 ghost use Rattle.slot_steps.specs.Steps.{image_slot as slot_of_image, segment_slot as slot_of_segment};
-ghost use Rattle.standing.specs.Standing.{as_written};
+ghost use Rattle.store_layout.specs.Standing.{as_written};
 
 use crate::headers::Header;
 use crate::loading::load_image;
@@ -34,7 +34,7 @@ pub(crate) fn read_epoch<D: Disk>(
     ensures read { D.honest → IfOk result (λ r. ReadsOne (D.view disk.old).seen epoch r.0 r.1 r.2) }
     ensures damaged { D.honest → IsErrOf result StoreFault.Damaged → (base state : State) → (records : List Record)
         → HoldsImage epoch (slot_of (D.view disk.old).seen (slot_of_image epoch)) base
-        → SpellsSegment epoch (slot_of (D.view disk.old).seen (slot_of_segment epoch)) records → Run base records state → ⊥ }
+        → EncodesSegment epoch (slot_of (D.view disk.old).seen (slot_of_segment epoch)) records → Run base records state → ⊥ }
     ensures seen { D.honest → (D.view disk.new).seen ≡ (D.view disk.old).seen }
     ensures time { D.honest → Passes (D.view disk.old) (D.view disk.new) (MayLeave (D.view disk.old)) }
     ensures quiet { OnOk result (D.failed_calls disk.new ≡ D.failed_calls disk.old) }

@@ -52,7 +52,7 @@ fn is_other_version(slot: &[u8], header: usize) -> bool
 }
 
 /// What stands after the front of a header of version 1, if there is one.
-fn behind_version(slot: &[u8]) -> Option<&[u8]>
+fn after_version(slot: &[u8]) -> Option<&[u8]>
     ensures found { IfSome result (λ rest. slot.now ≡ version_one ++ rest.now) }
     ensures none { IfNone result ((rest : List ℕ) → slot.now ≢ version_one ++ rest) }
 {
@@ -64,7 +64,7 @@ fn epoch_of(slot: &[u8]) -> Option<u64>
     ensures found { IfSome result (λ epoch. IsOfEpoch (epoch % 2) epoch slot.now) }
     ensures none { IfNone result (16 ≤ length slot.now → (number epoch : ℕ) → IsOfEpoch number epoch slot.now → ⊥) }
 {
-    let rest = behind_version(slot)?;
+    let rest = after_version(slot)?;
     let (epoch, _) = take_long_word(rest)?;
     Some(epoch)
 }

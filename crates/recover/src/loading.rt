@@ -5,7 +5,7 @@ ghost use Rattle.disk.specs.Slots.{slot_of};
 ghost use Rattle.ipc_model.specs.state.State.{State};
 ghost use Rattle.ipc_model.specs.store.Recovery.{HoldsImage, IsImageOf, IsOfEpoch, IsOpen};
 ghost use Rattle.words.specs.Words.{long_word};
-ghost use Rattle.recover.specs.Loaded.{HoldsText};
+ghost use Rattle.recover.specs.Loaded.{HoldsEncoding};
 
 use disk::{Disk, DiskFault, Slot};
 use image::{ImageFault, read};
@@ -16,7 +16,7 @@ use std::alloc::Global;
 use words::take_long_word;
 
 /// How many bytes an image's encoding has, as its header says.
-fn text_length<D: Disk>(disk: &mut D, slot: Slot) -> Result<u64, DiskFault>
+fn encoding_length<D: Disk>(disk: &mut D, slot: Slot) -> Result<u64, DiskFault>
     requires { D.honest → IsOpen 24 (slot_of (D.view disk.old).seen slot) }
     ensures fits { IfOk result (λ size. size < 2 ^ 64) }
     ensures length { D.honest → IfOk result (λ size. (rest : List ℕ) × (drop 16 (slot_of (D.view disk.old).seen slot) ≡ long_word size ++ rest)) }
@@ -35,10 +35,10 @@ fn text_length<D: Disk>(disk: &mut D, slot: Slot) -> Result<u64, DiskFault>
 /// The encoding in an image.
 ///
 /// `Damaged`: the slot ends within it.
-fn read_text<D: Disk>(alloc: Global, disk: &mut D, slot: Slot) -> Result<Vec<u8>, StoreFault>
+fn read_encoding<D: Disk>(alloc: Global, disk: &mut D, slot: Slot) -> Result<Vec<u8>, StoreFault>
     requires { D.honest → IsOpen 24 (slot_of (D.view disk.old).seen slot) }
-    ensures text { D.honest → IfOk result (λ text. HoldsText (slot_of (D.view disk.old).seen slot) text.items) }
-    ensures damaged { D.honest → IsErrOf result StoreFault.Damaged → (text : List ℕ) → HoldsText (slot_of (D.view disk.old).seen slot) text → ⊥ }
+    ensures encoding { D.honest → IfOk result (λ encoding. HoldsEncoding (slot_of (D.view disk.old).seen slot) encoding.items) }
+    ensures damaged { D.honest → IsErrOf result StoreFault.Damaged → (encoding : List ℕ) → HoldsEncoding (slot_of (D.view disk.old).seen slot) encoding → ⊥ }
     ensures seen { D.honest → (D.view disk.new).seen ≡ (D.view disk.old).seen }
     ensures time { D.honest → Passes (D.view disk.old) (D.view disk.new) (MayLeave (D.view disk.old)) }
     ensures quiet { OnOk result (D.failed_calls disk.new ≡ D.failed_calls disk.old) }
@@ -46,25 +46,25 @@ fn read_text<D: Disk>(alloc: Global, disk: &mut D, slot: Slot) -> Result<Vec<u8>
     ensures device { IsErrOf result StoreFault.Device → D.failed_calls disk.new ≡ one_more (D.failed_calls disk.old) }
     ensures faults { OnErr result ((result ≡ Err StoreFault.Device) ⊎ ((result ≡ Err StoreFault.Damaged) ⊎ (result ≡ Err StoreFault.NoMemory))) }
 {
-    let size = text_length(disk, slot)?;
+    let size = encoding_length(disk, slot)?;
     let room = disk.length(slot).saturating_sub(IMAGE_HEADER as u64);
     if room < size {
         return Err(StoreFault::Damaged);
     }
-    let mut text = vec![in alloc; 0; size as usize]?;
-    disk.read(slot, IMAGE_HEADER as u64, &mut text)?;
-    Ok(text)
+    let mut encoding = vec![in alloc; 0; size as usize]?;
+    disk.read(slot, IMAGE_HEADER as u64, &mut encoding)?;
+    Ok(encoding)
 }
 
 /// The state that these bytes encode.
 ///
 /// `Damaged`: they encode no lawful state.
-fn state_of(alloc: Global, text: &[u8]) -> Result<Kernel, StoreFault>
-    ensures image { IfOk result (λ kernel. IsImageOf text.now kernel) }
-    ensures damaged { IsErrOf result StoreFault.Damaged → (state : State) → IsImageOf text.now state → ⊥ }
+fn state_of(alloc: Global, encoding: &[u8]) -> Result<Kernel, StoreFault>
+    ensures image { IfOk result (λ kernel. IsImageOf encoding.now kernel) }
+    ensures damaged { IsErrOf result StoreFault.Damaged → (state : State) → IsImageOf encoding.now state → ⊥ }
     ensures faults { OnErr result ((result ≡ Err StoreFault.Damaged) ⊎ (result ≡ Err StoreFault.NoMemory)) }
 {
-    let snapshot = match read(alloc, text) {
+    let snapshot = match read(alloc, encoding) {
         Ok(snapshot) => snapshot,
         Err(ImageFault::NotCanonical) => return Err(StoreFault::Damaged),
         Err(ImageFault::NoMemory) => return Err(StoreFault::NoMemory),
@@ -96,7 +96,7 @@ pub(crate) fn load_image<D: Disk>(
     ensures device { IsErrOf result StoreFault.Device → D.failed_calls disk.new ≡ one_more (D.failed_calls disk.old) }
     ensures faults { OnErr result ((result ≡ Err StoreFault.Device) ⊎ ((result ≡ Err StoreFault.Damaged) ⊎ (result ≡ Err StoreFault.NoMemory))) }
 {
-    let text = read_text(alloc, disk, slot)?;
-    let kernel = state_of(alloc, &text)?;
+    let encoding = read_encoding(alloc, disk, slot)?;
+    let kernel = state_of(alloc, &encoding)?;
     Ok(kernel)
 }

@@ -8,7 +8,7 @@ ghost use Rattle.recover.specs.Headers.{Says};
 ghost use Rattle.recover.specs.Looked.{IsLook};
 ghost use Rattle.recover.specs.Surveyed.{FitsNext, IsInUse, IsUnused};
 ghost use Rattle.snapshot.specs.Snapshots.{snapshot_of};
-ghost use Rattle.standing.specs.Standing.{as_written};
+ghost use Rattle.store_layout.specs.Standing.{as_written};
 
 use crate::finding::{have_no_batch, read_epoch};
 use crate::headers::{Header, read_headers};

@@ -4,15 +4,15 @@ ghost use Rattle.disk.specs.Slots.{Slots};
 ghost use Rattle.disk.specs.Moments.{CountsFailure, MayLeave, Passes, one_more};
 ghost use Rattle.ipc_model.specs.state.State.{State, opening_state};
 ghost use Rattle.ipc_model.specs.store.Recovery.{HoldsImage, IsDamaged, IsNew, IsOtherVersion, Recovered};
-ghost use Rattle.ipc_model.specs.texts.Images.{image_text};
+ghost use Rattle.ipc_model.specs.encodings.Images.{image_encoding};
 ghost use Rattle.recover.specs.AtRest.{IsAtRest};
 ghost use Rattle.recover.specs.Headers.{SayAll, Says};
 ghost use Rattle.recover.specs.Kept.{IsKept};
-ghost use Rattle.recover.specs.Stopping.{HaveLastGates, LeavesSame, StandForSame};
+ghost use Rattle.recover.specs.Crashing.{HaveLastGates, LeavesSame, StandForSame};
 ghost use Rattle.recover.specs.Surveyed.{IsInUse, IsUnused};
-ghost use Rattle.standing.specs.Standing.{as_written};
+ghost use Rattle.store_layout.specs.Standing.{as_written};
 
-use crate::behind::{both, end_behind, write_behind};
+use crate::behind::{both, end_after, write_after};
 use crate::finding::{have_no_batch, read_epoch};
 use crate::headers::{Header, Headers, read_headers};
 use crate::making::{make_segment, sync_all};
@@ -51,14 +51,14 @@ impl<D: Disk> Model for Opened<D> {
 
 /// The image that an epoch begins with, for this state.
 fn image_of(alloc: Global, epoch: u64, kernel: &Kernel) -> Result<Image, AllocError>
-    ensures image { IfOk result (λ image. image ≡ unwritten epoch (image_text kernel.now)) }
-    ensures holds { OnOk result (HoldsImage epoch (open_image epoch (image_text kernel.now)) kernel.now) }
+    ensures image { IfOk result (λ image. image ≡ unwritten epoch (image_encoding kernel.now)) }
+    ensures holds { OnOk result (HoldsImage epoch (open_image epoch (image_encoding kernel.now)) kernel.now) }
 {
     let snapshot = kernel.copy(alloc)?;
     let image = Image::of(alloc, epoch, &snapshot)?;
     let _ = image.size();
     image_is_of_state();
-    kernel.has_image();
+    kernel.show_image();
     Ok(image)
 }
 
@@ -68,8 +68,8 @@ fn write_first<D: Disk, T: Drop>(
     image: &Image,
     value: T,
 ) -> Result<(T, Segment), DiskFault>
-    requires image { image.now ≡ unwritten 0 (image_text opening_state) }
-    requires holds { HoldsImage 0 (open_image 0 (image_text opening_state)) opening_state }
+    requires image { image.now ≡ unwritten 0 (image_encoding opening_state) }
+    requires holds { HoldsImage 0 (open_image 0 (image_encoding opening_state)) opening_state }
     requires rest { D.honest → IsAtRest (D.view disk.old) }
     requires unused { D.honest → IsUnused (D.view disk.old).seen }
     requires new { D.honest → IsNew (as_written (D.view disk.old).seen) }
@@ -131,7 +131,7 @@ fn go_on<D: Disk>(alloc: Global, disk: &mut D, epoch: u64) -> Result<(Kernel, Se
     ensures faults { OnErr result ((result ≡ Err StoreFault.Device) ⊎ ((result ≡ Err StoreFault.Damaged) ⊎ (result ≡ Err StoreFault.NoMemory))) }
 {
     let (kernel, records, end) = read_epoch(alloc, disk, epoch)?;
-    let kernel = end_behind(disk, segment_slot(epoch), end, kernel)?;
+    let kernel = end_after(disk, segment_slot(epoch), end, kernel)?;
     Ok((kernel, Segment { epoch, records }))
 }
 
@@ -160,8 +160,8 @@ fn go_on_next<D: Disk>(
     let (base, _, _) = read_epoch(alloc, disk, epoch)?;
     let (base, image) = with_image(alloc, base, epoch + 1)?;
     let (kernel, records, end) = replay_segment(alloc, base, disk, segment_slot(epoch + 1))?;
-    let kernel = write_behind(disk, &image, kernel)?;
-    let kernel = end_behind(disk, segment_slot(epoch + 1), end, kernel)?;
+    let kernel = write_after(disk, &image, kernel)?;
+    let kernel = end_after(disk, segment_slot(epoch + 1), end, kernel)?;
     Ok((
         kernel,
         Segment {
@@ -174,8 +174,8 @@ fn go_on_next<D: Disk>(
 /// A state, and the image of an epoch that begins with it.
 fn with_image(alloc: Global, kernel: Kernel, epoch: u64) -> Result<(Kernel, Image), AllocError>
     ensures base { IfOk result (λ r. r.0 ≡ kernel) }
-    ensures image { IfOk result (λ r. r.1 ≡ unwritten epoch (image_text kernel)) }
-    ensures holds { OnOk result (HoldsImage epoch (open_image epoch (image_text kernel)) kernel) }
+    ensures image { IfOk result (λ r. r.1 ≡ unwritten epoch (image_encoding kernel)) }
+    ensures holds { OnOk result (HoldsImage epoch (open_image epoch (image_encoding kernel)) kernel) }
 {
     let image = image_of(alloc, epoch, &kernel);
     both(kernel, image)

@@ -4,7 +4,7 @@ ghost use Rattle.disk.specs.Slots.{slot_of};
 ghost use Rattle.ipc_model.specs.calls.Step.{Run, Step};
 ghost use Rattle.ipc_model.specs.declared.record.Record.{Record};
 ghost use Rattle.ipc_model.specs.state.State.{State};
-ghost use Rattle.ipc_model.specs.store.Store.{SpellsBatches};
+ghost use Rattle.ipc_model.specs.store.Store.{EncodesBatches};
 ghost use Rattle.journal.specs.Readers.{place_of};
 ghost use Rattle.journal.specs.Windows.{IsOver};
 ghost use Rattle.recover.specs.Replayed.{Replays, ReplaysAll};
@@ -77,7 +77,7 @@ pub(crate) fn replay_segment<D: Disk>(
     requires { D.honest → 16 ≤ length (slot_of (D.view disk.old).seen slot) }
     ensures state { D.honest → IfOk result (λ r. ReplaysAll (slot_of (D.view disk.old).seen slot) kernel r.0 r.1 r.2) }
     ensures damaged { D.honest → IsErrOf result StoreFault.Damaged → (records : List Record) → (state : State)
-        → SpellsBatches (drop 16 (slot_of (D.view disk.old).seen slot)) records → Run kernel records state → ⊥ }
+        → EncodesBatches (drop 16 (slot_of (D.view disk.old).seen slot)) records → Run kernel records state → ⊥ }
     ensures seen { D.honest → (D.view disk.new).seen ≡ (D.view disk.old).seen }
     ensures time { D.honest → Passes (D.view disk.old) (D.view disk.new) (MayLeave (D.view disk.old)) }
     ensures quiet { OnOk result (D.failed_calls disk.new ≡ D.failed_calls disk.old) }

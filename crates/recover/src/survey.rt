@@ -3,8 +3,8 @@ ghost use Rattle.std.specs.Prelude.{◌≡◌, ◌≢◌, ◌⊎◌, ◌+◌, �
 ghost use Rattle.disk.specs.Slots.{Slots};
 ghost use Rattle.ipc_model.specs.declared.record.Record.{Record};
 ghost use Rattle.ipc_model.specs.state.State.{State};
-ghost use Rattle.ipc_model.specs.store.Recovery.{IsOtherVersion, Spells};
-ghost use Rattle.standing.specs.Standing.{as_written};
+ghost use Rattle.ipc_model.specs.store.Recovery.{IsOtherVersion, Encodes};
+ghost use Rattle.store_layout.specs.Standing.{as_written};
 ghost use Rattle.recover.specs.Headers.{IsForeign, SayAll, TellAll};
 ghost use Rattle.recover.specs.Surveyed.{Adjoins, FitsNext, IsLatestOf, Surveys};
 
@@ -108,7 +108,7 @@ fn survey_open(
 ) -> Result<Survey, StoreFault>
     ensures surveyed { (slots : Slots) → TellAll slots image0 image1 segment0 segment1 → IfOk result (Surveys slots) }
     ensures damaged { (slots : Slots) → TellAll slots image0 image1 segment0 segment1
-        → OnErr result ((base : State) → (records : List Record) → Spells (as_written slots) base records → ⊥) }
+        → OnErr result ((base : State) → (records : List Record) → Encodes (as_written slots) base records → ⊥) }
     ensures fits { IfOk result FitsNext }
     ensures faults { OnErr result (result ≡ Err StoreFault.Damaged) }
 {
@@ -153,7 +153,7 @@ fn survey_headers(headers: &Headers) -> Result<Survey, StoreFault>
     ensures surveyed { (slots : Slots) → SayAll slots headers.now.image0 headers.now.image1 headers.now.segment0 headers.now.segment1
         → IfOk result (Surveys slots) }
     ensures damaged { (slots : Slots) → SayAll slots headers.now.image0 headers.now.image1 headers.now.segment0 headers.now.segment1
-        → OnErr result ((base : State) → (records : List Record) → Spells (as_written slots) base records → ⊥) }
+        → OnErr result ((base : State) → (records : List Record) → Encodes (as_written slots) base records → ⊥) }
     ensures fits { IfOk result FitsNext }
     ensures faults { OnErr result (result ≡ Err StoreFault.Damaged) }
 {
@@ -178,7 +178,7 @@ pub(crate) fn survey_store(headers: &Headers) -> Result<Survey, StoreFault>
     ensures no_other { (slots : Slots) → SayAll slots headers.now.image0 headers.now.image1 headers.now.segment0 headers.now.segment1
         → IsErrOf result StoreFault.Damaged → IsOtherVersion (as_written slots) → ⊥ }
     ensures damaged { (slots : Slots) → SayAll slots headers.now.image0 headers.now.image1 headers.now.segment0 headers.now.segment1
-        → IsErrOf result StoreFault.Damaged → (base : State) → (records : List Record) → Spells (as_written slots) base records → ⊥ }
+        → IsErrOf result StoreFault.Damaged → (base : State) → (records : List Record) → Encodes (as_written slots) base records → ⊥ }
     ensures fits { IfOk result FitsNext }
     ensures faults { OnErr result ((result ≡ Err StoreFault.Version) ⊎ (result ≡ Err StoreFault.Damaged)) }
 {

@@ -6,8 +6,8 @@ use Rattle.std.proofs.KnownBytes.{Appends-nil, Appends-trans, Consumes-nil, Cons
 use Rattle.wire.specs.Writing.{AppendsPart}
 use Rattle.wire.specs.declared.fault.WireFault.{WireFault}
 use Rattle.wire.specs.declared.fault.WireFault.TheVariants.{Device}
-use Rattle.words.specs.Words.{frame_text}
-use Rattle.relay.specs.Relaying.{AreFrames, Ends, Exchanged, Exchanges, IsTaken, Side, replies_text, requests_text, waiting_behind}
+use Rattle.words.specs.Words.{frame_encoding}
+use Rattle.relay.specs.Relaying.{AreFrames, Ends, Exchanged, Exchanges, IsTaken, Side, replies_encoding, requests_encoding, waiting_after}
 
 -- some frames were relayed
 pub record Going (own peer own_now peer_now : Side) (count : ℕ) : Type 0 where
@@ -34,26 +34,26 @@ frames-push : (exchanges : Exchanges) (exchange : List ℕ × List ℕ) → AreF
 frames-push [] exchange so_far is = is
 frames-push (first ∷ exchanges) exchange so_far is = (so_far.0, so_far.1, frames-push exchanges exchange so_far.2 is)
 
-requests_text-push : (exchanges : Exchanges) (exchange : List ℕ × List ℕ) → requests_text exchanges ++ frame_text exchange.0 ≡ requests_text (exchanges ++ exchange ∷ [])
-requests_text-push [] exchange = sym (append-nil (frame_text exchange.0))
-requests_text-push (first ∷ exchanges) exchange = append_assoc (frame_text first.0) (requests_text exchanges) (frame_text exchange.0) ∙ ap (λ l. frame_text first.0 ++ l) (requests_text-push exchanges exchange)
+requests_encoding-push : (exchanges : Exchanges) (exchange : List ℕ × List ℕ) → requests_encoding exchanges ++ frame_encoding exchange.0 ≡ requests_encoding (exchanges ++ exchange ∷ [])
+requests_encoding-push [] exchange = sym (append-nil (frame_encoding exchange.0))
+requests_encoding-push (first ∷ exchanges) exchange = append_assoc (frame_encoding first.0) (requests_encoding exchanges) (frame_encoding exchange.0) ∙ ap (λ l. frame_encoding first.0 ++ l) (requests_encoding-push exchanges exchange)
 
-replies_text-push : (exchanges : Exchanges) (exchange : List ℕ × List ℕ) → replies_text exchanges ++ frame_text exchange.1 ≡ replies_text (exchanges ++ exchange ∷ [])
-replies_text-push [] exchange = sym (append-nil (frame_text exchange.1))
-replies_text-push (first ∷ exchanges) exchange = append_assoc (frame_text first.1) (replies_text exchanges) (frame_text exchange.1) ∙ ap (λ l. frame_text first.1 ++ l) (replies_text-push exchanges exchange)
+replies_encoding-push : (exchanges : Exchanges) (exchange : List ℕ × List ℕ) → replies_encoding exchanges ++ frame_encoding exchange.1 ≡ replies_encoding (exchanges ++ exchange ∷ [])
+replies_encoding-push [] exchange = sym (append-nil (frame_encoding exchange.1))
+replies_encoding-push (first ∷ exchanges) exchange = append_assoc (frame_encoding first.1) (replies_encoding exchanges) (frame_encoding exchange.1) ∙ ap (λ l. frame_encoding first.1 ++ l) (replies_encoding-push exchanges exchange)
 
-nothing_waits : (waiting : List ℕ) (exchanges : Exchanges) (exchange : List ℕ × List ℕ) → [] ≡ waiting_behind waiting (exchanges ++ exchange ∷ [])
+nothing_waits : (waiting : List ℕ) (exchanges : Exchanges) (exchange : List ℕ × List ℕ) → [] ≡ waiting_after waiting (exchanges ++ exchange ∷ [])
 nothing_waits waiting [] exchange = refl
 nothing_waits waiting (first ∷ exchanges) exchange = refl
 
 -- one more frame
-pub goes_on : (own peer own_mid peer_mid own_now peer_now : Side) (count : ℕ) (request reply : List ℕ) → Going own peer own_mid peer_mid count → IsTaken own_mid.left request own_now.left → Appends peer_mid.written peer_now.written (frame_text request) → peer_now.waiting ≡ []
-    → IsTaken peer_mid.left reply peer_now.left → Appends own_mid.written own_now.written (frame_text reply) → own_now.waiting ≡ [] → Going own peer own_now peer_now (count + 1)
+pub goes_on : (own peer own_mid peer_mid own_now peer_now : Side) (count : ℕ) (request reply : List ℕ) → Going own peer own_mid peer_mid count → IsTaken own_mid.left request own_now.left → Appends peer_mid.written peer_now.written (frame_encoding request) → peer_now.waiting ≡ []
+    → IsTaken peer_mid.left reply peer_now.left → Appends own_mid.written own_now.written (frame_encoding reply) → own_now.waiting ≡ [] → Going own peer own_now peer_now (count + 1)
 goes_on own peer own_mid peer_mid own_now peer_now count request reply so_far asked sent sent_on answered told told_on =
     let exchange : List ℕ × List ℕ = (request, reply) in
     let before = so_far.exchanged in
-    let requests = requests_text-push so_far.exchanges exchange in
-    let replies = replies_text-push so_far.exchanges exchange in
+    let requests = requests_encoding-push so_far.exchanges exchange in
+    let replies = replies_encoding-push so_far.exchanges exchange in
     record {
       exchanges = so_far.exchanges ++ exchange ∷ [];
       exchanged = record {
@@ -73,7 +73,7 @@ ended_as : (own peer own_new peer_new : Side) (fault : WireFault) (result : Resu
 ended_as own peer own_new peer_new fault result is ends = subst (Ends own peer own_new peer_new) (sym is) ends
 
 pub ends_telling : (own peer own_mid peer_mid own_new peer_new : Side) (count : ℕ) (request reply : List ℕ) (fault : WireFault) (result : Result (Unit {0}) WireFault) → Going own peer own_mid peer_mid count → IsTaken own_mid.left request own_new.left
-    → Appends peer_mid.written peer_new.written (frame_text request) → peer_new.waiting ≡ [] → IsTaken peer_mid.left reply peer_new.left → AppendsPart own_mid.written own_new.written (frame_text reply) → fault ≡ Device → result ≡ Err fault → Ends own peer own_new peer_new result
+    → Appends peer_mid.written peer_new.written (frame_encoding request) → peer_new.waiting ≡ [] → IsTaken peer_mid.left reply peer_new.left → AppendsPart own_mid.written own_new.written (frame_encoding reply) → fault ≡ Device → result ≡ Err fault → Ends own peer own_new peer_new result
 ends_telling own peer own_mid peer_mid own_new peer_new count request reply fault result so_far taken sent sent_on answered part device is = ended_as own peer own_new peer_new fault result is (inr (inr (inr (inl (record {
   exchanges = so_far.exchanges;
   own_mid = own_mid;

@@ -6,7 +6,7 @@ use Rattle.wire.specs.Frame.{IsContentLength, IsReadOf}
 use Rattle.wire.specs.Writing.{AppendsPart}
 use Rattle.wire.specs.declared.fault.WireFault.{WireFault}
 use Rattle.wire.specs.declared.fault.WireFault.TheVariants.{Short, Device}
-use Rattle.words.specs.Words.{frame_text}
+use Rattle.words.specs.Words.{frame_encoding}
 
 -- One side: what it has left to be read, what was written to it, and what of that waits for a flush.
 pub record Side : Type 0 where
@@ -25,13 +25,13 @@ as_left left now = side left now.written now.waiting
 abbrev pub Exchanges : Type 0
 Exchanges = List (List ℕ × List ℕ)
 
-abbrev pub requests_text : Exchanges → List ℕ
-requests_text [] = []
-requests_text (exchange ∷ exchanges) = frame_text exchange.0 ++ requests_text exchanges
+abbrev pub requests_encoding : Exchanges → List ℕ
+requests_encoding [] = []
+requests_encoding (exchange ∷ exchanges) = frame_encoding exchange.0 ++ requests_encoding exchanges
 
-abbrev pub replies_text : Exchanges → List ℕ
-replies_text [] = []
-replies_text (exchange ∷ exchanges) = frame_text exchange.1 ++ replies_text exchanges
+abbrev pub replies_encoding : Exchanges → List ℕ
+replies_encoding [] = []
+replies_encoding (exchange ∷ exchanges) = frame_encoding exchange.1 ++ replies_encoding exchanges
 
 -- each is a frame's content
 abbrev pub AreFrames : Exchanges → Type 0
@@ -39,14 +39,14 @@ AreFrames [] = ⊤
 AreFrames (exchange ∷ exchanges) = IsContentLength (length exchange.0) × IsContentLength (length exchange.1) × AreFrames exchanges
 
 -- what waits for a flush after some exchanges: nothing, if there was at least one
-abbrev pub waiting_behind : List ℕ → Exchanges → List ℕ
-waiting_behind waiting [] = waiting
-waiting_behind waiting (exchange ∷ exchanges) = []
+abbrev pub waiting_after : List ℕ → Exchanges → List ℕ
+waiting_after waiting [] = waiting
+waiting_after waiting (exchange ∷ exchanges) = []
 
 -- a whole frame with this content was read from the front
 pub record IsTaken (old : Option (List ℕ)) (content : List ℕ) (new : Option (List ℕ)) : Type 0 where
   pub fits : IsContentLength (length content)
-  pub taken : Consumes old new (frame_text content)
+  pub taken : Consumes old new (frame_encoding content)
 
 -- there was nothing left to read
 abbrev pub TakesAll : Option (List ℕ) → Option (List ℕ) → Type 0
@@ -64,12 +64,12 @@ IsUnanswered old fault new = IsUnread old fault new ⊎ ((fault ≡ Short) × Ta
 -- from the peer and written to the output, all whole and in order; and all of it was flushed.
 pub record Exchanged (own peer : Side) (exchanges : Exchanges) (own_now peer_now : Side) : Type 0 where
   pub frames : AreFrames exchanges
-  pub read : Consumes own.left own_now.left (requests_text exchanges)
-  pub sent : Appends peer.written peer_now.written (requests_text exchanges)
-  pub sent_on : peer_now.waiting ≡ waiting_behind peer.waiting exchanges
-  pub heard : Consumes peer.left peer_now.left (replies_text exchanges)
-  pub told : Appends own.written own_now.written (replies_text exchanges)
-  pub told_on : own_now.waiting ≡ waiting_behind own.waiting exchanges
+  pub read : Consumes own.left own_now.left (requests_encoding exchanges)
+  pub sent : Appends peer.written peer_now.written (requests_encoding exchanges)
+  pub sent_on : peer_now.waiting ≡ waiting_after peer.waiting exchanges
+  pub heard : Consumes peer.left peer_now.left (replies_encoding exchanges)
+  pub told : Appends own.written own_now.written (replies_encoding exchanges)
+  pub told_on : own_now.waiting ≡ waiting_after own.waiting exchanges
 
 -- How a relay ended between the side that it stands on (`own`) and its peer's.
 module _ (own peer own_new peer_new : Side) where
@@ -95,7 +95,7 @@ module _ (own peer own_new peer_new : Side) where
     pub exchanged : Exchanged own peer exchanges (as_left left own_new) peer_mid
     pub request : List ℕ
     pub taken : IsTaken left request own_new.left
-    pub part : AppendsPart peer_mid.written peer_new.written (frame_text request)
+    pub part : AppendsPart peer_mid.written peer_new.written (frame_encoding request)
     pub unheard : peer_new.left ≡ peer_mid.left
     pub fault_is : fault ≡ Device
 
@@ -107,7 +107,7 @@ module _ (own peer own_new peer_new : Side) where
     pub exchanged : Exchanged own peer exchanges (as_left left own_new) peer_mid
     pub request : List ℕ
     pub taken : IsTaken left request own_new.left
-    pub sent : Appends peer_mid.written peer_new.written (frame_text request)
+    pub sent : Appends peer_mid.written peer_new.written (frame_encoding request)
     pub sent_on : peer_new.waiting ≡ []
     pub unanswered : IsUnanswered peer_mid.left fault peer_new.left
 
@@ -120,11 +120,11 @@ module _ (own peer own_new peer_new : Side) where
     pub exchanged : Exchanged own peer exchanges own_mid peer_mid
     pub request : List ℕ
     pub taken : IsTaken own_mid.left request own_new.left
-    pub sent : Appends peer_mid.written peer_new.written (frame_text request)
+    pub sent : Appends peer_mid.written peer_new.written (frame_encoding request)
     pub sent_on : peer_new.waiting ≡ []
     pub reply : List ℕ
     pub answered : IsTaken peer_mid.left reply peer_new.left
-    pub part : AppendsPart own_mid.written own_new.written (frame_text reply)
+    pub part : AppendsPart own_mid.written own_new.written (frame_encoding reply)
     pub fault_is : fault ≡ Device
 
   -- as many frames were answered as a relay sends at most

@@ -3,7 +3,7 @@ ghost use Rattle.std.specs.Io.Buffered.{writer_buffer, writer_contents};
 ghost use Rattle.std.specs.Io.KnownBytes.{Appends};
 ghost use Rattle.relay.specs.Relaying.{Ends, IsTaken, IsUnread, IsUnanswered, TakesAll, side};
 ghost use Rattle.wire.specs.Writing.{AppendsPart};
-ghost use Rattle.words.specs.Words.{frame_text};
+ghost use Rattle.words.specs.Words.{frame_encoding};
 
 use std::alloc::Global;
 use std::io::{BufWriter, Read, Write};
@@ -60,9 +60,9 @@ pub fn next_reply<P: Read>(alloc: Global, replies: &mut P) -> Result<Frame, Wire
 
 /// Writes a frame, and flushes it.
 pub fn send<W: Write + Drop>(writer: &mut BufWriter<W>, frame: &Frame) -> Result<(), WireFault>
-    ensures ok { OnOk result (Appends (writer_contents W.contents writer.old) (writer_contents W.contents writer.new) (frame_text frame.now.content)) }
+    ensures ok { OnOk result (Appends (writer_contents W.contents writer.old) (writer_contents W.contents writer.new) (frame_encoding frame.now.content)) }
     ensures flushed { OnOk result (writer_buffer writer.new ≡ []) }
-    ensures part { OnErr result (AppendsPart (writer_contents W.contents writer.old) (writer_contents W.contents writer.new) (frame_text frame.now.content)) }
+    ensures part { OnErr result (AppendsPart (writer_contents W.contents writer.old) (writer_contents W.contents writer.new) (frame_encoding frame.now.content)) }
     ensures err { IfErr result (λ fault. fault ≡ WireFault.Device) }
 {
     write_frame(writer, frame)?;

@@ -9,7 +9,7 @@ use Rattle.ipc_model.specs.declared.message.PortInMessage.{PortInMessage}
 use Rattle.ipc_model.specs.declared.message.PortInMessage.TheVariants as in_message
 use Rattle.ipc_model.specs.declared.message.RightKind.{RightKind}
 use Rattle.ipc_model.specs.declared.message.RightKind.TheVariants as kind
-use Rattle.ipc_model.specs.rights.CopyOut.{named_with, names_wanted, wants_name}
+use Rattle.ipc_model.specs.rights.CopyOut.{named_with, names_needed, wants_name}
 use Rattle.ipc_model.specs.state.State.{Names}
 use Rattle.rights.specs.Wanting.{named_after, names_port}
 
@@ -75,12 +75,12 @@ module _ (serial : ℕ) where
 
 -- the count of new names, with one more right
 pub one_wants : (names : Names) (rights : List CarriedRight) (i : ℕ) (d : CarriedRight) → i < length rights
-    → names_wanted names (named_after [] (take i rights)) (drop i rights)
+    → names_needed names (named_after [] (take i rights)) (drop i rights)
     ≡ (cond (wants_name names (named_after [] (take i rights)) (get_or rights i d).kind (get_or rights i d).port) 1 0)
-    + names_wanted names (named_after [] (take (i + 1) rights)) (drop (i + 1) rights)
+    + names_needed names (named_after [] (take (i + 1) rights)) (drop (i + 1) rights)
 one_wants names rights i d h =
-    ap (names_wanted names (named_after [] (take i rights))) (drop-cons rights i d h ∙ ap (λ (n : ℕ). get_or rights i d ∷ drop n rights) (sym (add-one i)))
-    ∙ ap (λ (named : List ℕ). cond (wants_name names (named_after [] (take i rights)) (get_or rights i d).kind (get_or rights i d).port) 1 0 + names_wanted names named (drop (i + 1) rights)) (sym (named_one_more rights i d h))
+    ap (names_needed names (named_after [] (take i rights))) (drop-cons rights i d h ∙ ap (λ (n : ℕ). get_or rights i d ∷ drop n rights) (sym (add-one i)))
+    ∙ ap (λ (named : List ℕ). cond (wants_name names (named_after [] (take i rights)) (get_or rights i d).kind (get_or rights i d).port) 1 0 + names_needed names named (drop (i + 1) rights)) (sym (named_one_more rights i d h))
 
 -- the right that a reading past the end would give
 abbrev pub blank : CarriedRight

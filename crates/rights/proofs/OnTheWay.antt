@@ -8,7 +8,7 @@ use Rattle.codes.specs.declared.limits.TheConstants.{MAX_NAMES}
 use Rattle.ipc_model.specs.calls.PortCalls.{names_in}
 use Rattle.ipc_model.specs.declared.message.CarriedRight.{CarriedRight}
 use Rattle.ipc_model.specs.declared.message.PortInMessage.TheVariants as in_message
-use Rattle.ipc_model.specs.rights.CopyOut.{Arrives, MayArrive, names_after, names_wanted}
+use Rattle.ipc_model.specs.rights.CopyOut.{Arrives, MayArrive, names_after, names_needed}
 use Rattle.ipc_model.specs.state.State.{State, Names, with_names}
 use Rattle.ipc_laws.specs.ListLaws.{same_head, same_tail}
 use Rattle.ipc_laws.specs.MapLaws.{get-here}
@@ -20,7 +20,7 @@ pub record OnTheWay (start now : Names) (rights rest : List CarriedRight) (wante
   pub fits : (named : List ℕ) × Fits start now named rest
   pub wants : (last : Names) → Arrives start rights wanted last → (wanted ≡ given ++ left) × Arrives now rest left last
 
-pub way_first : (names : Names) (rights : List CarriedRight) (wanted given : List ℕ) → given ≡ [] → finmap.len names + names_wanted names [] rights ≤ MAX_NAMES → OnTheWay names names rights rights wanted wanted given
+pub way_first : (names : Names) (rights : List CarriedRight) (wanted given : List ℕ) → given ≡ [] → finmap.len names + names_needed names [] rights ≤ MAX_NAMES → OnTheWay names names rights rights wanted wanted given
 way_first names rights wanted given none room = record {
   arrives = λ others last arrives. subst (λ (l : List ℕ). Arrives names rights (l ++ others) last) (sym none) arrives;
   fits = ([], fits_first names rights room);

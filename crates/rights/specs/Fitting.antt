@@ -14,7 +14,7 @@ use Rattle.ipc_model.specs.declared.message.PortInMessage.{PortInMessage}
 use Rattle.ipc_model.specs.declared.message.PortInMessage.TheVariants as in_message
 use Rattle.ipc_model.specs.declared.message.RightKind.{RightKind}
 use Rattle.ipc_model.specs.declared.message.RightKind.TheVariants as kind
-use Rattle.ipc_model.specs.rights.CopyOut.{MayArrive, names_after, merged_entry, merged_rights, new_entry, names_wanted, named_with, wants_name}
+use Rattle.ipc_model.specs.rights.CopyOut.{MayArrive, names_after, merged_entry, merged_rights, new_entry, names_needed, named_with, wants_name}
 use Rattle.ipc_model.specs.state.State.{Names, IsUnused, name_of_port, port_held}
 use Rattle.ipc_laws.specs.Arrivals.{HasName, named_there, not_unnamed, same_live}
 use Rattle.ipc_laws.specs.ListLaws.{some_same}
@@ -23,7 +23,7 @@ use Rattle.ipc_laws.specs.Others.{number_decided, number_same}
 
 -- room for the names that rights need, if every port that needs none has a name
 pub record Fits (start now : Names) (named : List ℕ) (rights : List CarriedRight) : Type 0 where
-  pub room : finmap.len now + names_wanted start named rights ≤ MAX_NAMES
+  pub room : finmap.len now + names_needed start named rights ≤ MAX_NAMES
   pub known : (serial : ℕ) → (is_none (name_of_port start serial) && not (list_any (λ port. port == serial) named)) ≡ false → HasName now serial
 
 -- what becomes of the names when one right arrives: ports keep their names, the right's own port has one, and there is
@@ -154,7 +154,7 @@ pub room_for_one : (start now : Names) (named : List ℕ) (right : CarriedRight)
     → finmap.get now name ≡ None → finmap.len now < MAX_NAMES
 room_for_one start now named right rights name serial live fits may free =
     elim (wants_name start named right.kind right.port) as (λ (b : Bool). wants_name start named right.kind right.port ≡ b
-    → finmap.len now + ((if b then 1 else 0) + names_wanted start (named_with named right.kind right.port) rights) ≤ MAX_NAMES → finmap.len now < MAX_NAMES) [
+    → finmap.len now + ((if b then 1 else 0) + names_needed start (named_with named right.kind right.port) rights) ≤ MAX_NAMES → finmap.len now < MAX_NAMES) [
       | true ↦ λ (_ : _) (room : _). omega (arith, room)
       | false ↦ λ (unwanted : _) (_ : _).
           absurd (by_named start now named rights right.kind right.port name may free serial live (has_one start now named (right ∷ rights) right.kind right.port fits unwanted serial live))
@@ -168,8 +168,8 @@ fits_later start now named right rights name fits may =
     let next : Names = names_after now right.kind right.port name in
     record {
       room = elim (wants_name start named right.kind right.port) as (λ (b : Bool). wants_name start named right.kind right.port ≡ b
-          → finmap.len now + ((if b then 1 else 0) + names_wanted start (named_with named right.kind right.port) rights) ≤ MAX_NAMES
-          → finmap.len next + names_wanted start (named_with named right.kind right.port) rights ≤ MAX_NAMES) [
+          → finmap.len now + ((if b then 1 else 0) + names_needed start (named_with named right.kind right.port) rights) ≤ MAX_NAMES
+          → finmap.len next + names_needed start (named_with named right.kind right.port) rights ≤ MAX_NAMES) [
             | true ↦ λ (_ : _) (room : _). omega (arith, room, here.more)
             | false ↦ λ (unwanted : _) (room : _). omega (arith, room, here.same (has_one start now named (right ∷ rights) right.kind right.port fits unwanted))
           ] refl fits.room;
@@ -177,7 +177,7 @@ fits_later start now named right rights name fits may =
     }
 
 -- at first the names that ports have are those of the space
-pub fits_first : (names : Names) (rights : List CarriedRight) → finmap.len names + names_wanted names [] rights ≤ MAX_NAMES → Fits names names [] rights
+pub fits_first : (names : Names) (rights : List CarriedRight) → finmap.len names + names_needed names [] rights ≤ MAX_NAMES → Fits names names [] rights
 fits_first names rights room = record {
   room = room;
   known = λ (serial : ℕ) (unwanted : _). elim (name_of_port names serial) as (λ (o : Option ℕ). name_of_port names serial ≡ o → (is_none o && not false) ≡ false → HasName names serial) [

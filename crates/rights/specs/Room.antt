@@ -9,7 +9,7 @@ use Rattle.ipc_model.specs.declared.message.PortInMessage.TheVariants as in_mess
 use Rattle.ipc_model.specs.declared.message.RightKind.{RightKind}
 use Rattle.ipc_model.specs.declared.message.RightKind.TheVariants as kind
 use Rattle.ipc_laws.specs.Arrivals.{named_there}
-use Rattle.ipc_model.specs.rights.CopyOut.{MayArrive, MayBeNamed, names_wanted, wants_name}
+use Rattle.ipc_model.specs.rights.CopyOut.{MayArrive, MayBeNamed, names_needed, wants_name}
 use Rattle.ipc_model.specs.state.State.{Names, IsUnused, name_of_port}
 
 -- how many names one right needs
@@ -29,7 +29,7 @@ module _ (names : Names) (name : ℕ) (free : finmap.get names name ≡ None) wh
   room_for kind.Receive serial may fits = room_by serial (name_of_port names serial) refl may fits
 
 -- a right to a port that may arrive under a name that isn't in use
-pub room_to_come : (names : Names) (right : CarriedRight) (serial name : ℕ) → right.port ≡ in_message.Live serial → finmap.len names + names_wanted names [] (right ∷ []) ≤ MAX_NAMES
+pub room_to_come : (names : Names) (right : CarriedRight) (serial name : ℕ) → right.port ≡ in_message.Live serial → finmap.len names + names_needed names [] (right ∷ []) ≤ MAX_NAMES
     → MayArrive names right.kind right.port name → finmap.get names name ≡ None → finmap.len names < MAX_NAMES
 room_to_come names right serial name live fits may free =
     room_for names name free right.kind serial

@@ -4,7 +4,7 @@ ghost use Rattle.std.specs.FinMap as map;
 ghost use Rattle.codes.specs.declared.limits.TheConstants.{MAX_NAMES};
 ghost use Rattle.ipc_model.specs.calls.PortCalls.{names_in};
 ghost use Rattle.ipc_model.specs.declared.message.PortInMessage.TheVariants as in_message;
-ghost use Rattle.ipc_model.specs.rights.CopyOut.{Arrives, MayArrive, names_after, names_wanted};
+ghost use Rattle.ipc_model.specs.rights.CopyOut.{Arrives, MayArrive, names_after, names_needed};
 ghost use Rattle.ipc_model.specs.state.State.{Names, with_names};
 
 use crate::copy_out::{arrival_name, may_arrive, put_right};
@@ -14,7 +14,7 @@ use std::alloc::AllocError;
 
 /// The name under which a right arrives: the preferred one if it may arrive under it, else the one that it gets by
 /// itself.
-pub fn arrival_wanted(state: &IpcState, space: u32, right: CarriedRight, wanted: Option<u32>) -> u32
+pub fn arrival_needed(state: &IpcState, space: u32, right: CarriedRight, wanted: Option<u32>) -> u32
     ensures may { MayArrive (names_in state.now.current space) right.kind right.port result }
     ensures wanted { (shown : ℕ) → wanted ≡ Some shown → MayArrive (names_in state.now.current space) right.kind right.port shown → result ≡ shown }
 {
@@ -58,7 +58,7 @@ fn arrive_one(
     ensures wanted { IfOk result (λ name. (shown : ℕ) → wanted ≡ Some shown → MayArrive (names_in state.old.current space) right.kind right.port shown → name ≡ shown) }
     ensures before { state.new.before ≡ state.old.before }
 {
-    let name = arrival_wanted(state, space, right, wanted);
+    let name = arrival_needed(state, space, right, wanted);
     put_arrived(state, space, right, name)?;
     Ok(name)
 }
@@ -84,7 +84,7 @@ pub fn arrive(
 ) -> Result<(), AllocError>
     requires none { given.old.items ≡ [] }
     requires there { IsSome (map.get state.old.current.spaces space) }
-    requires room { map.len (names_in state.old.current space) + names_wanted (names_in state.old.current space) [] rights.now ≤ MAX_NAMES }
+    requires room { map.len (names_in state.old.current space) + names_needed (names_in state.old.current space) [] rights.now ≤ MAX_NAMES }
     ensures arrives { OnOk result (Arrives (names_in state.old.current space) rights.now given.new.items (names_in state.new.current space)) }
     ensures ok { OnOk result (state.new.current ≡ with_names state.old.current space (names_in state.new.current space)) }
     ensures wanted { OnOk result ((last : Names) → Arrives (names_in state.old.current space) rights.now wanted.now last → given.new.items ≡ wanted.now) }

@@ -1,6 +1,6 @@
 ghost use Rattle.std.specs.Prelude.{◌≡◌, ◌≤◌, ◌==◌, [], length};
 ghost use Rattle.std.specs.List.{list_any};
-ghost use Rattle.ipc_model.specs.rights.CopyOut.{names_wanted, wants_name};
+ghost use Rattle.ipc_model.specs.rights.CopyOut.{names_needed, wants_name};
 ghost use Rattle.ipc_model.specs.calls.PortCalls.{names_in};
 ghost use Rattle.rights.specs.Wanting.{named_after, names_port};
 
@@ -9,8 +9,8 @@ use ipc_state::IpcState;
 
 /// How many new names are needed by rights that arrive in a space one after another: one for each send-once right to a
 /// port, and one for each port that has no name there. It takes no memory.
-pub fn names_wanted(state: &IpcState, space: u32, rights: &[CarriedRight]) -> usize
-    ensures wanted { result ≡ names_wanted (names_in state.now.current space) [] rights.now }
+pub fn names_needed(state: &IpcState, space: u32, rights: &[CarriedRight]) -> usize
+    ensures wanted { result ≡ names_needed (names_in state.now.current space) [] rights.now }
     ensures few { result ≤ length rights.now }
 {
     let mut wanted = 0;

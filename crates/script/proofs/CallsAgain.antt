@@ -9,7 +9,7 @@ use Rattle.script.specs.declared.kind.Kind.TheVariants.{Hexadecimal, Decimal, Si
 use Rattle.script.specs.declared.plain.Arguments.{Arguments}
 use Rattle.script.specs.declared.verb.Verb.{Verb}
 use Rattle.script.specs.declared.verb.Verb.TheVariants as verb
-use Rattle.script.specs.Calls.{verb_of, argument_words, call_words, HasLine, receive_at, send_at, behind_at, call_at}
+use Rattle.script.specs.Calls.{verb_of, argument_words, call_words, HasLine, receive_at, send_at, after_at, call_at}
 use Rattle.script.specs.Kinds.{value_word}
 use Rattle.script.specs.Messages.{flag_words, message_at}
 use Rattle.script.specs.Plain.{three_kinds, kinds_of, plain_call, arguments_at, plain_at}
@@ -94,35 +94,35 @@ send_parts : (m : List ℕ) (words ws : List (List ℕ)) → message_at words �
 unfolding send_at
 send_parts m words ws e = rw e refl
 
-behind_again : (c : Call) (ws : List (List ℕ)) → HasLine c → NoLabel ws → behind_at (verb_of c) (argument_words c ++ ws) ≡ Ok (c, ws)
-unfolding behind_at
-behind_again (call.Attach a) ws f apart = one verb.Attach Decimal _ a ws refl (count a ws f) refl
-behind_again call.Names ws f apart = none verb.Names _ ws refl refl
-behind_again (call.Type a) ws f apart = one verb.Type Hexadecimal _ a ws refl (hex a ws f) refl
-behind_again (call.Rename a b) ws f apart = two verb.Rename Hexadecimal Hexadecimal _ a b ws refl (hex a _ f.0) (hex b ws f.1) refl
-behind_again (call.AllocateName a b) ws f apart = two verb.AllocateName Right Hexadecimal _ a b ws refl (right a _ f.0) (hex b ws f.1) refl
-behind_again (call.Allocate a) ws f apart = one verb.Allocate Right _ a ws refl (right a ws f) refl
-behind_again (call.Destroy a) ws f apart = one verb.Destroy Hexadecimal _ a ws refl (hex a ws f) refl
-behind_again (call.Deallocate a) ws f apart = one verb.Deallocate Hexadecimal _ a ws refl (hex a ws f) refl
-behind_again (call.GetRefs a b) ws f apart = two verb.GetRefs Hexadecimal Right _ a b ws refl (hex a _ f.0) (right b ws f.1) refl
-behind_again (call.ModRefs a b c) ws f apart = three verb.ModRefs Hexadecimal Right Signed _ a b c ws refl (hex a _ f.0) (right b _ f.1) (value_again Signed c ws tt f.2) refl
-behind_again (call.SetQlimit a b) ws f apart = two verb.SetQlimit Hexadecimal Decimal _ a b ws refl (hex a _ f.0) (count b ws f.1) refl
-behind_again (call.SetMscount a b) ws f apart = two verb.SetMscount Hexadecimal Decimal _ a b ws refl (hex a _ f.0) (count b ws f.1) refl
-behind_again (call.SetSeqno a b) ws f apart = two verb.SetSeqno Hexadecimal Decimal _ a b ws refl (hex a _ f.0) (count b ws f.1) refl
-behind_again (call.GetReceiveStatus a) ws f apart = one verb.GetReceiveStatus Hexadecimal _ a ws refl (hex a ws f) refl
-behind_again (call.GetSetStatus a) ws f apart = one verb.GetSetStatus Hexadecimal _ a ws refl (hex a ws f) refl
-behind_again (call.MoveMember a b) ws f apart = two verb.MoveMember Hexadecimal Hexadecimal _ a b ws refl (hex a _ f.0) (hex b ws f.1) refl
-behind_again (call.RequestNotification a b c d e) ws f apart =
+after_again : (c : Call) (ws : List (List ℕ)) → HasLine c → NoLabel ws → after_at (verb_of c) (argument_words c ++ ws) ≡ Ok (c, ws)
+unfolding after_at
+after_again (call.Attach a) ws f apart = one verb.Attach Decimal _ a ws refl (count a ws f) refl
+after_again call.Names ws f apart = none verb.Names _ ws refl refl
+after_again (call.Type a) ws f apart = one verb.Type Hexadecimal _ a ws refl (hex a ws f) refl
+after_again (call.Rename a b) ws f apart = two verb.Rename Hexadecimal Hexadecimal _ a b ws refl (hex a _ f.0) (hex b ws f.1) refl
+after_again (call.AllocateName a b) ws f apart = two verb.AllocateName Right Hexadecimal _ a b ws refl (right a _ f.0) (hex b ws f.1) refl
+after_again (call.Allocate a) ws f apart = one verb.Allocate Right _ a ws refl (right a ws f) refl
+after_again (call.Destroy a) ws f apart = one verb.Destroy Hexadecimal _ a ws refl (hex a ws f) refl
+after_again (call.Deallocate a) ws f apart = one verb.Deallocate Hexadecimal _ a ws refl (hex a ws f) refl
+after_again (call.GetRefs a b) ws f apart = two verb.GetRefs Hexadecimal Right _ a b ws refl (hex a _ f.0) (right b ws f.1) refl
+after_again (call.ModRefs a b c) ws f apart = three verb.ModRefs Hexadecimal Right Signed _ a b c ws refl (hex a _ f.0) (right b _ f.1) (value_again Signed c ws tt f.2) refl
+after_again (call.SetQlimit a b) ws f apart = two verb.SetQlimit Hexadecimal Decimal _ a b ws refl (hex a _ f.0) (count b ws f.1) refl
+after_again (call.SetMscount a b) ws f apart = two verb.SetMscount Hexadecimal Decimal _ a b ws refl (hex a _ f.0) (count b ws f.1) refl
+after_again (call.SetSeqno a b) ws f apart = two verb.SetSeqno Hexadecimal Decimal _ a b ws refl (hex a _ f.0) (count b ws f.1) refl
+after_again (call.GetReceiveStatus a) ws f apart = one verb.GetReceiveStatus Hexadecimal _ a ws refl (hex a ws f) refl
+after_again (call.GetSetStatus a) ws f apart = one verb.GetSetStatus Hexadecimal _ a ws refl (hex a ws f) refl
+after_again (call.MoveMember a b) ws f apart = two verb.MoveMember Hexadecimal Hexadecimal _ a b ws refl (hex a _ f.0) (hex b ws f.1) refl
+after_again (call.RequestNotification a b c d e) ws f apart =
     plain_parts verb.RequestNotification _ _ _ _ _ _ ws (record { first = a; second = b; third = c; fourth = d; fifth = e })
     (hex a _ f.0) (value_again Notification b _ tt f.1) (count c _ f.2) (hex d _ f.3) (disposition e ws f.4) refl
-behind_again (call.InsertRight a b c) ws f apart = three verb.InsertRight Hexadecimal Hexadecimal Disposition _ a b c ws refl (hex a _ f.0) (hex b _ f.1) (disposition c ws f.2) refl
-behind_again (call.ExtractRight a b) ws f apart = two verb.ExtractRight Hexadecimal Disposition _ a b ws refl (hex a _ f.0) (disposition b ws f.1) refl
-behind_again (call.Send m) ws f apart = send_parts m _ ws (message_again m ws f apart)
-behind_again (call.Receive limit large name waited) ws f apart = receive_again limit name large waited ws f.0 f.1 apart
-behind_again (call.SpaceCreate a b) ws f apart = two verb.SpaceCreate Hexadecimal Disposition _ a b ws refl (hex a _ f.0) (disposition b ws f.1) refl
-behind_again call.SpaceDestroy ws f apart = none verb.SpaceDestroy _ ws refl refl
+after_again (call.InsertRight a b c) ws f apart = three verb.InsertRight Hexadecimal Hexadecimal Disposition _ a b c ws refl (hex a _ f.0) (hex b _ f.1) (disposition c ws f.2) refl
+after_again (call.ExtractRight a b) ws f apart = two verb.ExtractRight Hexadecimal Disposition _ a b ws refl (hex a _ f.0) (disposition b ws f.1) refl
+after_again (call.Send m) ws f apart = send_parts m _ ws (message_again m ws f apart)
+after_again (call.Receive limit large name waited) ws f apart = receive_again limit name large waited ws f.0 f.1 apart
+after_again (call.SpaceCreate a b) ws f apart = two verb.SpaceCreate Hexadecimal Disposition _ a b ws refl (hex a _ f.0) (disposition b ws f.1) refl
+after_again call.SpaceDestroy ws f apart = none verb.SpaceDestroy _ ws refl refl
 
 -- the words of a call, followed by others, are read as the call
 pub call_again : (c : Call) (ws : List (List ℕ)) → HasLine c → NoLabel ws → call_at (call_words c ++ ws) ≡ Ok (c, ws)
 unfolding call_at call_words
-call_again c ws f apart = rw (verb_again (verb_of c)) (behind_again c ws f apart)
+call_again c ws f apart = rw (verb_again (verb_of c)) (after_again c ws f apart)

@@ -6,7 +6,7 @@ use Rattle.script.specs.declared.fault.Fault.{Fault}
 use Rattle.script.specs.declared.fault.Fault.TheVariants as fault
 use Rattle.script.specs.declared.kind.Kind.TheVariants.{Hexadecimal}
 use Rattle.script.specs.Bytes.{optional_bytes, optional_bytes_at}
-use Rattle.script.specs.Items.{numbers_at, item_front, body_within, body_words, item_at, behind_bytes, parts_at, body_at, AddsItem}
+use Rattle.script.specs.Items.{numbers_at, item_front, body_within, body_words, item_at, after_bytes, parts_at, body_at, AddsItem}
 use Rattle.script.specs.Kinds.{read_word}
 use Rattle.script.specs.Reading.{Reading, ◌>>=◌, number_at, label_at, Fails}
 use Rattle.script.specs.Spaced.{spaced}
@@ -73,28 +73,28 @@ rest_pushed (Ok done) old line new words rest all is same pushed = pushed ∙ sy
 rest_pushed (Err e) old line new words rest all is same pushed = tt
 
 -- one more item is read
-more_bytes : (done item : List ℕ) (read : Reading (List ℕ × List (List ℕ))) → behind_bytes (done ++ item) read ≡ behind_bytes done (behind_bytes item read)
+more_bytes : (done item : List ℕ) (read : Reading (List ℕ × List (List ℕ))) → after_bytes (done ++ item) read ≡ after_bytes done (after_bytes item read)
 more_bytes done item (Err place) = refl
 more_bytes done item (Ok b) = ap (λ (l : List ℕ). Ok (l, b.1)) (append_assoc done item b.0)
 
-one_more : (n : ℕ) (words rest : List (List ℕ)) → label_at (codes "item") words ≡ Some rest → parts_at (suc n) words ≡ (item_at rest >>= λ i. behind_bytes i.0 (parts_at n i.1))
+one_more : (n : ℕ) (words rest : List (List ℕ)) → label_at (codes "item") words ≡ Some rest → parts_at (suc n) words ≡ (item_at rest >>= λ i. after_bytes i.0 (parts_at n i.1))
 unfolding parts_at
 one_more n words rest is = rw (is, parts_at) refl
 
 pub item_read : (done item : List ℕ) (left : ℕ) (words rest more : List (List ℕ)) → label_at (codes "item") words ≡ Some rest → item_at rest ≡ Ok (item, more) → 0 < left
-    → behind_bytes (done ++ item) (parts_at (left - 1) more) ≡ behind_bytes done (parts_at left words)
+    → after_bytes (done ++ item) (parts_at (left - 1) more) ≡ after_bytes done (parts_at left words)
 item_read done item zero words rest more label read some = absurd (omega arith)
 item_read done item (suc n) words rest more label read some =
     let e : suc n - 1 ≡ n = omega arith in
-    ap (λ (k : ℕ). behind_bytes (done ++ item) (parts_at k more)) e ∙ more_bytes done item (parts_at n more)
-    ∙ sym (ap (behind_bytes done) (one_more n words rest label ∙ ap (λ (r : Reading (List ℕ × List (List ℕ))). r >>= λ i. behind_bytes i.0 (parts_at n i.1)) read))
+    ap (λ (k : ℕ). after_bytes (done ++ item) (parts_at k more)) e ∙ more_bytes done item (parts_at n more)
+    ∙ sym (ap (after_bytes done) (one_more n words rest label ∙ ap (λ (r : Reading (List ℕ × List (List ℕ))). r >>= λ i. after_bytes i.0 (parts_at n i.1)) read))
 
 pub item_fault : (f : Fault) (done : List ℕ) (left : ℕ) (words rest : List (List ℕ)) (all : Reading (List ℕ × List (List ℕ))) → label_at (codes "item") words ≡ Some rest → Fails f (item_at rest) → 0 < left
-    → behind_bytes done (parts_at left words) ≡ all → Fails f all
+    → after_bytes done (parts_at left words) ≡ all → Fails f all
 item_fault fault.NoMemory done left words rest all label fails some is = tt
 item_fault (fault.Unreadable place) done zero words rest all label fails some is = absurd (omega arith)
 item_fault (fault.Unreadable place) done (suc n) words rest all label fails some is =
-    sym is ∙ ap (behind_bytes done) (one_more n words rest label ∙ ap (λ (r : Reading (List ℕ × List (List ℕ))). r >>= λ i. behind_bytes i.0 (parts_at n i.1)) fails)
+    sym is ∙ ap (after_bytes done) (one_more n words rest label ∙ ap (λ (r : Reading (List ℕ × List (List ℕ))). r >>= λ i. after_bytes i.0 (parts_at n i.1)) fails)
 
 pub no_item_read : (left : ℕ) (words : List (List ℕ)) → label_at (codes "item") words ≡ None → parts_at left words ≡ optional_bytes_at (codes "data") words
 unfolding parts_at
@@ -119,8 +119,8 @@ pub all_pushed : (line body : List ℕ) → line ++ spaced (body_within (length 
 unfolding body_words
 all_pushed line body = refl
 
-pub all_read : (body : List ℕ) (n : ℕ) (words : List (List ℕ)) → body ≡ [] → n ≡ length words → behind_bytes body (parts_at n words) ≡ body_at words
+pub all_read : (body : List ℕ) (n : ℕ) (words : List (List ℕ)) → body ≡ [] → n ≡ length words → after_bytes body (parts_at n words) ≡ body_at words
 unfolding body_at
 all_read body n words none count =
-    ap (λ (l : List ℕ). behind_bytes l (parts_at n words)) none ∙ ap (λ (k : ℕ). behind_bytes [] (parts_at k words)) count
-    ∙ elim (parts_at (length words) words) as (λ (r : Reading (List ℕ × List (List ℕ))). behind_bytes [] r ≡ r) [ Ok b ↦ refl | Err place ↦ refl ]
+    ap (λ (l : List ℕ). after_bytes l (parts_at n words)) none ∙ ap (λ (k : ℕ). after_bytes [] (parts_at k words)) count
+    ∙ elim (parts_at (length words) words) as (λ (r : Reading (List ℕ × List (List ℕ))). after_bytes [] r ≡ r) [ Ok b ↦ refl | Err place ↦ refl ]

@@ -10,7 +10,7 @@ use Rattle.byteorder.specs.Endian.{little_number}
 use Rattle.byteorder.specs.Numbers.{little_from-lt}
 use Rattle.words.specs.WordLaws.{word-little_number}
 use Rattle.words.specs.Words.{AreBytes, word}
-use Rattle.ipc_model.specs.messages.Items.{item_text}
+use Rattle.ipc_model.specs.messages.Items.{item_encoding}
 use Rattle.script.specs.declared.fault.Expected.TheVariants as expected
 use Rattle.script.specs.declared.kind.Kind.{Kind}
 use Rattle.script.specs.declared.kind.Kind.TheVariants as kind
@@ -21,10 +21,10 @@ use Rattle.script.specs.Reading.{label_at, bounded_at}
 use Rattle.script.proofs.ReadingAgain.{bounded_again, label_again, other_label, past_bytes, bytes_at_again, optional_bytes_again, numbers_end, NoLabel}
 use Rattle.script.proofs.ValuesAgain.{word_again, in_decimal}
 
-pub bytes_behind : (n : ℕ) (bytes : List ℕ) → AreBytes bytes → AreBytes (drop n bytes)
-bytes_behind zero bytes fits = fits
-bytes_behind (suc n) [] fits = fits
-bytes_behind (suc n) (b ∷ bytes) fits = bytes_behind n bytes (λ (k : ℕ). fits (suc k))
+pub bytes_after : (n : ℕ) (bytes : List ℕ) → AreBytes bytes → AreBytes (drop n bytes)
+bytes_after zero bytes fits = fits
+bytes_after (suc n) [] fits = fits
+bytes_after (suc n) (b ∷ bytes) fits = bytes_after n bytes (λ (k : ℕ). fits (suc k))
 
 bytes_first : (n : ℕ) (bytes : List ℕ) → AreBytes bytes → AreBytes (take n bytes)
 bytes_first zero bytes fits i = omega arith
@@ -68,7 +68,7 @@ word_parts body w fits e =
     let enough : 4 ≤ length body = grind (arith, nat_tests, test.0) in
     subst (WordFront body) (some_same (little_number 4 body, drop 4 body) w test.1) (record {
       is = sym (ap (λ (l : List ℕ). l ++ drop 4 body) (word-little_number body fits enough) ∙ take-append-drop 4 body);
-      fits = bytes_behind 4 body fits;
+      fits = bytes_after 4 body fits;
       small = number_fits body fits;
     })
 
@@ -87,7 +87,7 @@ split_parts n bytes s fits e =
       is = sym (take-append-drop n bytes);
       count = length-take-le n bytes enough;
       first = bytes_first n bytes fits;
-      behind = bytes_behind n bytes fits;
+      behind = bytes_after n bytes fits;
     })
 
 record Numbers (k : ℕ) (bytes : List ℕ) : Type 0 where
@@ -103,7 +103,7 @@ numbers_back k (a ∷ b ∷ c ∷ []) fits even = absurd (omega (arith, even))
 numbers_back zero (a ∷ b ∷ c ∷ d ∷ bytes) fits even = absurd (omega (arith, even))
 numbers_back (suc k) (a ∷ b ∷ c ∷ d ∷ bytes) fits even =
     let four : AreBytes (a ∷ b ∷ c ∷ d ∷ []) = bytes_first 4 (a ∷ b ∷ c ∷ d ∷ bytes) fits in
-    let more : Numbers k bytes = numbers_back k bytes (bytes_behind 4 (a ∷ b ∷ c ∷ d ∷ bytes) fits) (omega (arith, even)) in
+    let more : Numbers k bytes = numbers_back k bytes (bytes_after 4 (a ∷ b ∷ c ∷ d ∷ bytes) fits) (omega (arith, even)) in
     record {
       is = ap (λ (l : List ℕ). l ++ flat_map word (numbers_in bytes)) (word-little_number (a ∷ b ∷ c ∷ d ∷ []) four (omega arith)) ∙ ap (λ (l : List ℕ). a ∷ b ∷ c ∷ d ∷ l) more.is;
       count = ap (λ (n : ℕ). suc n) more.count;
@@ -111,7 +111,7 @@ numbers_back (suc k) (a ∷ b ∷ c ∷ d ∷ bytes) fits even =
     }
 
 pub record WordsFront (body : List ℕ) (w : ℕ × List ℕ × List ℕ) : Type 0 where
-  pub is : item_text (words_item w.0 (numbers_in w.1)) ++ w.2 ≡ body
+  pub is : item_encoding (words_item w.0 (numbers_in w.1)) ++ w.2 ≡ body
   pub small : w.0 < 0x100
   pub few : length (numbers_in w.1) < 0x1000
   pub fit : AreNumbers (numbers_in w.1)
@@ -120,11 +120,11 @@ pub record WordsFront (body : List ℕ) (w : ℕ × List ℕ × List ℕ) : Type
 abbrev words_content : ℕ × List ℕ → List ℕ × List ℕ → Option (ℕ × List ℕ × List ℕ)
 words_content w c = Some (w.0 % 0x100, c.0, c.1)
 
-abbrev words_behind : ℕ × List ℕ → Option (ℕ × List ℕ × List ℕ)
-words_behind w = cond (w.0 == descriptor (w.0 % 0x100) 32 (number_told w.0)) (split_front (4 * number_told w.0) w.1 >>? words_content w) None
+abbrev words_after : ℕ × List ℕ → Option (ℕ × List ℕ × List ℕ)
+words_after w = cond (w.0 == descriptor (w.0 % 0x100) 32 (number_told w.0)) (split_front (4 * number_told w.0) w.1 >>? words_content w) None
 
 words_joined : (t w : ℕ) (ns body behind content rest : List ℕ) → t + 32 * 2 ^ 8 + length ns * 2 ^ 16 + 2 ^ 28 ≡ w → flat_map word ns ≡ content → rest ≡ content ++ behind → body ≡ word w ++ rest
-    → item_text (words_item t ns) ++ behind ≡ body
+    → item_encoding (words_item t ns) ++ behind ≡ body
 words_joined t w ns body behind content rest told numbers split front =
     append_assoc (word (t + 32 * 2 ^ 8 + length ns * 2 ^ 16 + 2 ^ 28)) (flat_map word ns) behind
     ∙ ap (λ (n : ℕ). word n ++ (flat_map word ns ++ behind)) told
@@ -135,7 +135,7 @@ words_joined t w ns body behind content rest told numbers split front =
 words_parts : (body : List ℕ) (found : ℕ × List ℕ × List ℕ) → AreBytes body → words_front body ≡ Some found → WordsFront body found
 unfolding words_front
 words_parts body found fits e =
-    let first = bind_option (word_front body) words_behind found e in
+    let first = bind_option (word_front body) words_after found e in
     let w : ℕ × List ℕ = first.0 in
     let front : WordFront body w = word_parts body w fits first.1 in
     let test = if_some (w.0 == descriptor (w.0 % 0x100) 32 (number_told w.0)) (split_front (4 * number_told w.0) w.1 >>? words_content w) found first.2 in
@@ -154,22 +154,22 @@ words_parts body found fits e =
     })
 
 pub record BytesFront (body : List ℕ) (b : List ℕ × List ℕ) : Type 0 where
-  pub is : item_text (bytes_item b.0) ++ b.1 ≡ body
+  pub is : item_encoding (bytes_item b.0) ++ b.1 ≡ body
   pub few : length b.0 < 0x1000
   pub bytes : AreBytes b.0
   pub behind : AreBytes b.1
 
-abbrev zeros_behind : ℕ → List ℕ → List ℕ × List ℕ → Option (List ℕ × List ℕ)
-zeros_behind n bytes z = cond (bytes_eq z.0 (zeros n)) (Some (bytes, z.1)) None
+abbrev zeros_after : ℕ → List ℕ → List ℕ × List ℕ → Option (List ℕ × List ℕ)
+zeros_after n bytes z = cond (bytes_eq z.0 (zeros n)) (Some (bytes, z.1)) None
 
-abbrev tail_behind : ℕ → List ℕ × List ℕ → Option (List ℕ × List ℕ)
-tail_behind n b = split_front (length (zeros n)) b.1 >>? zeros_behind n b.0
+abbrev tail_after : ℕ → List ℕ × List ℕ → Option (List ℕ × List ℕ)
+tail_after n b = split_front (length (zeros n)) b.1 >>? zeros_after n b.0
 
-abbrev bytes_behind_word : ℕ × List ℕ → Option (List ℕ × List ℕ)
-bytes_behind_word w = cond (w.0 == descriptor 9 8 (number_told w.0)) (split_front (number_told w.0) w.1 >>? tail_behind (number_told w.0)) None
+abbrev bytes_after_word : ℕ × List ℕ → Option (List ℕ × List ℕ)
+bytes_after_word w = cond (w.0 == descriptor 9 8 (number_told w.0)) (split_front (number_told w.0) w.1 >>? tail_after (number_told w.0)) None
 
 bytes_joined : (w n : ℕ) (bytes body behind zero_bytes tail rest : List ℕ) → 9 + 8 * 2 ^ 8 + length bytes * 2 ^ 16 + 2 ^ 28 ≡ w → length bytes ≡ n → zero_bytes ≡ zeros n
-    → tail ≡ zero_bytes ++ behind → rest ≡ bytes ++ tail → body ≡ word w ++ rest → item_text (bytes_item bytes) ++ behind ≡ body
+    → tail ≡ zero_bytes ++ behind → rest ≡ bytes ++ tail → body ≡ word w ++ rest → item_encoding (bytes_item bytes) ++ behind ≡ body
 bytes_joined w n bytes body behind zero_bytes tail rest told count same after split front =
     append_assoc (word (9 + 8 * 2 ^ 8 + length bytes * 2 ^ 16 + 2 ^ 28)) (bytes ++ zeros (length bytes)) behind
     ∙ ap (λ (k : ℕ). word k ++ ((bytes ++ zeros (length bytes)) ++ behind)) told
@@ -183,16 +183,16 @@ bytes_joined w n bytes body behind zero_bytes tail rest told count same after sp
 bytes_parts : (body : List ℕ) (found : List ℕ × List ℕ) → AreBytes body → bytes_front body ≡ Some found → BytesFront body found
 unfolding bytes_front
 bytes_parts body found fits e =
-    let first = bind_option (word_front body) bytes_behind_word found e in
+    let first = bind_option (word_front body) bytes_after_word found e in
     let w : ℕ × List ℕ = first.0 in
     let n : ℕ = number_told w.0 in
     let front : WordFront body w = word_parts body w fits first.1 in
-    let test = if_some (w.0 == descriptor 9 8 n) (split_front n w.1 >>? tail_behind n) found first.2 in
+    let test = if_some (w.0 == descriptor 9 8 n) (split_front n w.1 >>? tail_after n) found first.2 in
     let same : w.0 ≡ descriptor 9 8 n = eqb-true w.0 (descriptor 9 8 n) test.0 in
-    let second = bind_option (split_front n w.1) (tail_behind n) found test.1 in
+    let second = bind_option (split_front n w.1) (tail_after n) found test.1 in
     let b : List ℕ × List ℕ = second.0 in
     let split : SplitFront n w.1 b = split_parts n w.1 b front.fits second.1 in
-    let third = bind_option (split_front (length (zeros n)) b.1) (zeros_behind n b.0) found second.2 in
+    let third = bind_option (split_front (length (zeros n)) b.1) (zeros_after n b.0) found second.2 in
     let z : List ℕ × List ℕ = third.0 in
     let tail : SplitFront (length (zeros n)) b.1 z = split_parts (length (zeros n)) b.1 z split.behind third.1 in
     let last = if_some (bytes_eq z.0 (zeros n)) (Some (b.0, z.1)) found third.2 in
@@ -254,19 +254,19 @@ no_bytes_label n fits = elim (bytes_eq (value_word kind.Element n) (codes "bytes
 ] refl
 
 words_item_parts : (words rest ws : List (List ℕ)) (t : ℕ) (ns : List ℕ) → label_at (codes "bytes") words ≡ None → bounded_at expected.Item kind.Element 0x100 words ≡ Ok (t, rest)
-    → numbers_at rest ≡ (ns, ws) → nat_lt (length ns) 0x1000 ≡ true → item_at words ≡ Ok (item_text (words_item t ns), ws)
+    → numbers_at rest ≡ (ns, ws) → nat_lt (length ns) 0x1000 ≡ true → item_at words ≡ Ok (item_encoding (words_item t ns), ws)
 unfolding item_at words_item_at
 words_item_parts words rest ws t ns label type_name numbers few = rw (label, item_at) (rw type_name (rw numbers (rw few refl)))
 
 words_item_again : (t : ℕ) (ns : List ℕ) (ws : List (List ℕ)) → t < 0x100 → AreNumbers ns → length ns < 0x1000 → numbers_at ws ≡ ([], ws)
-    → item_at (value_word kind.Element t ∷ (map (value_word (element_kind t)) ns ++ ws)) ≡ Ok (item_text (words_item t ns), ws)
+    → item_at (value_word kind.Element t ∷ (map (value_word (element_kind t)) ns ++ ws)) ≡ Ok (item_encoding (words_item t ns), ws)
 words_item_again t ns ws small fit few none =
     let rest : List (List ℕ) = map (value_word (element_kind t)) ns ++ ws in
     words_item_parts (value_word kind.Element t ∷ rest) rest ws t ns (other_label (codes "bytes") (value_word kind.Element t) rest (no_bytes_label t (omega (arith, small))))
     (bounded_again expected.Item kind.Element 0x100 t rest tt small (omega arith)) (numbers_again _ ns ws fit none) (below_is _ _ few)
 
 bytes_item_parts : (rest ws : List (List ℕ)) (bytes : List ℕ) → bytes_at rest ≡ Ok (bytes, ws) → nat_lt (length bytes) 0x1000 ≡ true
-    → item_at (codes "bytes" ∷ rest) ≡ Ok (item_text (bytes_item bytes), ws)
+    → item_at (codes "bytes" ∷ rest) ≡ Ok (item_encoding (bytes_item bytes), ws)
 unfolding item_at bytes_item_at
 bytes_item_parts rest ws bytes read few = rw (label_again (codes "bytes") rest, item_at) (rw read (rw few refl))
 
@@ -295,14 +295,14 @@ item_no_number : (ws : List (List ℕ)) → numbers_at (codes "item" ∷ ws) ≡
 unfolding read_word
 item_no_number ws = numbers_end (codes "item") ws refl
 
-abbrev pub words_behind_item : ℕ → List ℕ → Option (List (List ℕ) × List ℕ) → List (List ℕ)
-words_behind_item m body front = elim front [ None ↦ optional_bytes (codes "data") body | Some i ↦ i.0 ++ body_within m i.1 ]
+abbrev pub words_after_item : ℕ → List ℕ → Option (List (List ℕ) × List ℕ) → List (List ℕ)
+words_after_item m body front = elim front [ None ↦ optional_bytes (codes "data") body | Some i ↦ i.0 ++ body_within m i.1 ]
 
 body_no_number : (m : ℕ) (body : List ℕ) (ws : List (List ℕ)) → AreBytes body → numbers_at ws ≡ ([], ws) → numbers_at (body_within m body ++ ws) ≡ ([], body_within m body ++ ws)
 unfolding body_within words_item_words bytes_item_words
 body_no_number zero body ws fits none = data_no_number body ws none
 body_no_number (suc m) body ws fits none =
-    item_cases (λ (front : Option (List (List ℕ) × List ℕ)). numbers_at (words_behind_item m body front ++ ws) ≡ ([], words_behind_item m body front ++ ws)) body fits
+    item_cases (λ (front : Option (List (List ℕ) × List ℕ)). numbers_at (words_after_item m body front ++ ws) ≡ ([], words_after_item m body front ++ ws)) body fits
     (λ (w : _) (parts : _). item_no_number _) (λ (b : _) (parts : _). item_no_number _) (data_no_number body ws none)
 
 pub past_within : (m : ℕ) (label body : List ℕ) (ws : List (List ℕ)) → AreBytes body → bytes_eq (codes "item") label ≡ false → bytes_eq (codes "data") label ≡ false → label_at label ws ≡ None
@@ -310,7 +310,7 @@ pub past_within : (m : ℕ) (label body : List ℕ) (ws : List (List ℕ)) → A
 unfolding body_within words_item_words bytes_item_words
 past_within zero label body ws fits item apart none = past_bytes label (codes "data") body ws apart none
 past_within (suc m) label body ws fits item apart none =
-    item_cases (λ (front : Option (List (List ℕ) × List ℕ)). label_at label (words_behind_item m body front ++ ws) ≡ None) body fits
+    item_cases (λ (front : Option (List (List ℕ) × List ℕ)). label_at label (words_after_item m body front ++ ws) ≡ None) body fits
     (λ (w : _) (parts : _). other_label label (codes "item") _ item) (λ (b : _) (parts : _). other_label label (codes "item") _ item) (past_bytes label (codes "data") body ws apart none)
 
 pub past_body : (label body : List ℕ) (ws : List (List ℕ)) → AreBytes body → bytes_eq (codes "item") label ≡ false → bytes_eq (codes "data") label ≡ false → label_at label ws ≡ None
@@ -322,22 +322,22 @@ within_again : (m n : ℕ) (body : List ℕ) (ws : List (List ℕ)) → AreBytes
 unfolding body_within words_item_words bytes_item_words
 within_again zero n body ws fits none = λ (enough : _). data_again n body ws fits none
 within_again (suc m) zero body ws fits none =
-    item_cases (λ (front : Option (List (List ℕ) × List ℕ)). length (words_behind_item m body front) ≤ 0 → parts_at 0 (words_behind_item m body front ++ ws) ≡ Ok (body, ws)) body fits
+    item_cases (λ (front : Option (List (List ℕ) × List ℕ)). length (words_after_item m body front) ≤ 0 → parts_at 0 (words_after_item m body front ++ ws) ≡ Ok (body, ws)) body fits
     (λ (w : _) (parts : _) (enough : _). absurd (omega (arith, enough))) (λ (b : _) (parts : _) (enough : _). absurd (omega (arith, enough))) (λ (enough : _). data_again 0 body ws fits none)
 within_again (suc m) (suc n) body ws fits none =
-    item_cases (λ (front : Option (List (List ℕ) × List ℕ)). length (words_behind_item m body front) ≤ suc n → parts_at (suc n) (words_behind_item m body front ++ ws) ≡ Ok (body, ws)) body fits
+    item_cases (λ (front : Option (List (List ℕ) × List ℕ)). length (words_after_item m body front) ≤ suc n → parts_at (suc n) (words_after_item m body front ++ ws) ≡ Ok (body, ws)) body fits
     (λ (w : ℕ × List ℕ × List ℕ) (parts : WordsFront body w) (enough : _).
     let numbers : List (List ℕ) = map (value_word (element_kind w.0)) (numbers_in w.1) in
     let more : List (List ℕ) = body_within m w.2 in
     let few : length more ≤ n = omega (arith, enough, length-append numbers more) in
     ap (λ (l : List (List ℕ)). parts_at (suc n) (codes "item" ∷ value_word kind.Element w.0 ∷ l)) (append_assoc numbers more ws)
-    ∙ item_more n _ (more ++ ws) ws (item_text (words_item w.0 (numbers_in w.1))) w.2
+    ∙ item_more n _ (more ++ ws) ws (item_encoding (words_item w.0 (numbers_in w.1))) w.2
     (words_item_again w.0 (numbers_in w.1) (more ++ ws) parts.small parts.fit parts.few (body_no_number m w.2 ws parts.behind none.1)) (within_again m n w.2 ws parts.behind none few)
     ∙ ap (λ (l : List ℕ). Ok (l, ws)) parts.is)
     (λ (b : List ℕ × List ℕ) (parts : BytesFront body b) (enough : _).
     let more : List (List ℕ) = body_within m b.1 in
     let few : length more ≤ n = omega (arith, enough) in
-    item_more n _ (more ++ ws) ws (item_text (bytes_item b.0)) b.1
+    item_more n _ (more ++ ws) ws (item_encoding (bytes_item b.0)) b.1
     (bytes_item_parts (bytes_word b.0 ∷ more ++ ws) (more ++ ws) b.0 (bytes_at_again b.0 (more ++ ws) parts.bytes) (below_is _ _ parts.few)) (within_again m n b.1 ws parts.behind none few)
     ∙ ap (λ (l : List ℕ). Ok (l, ws)) parts.is)
     (λ (enough : _). data_again (suc n) body ws fits none)

@@ -9,6 +9,6 @@ pub mod ReadingAgain
 pub mod RepliesAgain
 pub mod Rows
 pub mod ScriptsAgain
-pub mod Spelled
+pub mod Printed
 pub mod ValuesAgain
 pub mod WordsOf

@@ -16,7 +16,7 @@ use Rattle.script.specs.Verbs.{verb_word}
 use Rattle.script.proofs.CallsAgain.{call_again}
 use Rattle.script.proofs.ReadingAgain.{no_label_end}
 use Rattle.script.proofs.RepliesAgain.{reply_again, reply_no_label}
-use Rattle.script.proofs.Spelled.{call_spelled, reply_spelled, spelled_both}
+use Rattle.script.proofs.Printed.{call_printed, reply_printed, printed_both}
 use Rattle.script.proofs.WordsOf.{line_again}
 
 pub request_again : (c : Call) → HasLine c → request_at (call_words c) ≡ Ok c
@@ -34,11 +34,11 @@ exchange_again x is =
 
 pub words_of_call : (c : Call) → HasLine c → words_of (call_line c) ≡ call_words c
 unfolding call_line
-words_of_call c fits = line_again (call_words c) (call_spelled c fits)
+words_of_call c fits = line_again (call_words c) (call_printed c fits)
 
 pub words_of_exchange : (x : Exchange) → IsExchange x → words_of (exchange_line x) ≡ exchange_words x
 unfolding exchange_line
-words_of_exchange x is = line_again (exchange_words x) (spelled_both (call_words x.call) (reply_words x.reply) (call_spelled x.call is.call) (reply_spelled x.reply is.reply))
+words_of_exchange x is = line_again (exchange_words x) (printed_both (call_words x.call) (reply_words x.reply) (call_printed x.call is.call) (reply_printed x.reply is.reply))
 
 -- a line is read as its words are
 abbrev whole : List ℕ → Reading Exchange → Result (Option Exchange) LineFault

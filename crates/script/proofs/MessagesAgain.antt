@@ -17,10 +17,10 @@ use Rattle.script.specs.declared.message.Header.{Header}
 use Rattle.script.specs.Bytes.{bytes_word}
 use Rattle.script.specs.Items.{body_words, body_at}
 use Rattle.script.specs.Kinds.{value_word, read_word}
-use Rattle.script.specs.Messages.{optional_words, flag_words, local_words, header_of, header_text, header_words, message_words, further_at, local_at, rights_at, header_at, message_at}
+use Rattle.script.specs.Messages.{optional_words, flag_words, local_words, header_of, header_encoding, header_words, message_words, further_at, local_at, rights_at, header_at, message_at}
 use Rattle.script.specs.declared.fault.Expected.TheVariants as expected
 use Rattle.script.specs.Reading.{Reading, ◌>>=◌, value_at, bounded_at, label_at, labelled_at, optional_at, flag_at}
-use Rattle.script.proofs.ItemsAgain.{bytes_behind, past_body, body_again}
+use Rattle.script.proofs.ItemsAgain.{bytes_after, past_body, body_again}
 use Rattle.script.proofs.ReadingAgain.{bounded_again}
 use Rattle.script.proofs.ReadingAgain.{value_again, label_again, other_label, labelled_again, optional_again, flag_again, past_optional, bytes_at_again, NoLabel}
 use Rattle.script.proofs.ValuesAgain.{word_again}
@@ -112,12 +112,12 @@ header_again h ws fits no_complex no_bits no_size no_seqno =
 front_word : (n : ℕ) (m rest : List ℕ) → AreBytes m → n + 4 ≤ length m → word (little_number 4 (drop n m)) ++ drop (n + 4) m ≡ drop n m
 front_word n m rest fits long =
     let enough : 4 ≤ length (drop n m) = omega (arith, length-drop n m) in
-    ap (λ (l : List ℕ). l ++ drop (n + 4) m) (word-little_number (drop n m) (bytes_behind n m fits) enough)
+    ap (λ (l : List ℕ). l ++ drop (n + 4) m) (word-little_number (drop n m) (bytes_after n m fits) enough)
     ∙ ap (λ (l : List ℕ). take 4 (drop n m) ++ l) (sym (drop-drop 4 n m)) ∙ take-append-drop 4 (drop n m)
 
 -- a message is its header and its body
-pub message_is : (m : List ℕ) → AreBytes m → 24 ≤ length m → header_text (header_of m) (drop 24 m) ≡ m
-unfolding header_text
+pub message_is : (m : List ℕ) → AreBytes m → 24 ≤ length m → header_encoding (header_of m) (drop 24 m) ≡ m
+unfolding header_encoding
 message_is m fits long =
     simp append_assoc
     (ap (λ (l : List ℕ). word (little_number 4 m) ++ (word (little_number 4 (drop 4 m)) ++ (word (little_number 4 (drop 8 m)) ++ (word (little_number 4 (drop 12 m)) ++ (word (little_number 4 (drop 16 m)) ++ l)))))
@@ -137,11 +137,11 @@ number_fits bytes fits = omega (arith, little_from-lt 0 4 bytes fits)
 pub fits_header : (m : List ℕ) → AreBytes m → FitsHeader (header_of m)
 fits_header m fits = record {
   bits = number_fits m fits;
-  size = number_fits (drop 4 m) (bytes_behind 4 m fits);
-  remote = number_fits (drop 8 m) (bytes_behind 8 m fits);
-  local = number_fits (drop 12 m) (bytes_behind 12 m fits);
-  seqno = number_fits (drop 16 m) (bytes_behind 16 m fits);
-  id = number_fits (drop 20 m) (bytes_behind 20 m fits);
+  size = number_fits (drop 4 m) (bytes_after 4 m fits);
+  remote = number_fits (drop 8 m) (bytes_after 8 m fits);
+  local = number_fits (drop 12 m) (bytes_after 12 m fits);
+  seqno = number_fits (drop 16 m) (bytes_after 16 m fits);
+  id = number_fits (drop 20 m) (bytes_after 20 m fits);
 }
 
 -- a number's word isn't the label of bytes
@@ -162,7 +162,7 @@ unfolding header_words
 header_first h = (_, refl)
 
 message_parts : (start rest ws : List (List ℕ)) (h : Header) (body : List ℕ) → label_at (codes "bytes") start ≡ None → header_at start ≡ Ok (h, rest)
-    → body_at rest ≡ Ok (body, ws) → message_at start ≡ Ok (header_text h body, ws)
+    → body_at rest ≡ Ok (body, ws) → message_at start ≡ Ok (header_encoding h body, ws)
 unfolding message_at
 message_parts start rest ws h body e1 e2 e3 = rw (e1, message_at) (rw (e2, e3) refl)
 
@@ -177,10 +177,10 @@ message_again m ws fits none = elim (nat_lt (length m) 24) as (λ (b : Bool). na
           let body : List ℕ = drop 24 m in
           let rest : List (List ℕ) = body_words body ++ ws in
           let past : (label : List ℕ) → bytes_eq (codes "item") label ≡ false → bytes_eq (codes "data") label ≡ false → label_at label ws ≡ None → label_at label rest ≡ None
-          = λ label item data_apart no. past_body label body ws (bytes_behind 24 m fits) item data_apart no in
+          = λ label item data_apart no. past_body label body ws (bytes_after 24 m fits) item data_apart no in
           let e_header = header_again h rest (fits_header m fits) (past (codes "complex") refl refl (none.0 (codes "complex") refl)) (past (codes "bits") refl refl (none.0 (codes "bits") refl))
           (past (codes "size") refl refl (none.0 (codes "size") refl)) (past (codes "seqno") refl refl (none.0 (codes "seqno") refl)) in
-          let e_body = body_again body ws (bytes_behind 24 m fits) none in
+          let e_body = body_again body ws (bytes_after 24 m fits) none in
           let first = header_first h in
           let e_label : label_at (codes "bytes") (header_words h ++ rest) ≡ None =
           ap (λ (l : List (List ℕ)). label_at (codes "bytes") (l ++ rest)) first.1

@@ -10,7 +10,7 @@ use Rattle.std.proofs.Math.Nat.{mul-le-mul_left}
 use Rattle.std.proofs.lemmas.Bool.Decides.{nat_tests}
 use Rattle.std.proofs.lemmas.Fmt.{digits_is_IsNumeral}
 use Rattle.std.proofs.lemmas.Str.Parse.{digit_from_value}
-use Rattle.script.specs.Numbers.{hexadecimal, signed, number_from, number_behind, natural, negated, number_of_word}
+use Rattle.script.specs.Numbers.{hexadecimal, signed, number_from, number_after, natural, negated, number_of_word}
 
 -- more digits don't make a number smaller
 pub value_grows : (radix n : ℕ) (ds : List ℕ) → 1 ≤ radix → n ≤ digits_value_after radix n ds
@@ -30,7 +30,7 @@ from_digits radix n (c ∷ cs) some are fits =
     let m : ℕ = n * radix + digit_value c in
     let less : m < 2 ^ 32 = omega (arith, value_grows radix m cs some, fits) in
     let test : (nat_lt (digit_value c) radix && nat_lt m (2 ^ 32)) ≡ true = both _ _ (below_is _ _ are.0) (below_is _ _ less) in
-    ap (λ (b : Bool). number_behind (λ (k : ℕ). number_from radix k cs) (cond b (Some m) None)) test ∙ from_digits radix m cs some are.1 fits
+    ap (λ (b : Bool). number_after (λ (k : ℕ). number_from radix k cs) (cond b (Some m) None)) test ∙ from_digits radix m cs some are.1 fits
 
 pub natural_again : (radix n : ℕ) → 2 ≤ radix → radix ≤ 16 → n < 2 ^ 32 → n < radix ^ 64 → natural radix (digits radix false n) ≡ Some n
 natural_again radix n low high fits short =

@@ -13,7 +13,7 @@ use Rattle.ipc_model.specs.declared.call.Reply.{Reply}
 use Rattle.ipc_model.specs.declared.call.Reply.TheVariants as reply
 use Rattle.ipc_model.specs.declared.message.RightKind.{RightKind}
 use Rattle.ipc_model.specs.declared.message.RightKind.TheVariants as kind_of
-use Rattle.ipc_model.specs.texts.Texts.{number_of_reply, FitsReply}
+use Rattle.ipc_model.specs.encodings.Encodings.{number_of_reply, FitsReply}
 use Rattle.words.specs.Words.{AreBytes}
 use Rattle.script.specs.declared.kind.Kind.{Kind}
 use Rattle.script.specs.declared.kind.Kind.TheVariants.{Hexadecimal, Decimal}

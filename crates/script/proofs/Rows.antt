@@ -11,8 +11,8 @@ use Rattle.script.specs.Kinds.{read_word}
 use Rattle.script.specs.Replies.{in_front_of, named_at, member_at, names_at, members_at, names_words, members_words}
 
 -- what is read, after what was read before
-abbrev pub behind_all : {A : Type 0} → List A → Reading (List A) → Reading (List A)
-behind_all done read = read >>= λ rest. Ok (done ++ rest)
+abbrev pub after_all : {A : Type 0} → List A → Reading (List A) → Reading (List A)
+after_all done read = read >>= λ rest. Ok (done ++ rest)
 
 abbrev pub after_one : {A : Type 0} → (List (List ℕ) → Reading (List A)) → Reading (Option (A × List (List ℕ))) → Reading (List A)
 after_one all (Err place) = Err place
@@ -58,29 +58,29 @@ members_unroll [] = refl
 members_unroll (w ∷ words) = rw (value_front w words) (elim (wanted Number (w ∷ words) (read_word Hexadecimal w)) as (λ (o : Reading ℕ).
     ((o >>= λ (n : ℕ). Ok (n, words)) >>= λ (n : ℕ × List (List ℕ)). in_front_of n.0 (members_at words)) ≡ after_one members_at ((o >>= λ (n : ℕ). Ok (n, words)) >>= one)) [ Err place ↦ refl | Ok n ↦ refl ])
 
-more : {A : Type 0} (done : List A) (x : A) (rest : Reading (List A)) → behind_all (done ++ x ∷ []) rest ≡ behind_all done (in_front_of x rest)
+more : {A : Type 0} (done : List A) (x : A) (rest : Reading (List A)) → after_all (done ++ x ∷ []) rest ≡ after_all done (in_front_of x rest)
 more done x (Err place) = refl
 more done x (Ok xs) = ap Ok (append_assoc done (x ∷ []) xs)
 
 pub names_more : (done : List NamedType) (x : NamedType) (words rest : List (List ℕ)) → named_at words ≡ Ok (Some (x, rest))
-    → behind_all (done ++ x ∷ []) (names_at rest) ≡ behind_all done (names_at words)
-names_more done x words rest e = more done x (names_at rest) ∙ sym (ap (behind_all done) (names_unroll words ∙ ap (after_one names_at) e))
+    → after_all (done ++ x ∷ []) (names_at rest) ≡ after_all done (names_at words)
+names_more done x words rest e = more done x (names_at rest) ∙ sym (ap (after_all done) (names_unroll words ∙ ap (after_one names_at) e))
 
-pub names_end : (done : List NamedType) (words : List (List ℕ)) → named_at words ≡ Ok None → behind_all done (names_at words) ≡ Ok done
-names_end done words e = ap (behind_all done) (names_unroll words ∙ ap (after_one names_at) e) ∙ ap Ok (append-nil done)
+pub names_end : (done : List NamedType) (words : List (List ℕ)) → named_at words ≡ Ok None → after_all done (names_at words) ≡ Ok done
+names_end done words e = ap (after_all done) (names_unroll words ∙ ap (after_one names_at) e) ∙ ap Ok (append-nil done)
 
-pub names_stop : (done : List NamedType) (words : List (List ℕ)) (place : Stop) → named_at words ≡ Err place → behind_all done (names_at words) ≡ Err place
-names_stop done words place e = ap (behind_all done) (names_unroll words ∙ ap (after_one names_at) e)
+pub names_stop : (done : List NamedType) (words : List (List ℕ)) (place : Stop) → named_at words ≡ Err place → after_all done (names_at words) ≡ Err place
+names_stop done words place e = ap (after_all done) (names_unroll words ∙ ap (after_one names_at) e)
 
 pub members_more : (done : List ℕ) (x : ℕ) (words rest : List (List ℕ)) → member_at words ≡ Ok (Some (x, rest))
-    → behind_all (done ++ x ∷ []) (members_at rest) ≡ behind_all done (members_at words)
-members_more done x words rest e = more done x (members_at rest) ∙ sym (ap (behind_all done) (members_unroll words ∙ ap (after_one members_at) e))
+    → after_all (done ++ x ∷ []) (members_at rest) ≡ after_all done (members_at words)
+members_more done x words rest e = more done x (members_at rest) ∙ sym (ap (after_all done) (members_unroll words ∙ ap (after_one members_at) e))
 
-pub members_end : (done : List ℕ) (words : List (List ℕ)) → member_at words ≡ Ok None → behind_all done (members_at words) ≡ Ok done
-members_end done words e = ap (behind_all done) (members_unroll words ∙ ap (after_one members_at) e) ∙ ap Ok (append-nil done)
+pub members_end : (done : List ℕ) (words : List (List ℕ)) → member_at words ≡ Ok None → after_all done (members_at words) ≡ Ok done
+members_end done words e = ap (after_all done) (members_unroll words ∙ ap (after_one members_at) e) ∙ ap Ok (append-nil done)
 
-pub members_stop : (done : List ℕ) (words : List (List ℕ)) (place : Stop) → member_at words ≡ Err place → behind_all done (members_at words) ≡ Err place
-members_stop done words place e = ap (behind_all done) (members_unroll words ∙ ap (after_one members_at) e)
+pub members_stop : (done : List ℕ) (words : List (List ℕ)) (place : Stop) → member_at words ≡ Err place → after_all done (members_at words) ≡ Err place
+members_stop done words place e = ap (after_all done) (members_unroll words ∙ ap (after_one members_at) e)
 
 -- each read takes words
 bind_some : {A B : Type 0} (o : Reading A) (f : A → Reading B) (y : B) → (o >>= f) ≡ Ok y → (x : A) × (o ≡ Ok x) × (f x ≡ Ok y)
@@ -130,11 +130,11 @@ named_less (w ∷ words) rest n e =
     let is : second.0.1 ≡ rest = typed_rest (record { name = first.0.0; bits = second.0.0 }) n second.0.1 rest second.2 in
     omega (arith, value_less (w ∷ words) first.0 first.1, value_less first.0.1 second.0 second.1, ap length is)
 
-pub names_fault : (e : Fault) (done : List NamedType) (words : List (List ℕ)) (all : Reading (List NamedType)) → Fails e (named_at words) → behind_all done (names_at words) ≡ all → Fails e all
+pub names_fault : (e : Fault) (done : List NamedType) (words : List (List ℕ)) (all : Reading (List NamedType)) → Fails e (named_at words) → after_all done (names_at words) ≡ all → Fails e all
 names_fault fault.NoMemory done words all fails is = tt
 names_fault (fault.Unreadable place) done words all fails is = sym is ∙ names_stop done words place fails
 
-pub members_fault : (e : Fault) (done : List ℕ) (words : List (List ℕ)) (all : Reading (List ℕ)) → Fails e (member_at words) → behind_all done (members_at words) ≡ all → Fails e all
+pub members_fault : (e : Fault) (done : List ℕ) (words : List (List ℕ)) (all : Reading (List ℕ)) → Fails e (member_at words) → after_all done (members_at words) ≡ all → Fails e all
 members_fault fault.NoMemory done words all fails is = tt
 members_fault (fault.Unreadable place) done words all fails is = sym is ∙ members_stop done words place fails
 

@@ -19,7 +19,7 @@ use Rattle.script.specs.Replies.{reply_words}
 use Rattle.script.specs.Scripts.{in_line, script_text, numbered, lines_of, and_below, lines_read, script_read, Adds, IsFault, AreExchanges}
 use Rattle.script.specs.Spaced.{is_word_byte, in_front, spaced, line_of}
 use Rattle.script.proofs.LinesAgain.{words_of_exchange, line_read_again}
-use Rattle.script.proofs.Spelled.{call_spelled, reply_spelled, spelled_both}
+use Rattle.script.proofs.Printed.{call_printed, reply_printed, printed_both}
 use Rattle.script.proofs.WordsOf.{are_word_bytes, is_word, are_words}
 
 -- no byte ends a line
@@ -56,7 +56,7 @@ line_in_line (w ∷ ws) are = let parts = and_parts (is_word w) (are_words ws) a
 
 exchange_in_line : (x : Exchange) → IsExchange x → are_in_line (exchange_line x) ≡ true
 unfolding exchange_line
-exchange_in_line x is = line_in_line (exchange_words x) (spelled_both (call_words x.call) (reply_words x.reply) (call_spelled x.call is.call) (reply_spelled x.reply is.reply))
+exchange_in_line x is = line_in_line (exchange_words x) (printed_both (call_words x.call) (reply_words x.reply) (call_printed x.call is.call) (reply_printed x.reply is.reply))
 
 -- a line goes on to its end
 line_length : (line rest : List ℕ) → are_in_line line ≡ true → prefix_len in_line (line ++ 10 ∷ rest) ≡ length line
@@ -88,12 +88,12 @@ rest_is x xs text fits is =
     ∙ ap (λ (n : ℕ). drop 1 (drop n (exchange_line x ++ 10 ∷ script_text xs))) (line_length (exchange_line x) (script_text xs) (exchange_in_line x fits))
     ∙ ap (λ (l : List ℕ). drop 1 l) (drop_seam (exchange_line x) (10 ∷ script_text xs))
 
-end_behind : (line rest : List ℕ) → line ++ 10 ∷ rest ≡ [] → ⊥
-end_behind [] rest e = cc
-end_behind (c ∷ cs) rest e = cc
+end_after : (line rest : List ℕ) → line ++ 10 ∷ rest ≡ [] → ⊥
+end_after [] rest e = cc
+end_after (c ∷ cs) rest e = cc
 
 not_empty : (x : Exchange) (xs : List Exchange) → script_text (x ∷ xs) ≡ [] → ⊥
-not_empty x xs e = end_behind (exchange_line x) (script_text xs) (sym (script_starts x xs) ∙ e)
+not_empty x xs e = end_after (exchange_line x) (script_text xs) (sym (script_starts x xs) ∙ e)
 
 -- the lines of a text: its first, and those after it
 pub lines_front : (c : ℕ) (cs : List ℕ) → lines_of (c ∷ cs) ≡ take (prefix_len in_line (c ∷ cs)) (c ∷ cs) ∷ lines_of (drop 1 (drop (prefix_len in_line (c ∷ cs)) (c ∷ cs)))
@@ -111,29 +111,29 @@ lines_next [] line behind some first rest = absurd (some refl)
 lines_next (c ∷ cs) line behind some first rest = rw (first, rest) (lines_front c cs)
 
 -- what a script says, after calls that were read
-abbrev pub behind_lines : List Line → Result (List Line) ScriptFault → Result (List Line) ScriptFault
-behind_lines done below = below >>= λ lines. Ok (done ++ lines)
+abbrev pub after_lines : List Line → Result (List Line) ScriptFault → Result (List Line) ScriptFault
+after_lines done below = below >>= λ lines. Ok (done ++ lines)
 
 pub next_line : (old new : List Line) (n : ℕ) (said : Result (Option Exchange) LineFault) (below : Result (List Line) ScriptFault) → Adds old new n said
-    → behind_lines new below ≡ behind_lines old (and_below n said below)
+    → after_lines new below ≡ after_lines old (and_below n said below)
 next_line old new n (Ok (Some x)) (Ok lines) added = ap (λ (l : List Line). Ok (l ++ lines)) added ∙ ap Ok (append_assoc old (record { number = n; exchange = x } ∷ []) lines)
 next_line old new n (Ok (Some x)) (Err fault) added = refl
-next_line old new n (Ok None) below added = ap (λ (l : List Line). behind_lines l below) added
+next_line old new n (Ok None) below added = ap (λ (l : List Line). after_lines l below) added
 next_line old new n (Err fault) below added = absurd added
 
 pub next_read : (old new : List Line) (n : ℕ) (text line behind : List ℕ) → lines_of text ≡ line ∷ lines_of behind → Adds old new (n + 1) (line_read line)
-    → behind_lines new (lines_read (n + 1 + 1) (lines_of behind)) ≡ behind_lines old (lines_read (n + 1) (lines_of text))
+    → after_lines new (lines_read (n + 1 + 1) (lines_of behind)) ≡ after_lines old (lines_read (n + 1) (lines_of text))
 unfolding lines_read
 next_read old new n text line behind is added = rw is (next_line old new (n + 1) (line_read line) (lines_read (n + 1 + 1) (lines_of behind)) added)
 
 -- the fault of the next line is the script's
 pub next_fault : (fault : LineFault) (old : List Line) (n : ℕ) (text line behind : List ℕ) (all : Result (List Line) ScriptFault) → lines_of text ≡ line ∷ lines_of behind
-    → IsFault fault fault (line_read line) → behind_lines old (lines_read (n + 1) (lines_of text)) ≡ all → IsFault fault (record { line = n + 1; fault = fault }) all
+    → IsFault fault fault (line_read line) → after_lines old (lines_read (n + 1) (lines_of text)) ≡ all → IsFault fault (record { line = n + 1; fault = fault }) all
 unfolding lines_read
 next_fault line_fault.NoMemory old n text line behind all is said same = tt
 next_fault (line_fault.Unreadable column expected) old n text line behind all is said same = sym same ∙ rw is (rw said refl)
 
-pub none_left : (lines : List Line) (n : ℕ) (text : List ℕ) → text ≡ [] → behind_lines lines (lines_read n (lines_of text)) ≡ Ok lines
+pub none_left : (lines : List Line) (n : ℕ) (text : List ℕ) → text ≡ [] → after_lines lines (lines_read n (lines_of text)) ≡ Ok lines
 unfolding lines_read lines_of
 none_left lines n text is = rw is (ap Ok (append-nil lines))
 

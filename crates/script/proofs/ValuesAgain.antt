@@ -35,12 +35,12 @@ signed_no_letter n fits = elim (nat_lt n (2 ^ 31)) as (λ (b : Bool). begins_wit
 ]
 
 -- a number in a word that doesn't begin with a letter
-spelled : (k : Kind) (n : ℕ) (word : List ℕ) → begins_with_letter word ≡ false → number_of_word word ≡ Some n → read_word k word ≡ Some n
+printed : (k : Kind) (n : ℕ) (word : List ℕ) → begins_with_letter word ≡ false → number_of_word word ≡ Some n → read_word k word ≡ Some n
 unfolding read_word
-spelled k n word plain again = ap (λ (b : Bool). cond b (find (is_name k word) all_named) (number_of_word word)) plain ∙ again
+printed k n word plain again = ap (λ (b : Bool). cond b (find (is_name k word) all_named) (number_of_word word)) plain ∙ again
 
 pub in_decimal : (k : Kind) (n : ℕ) → n < 2 ^ 32 → read_word k (decimal n) ≡ Some n
-in_decimal k n fits = spelled k n (decimal n) (decimal_no_letter n fits) (decimal_again n fits)
+in_decimal k n fits = printed k n (decimal n) (decimal_no_letter n fits) (decimal_again n fits)
 
 -- a number that is a named one, or isn't
 split : (P : ℕ → Option (List ℕ) → Type 0) (m n : ℕ) (word : List ℕ) (rest : Option (List ℕ)) → P m (Some word) → P n rest → P n (cond (n == m) (Some word) rest)
@@ -79,9 +79,9 @@ element_again n fits =
 -- every number is read from its word
 pub word_again : (k : Kind) (n : ℕ) → n < 2 ^ 32 → read_word k (value_word k n) ≡ Some n
 unfolding value_word
-word_again kind.Hexadecimal n fits = spelled kind.Hexadecimal n (hexadecimal n) refl (hexadecimal_again n fits)
+word_again kind.Hexadecimal n fits = printed kind.Hexadecimal n (hexadecimal n) refl (hexadecimal_again n fits)
 word_again kind.Decimal n fits = in_decimal kind.Decimal n fits
-word_again kind.Signed n fits = spelled kind.Signed n (signed n) (signed_no_letter n fits) (signed_again n fits)
+word_again kind.Signed n fits = printed kind.Signed n (signed n) (signed_no_letter n fits) (signed_again n fits)
 word_again kind.Right n fits = right_again n fits
 word_again kind.Disposition n fits = disposition_again n fits
 word_again kind.Notification n fits = notification_again n fits

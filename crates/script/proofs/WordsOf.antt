@@ -17,11 +17,11 @@ word_byte c visible plain = grind (arith, nat_tests)
 grind_visible : (c : ℕ) → is_word_byte c ≡ true → (is_space c ≡ false) × ((c == 35) ≡ false)
 grind_visible c is = (grind (arith, nat_tests), grind (arith, nat_tests))
 
-pub behind_spaces : (s : List ℕ) → words_of (drop (prefix_len is_space s) s) ≡ words_of s
+pub after_spaces : (s : List ℕ) → words_of (drop (prefix_len is_space s) s) ≡ words_of s
 unfolding words_of
-behind_spaces [] = refl
-behind_spaces (c ∷ cs) = elim (is_space c) as (λ (b : Bool). is_space c ≡ b → words_of (drop (cond b (1 + prefix_len is_space cs) 0) (c ∷ cs)) ≡ words_of (c ∷ cs)) [
-  | true ↦ λ (is : _). rw one-add (rw is (behind_spaces cs))
+after_spaces [] = refl
+after_spaces (c ∷ cs) = elim (is_space c) as (λ (b : Bool). is_space c ≡ b → words_of (drop (cond b (1 + prefix_len is_space cs) 0) (c ∷ cs)) ≡ words_of (c ∷ cs)) [
+  | true ↦ λ (is : _). rw one-add (rw is (after_spaces cs))
   | false ↦ λ (is : _). refl
 ] refl
 
@@ -133,7 +133,7 @@ first_part (c ∷ cs) n is some = elim (is_word_byte c) as (λ (b : Bool). is_wo
 
 pub first_word : (s t : List ℕ) (n : ℕ) → t ≡ drop (prefix_len is_space s) s → n ≡ prefix_len is_word_byte t → (n ≡ 0 → ⊥)
     → words_of s ≡ take n t ∷ words_of (drop n t)
-first_word s t n is count some = sym (behind_spaces s) ∙ ap words_of (sym is) ∙ first_part t n count some
+first_word s t n is count some = sym (after_spaces s) ∙ ap words_of (sym is) ∙ first_part t n count some
 
 pub ruleset spaced_laws = (spaced_more, spaced_none)
 

@@ -3,7 +3,7 @@ use Rattle.std.specs.Prelude.{ℕ, Bool, List, [], ◌∷◌, ◌++◌, find, Ok
 use Rattle.std.specs.Str.{bytes_eq}
 use Rattle.ipc_model.specs.declared.call.Call.{Call}
 use Rattle.ipc_model.specs.declared.call.Call.TheVariants as call
-use Rattle.ipc_model.specs.texts.Texts.{FitsCall}
+use Rattle.ipc_model.specs.encodings.Encodings.{FitsCall}
 use Rattle.words.specs.Words.{AreBytes}
 use Rattle.script.specs.declared.kind.Kind.TheVariants.{Hexadecimal, Decimal, Signed, Right, Disposition, Notification}
 use Rattle.script.specs.declared.verb.Verb.{Verb}
@@ -115,12 +115,12 @@ receive_at words = do
 unfoldable pub send_at : List (List ℕ) → Reading (Call × List (List ℕ))
 send_at words = message_at words >>= λ m. Ok (call.Send m.0, m.1)
 
-unfoldable pub behind_at : Verb → List (List ℕ) → Reading (Call × List (List ℕ))
-behind_at verb.Send words = send_at words
-behind_at verb.Receive words = receive_at words
-behind_at v words = plain_at v words
+unfoldable pub after_at : Verb → List (List ℕ) → Reading (Call × List (List ℕ))
+after_at verb.Send words = send_at words
+after_at verb.Receive words = receive_at words
+after_at v words = plain_at v words
 
 -- the call at the front
 unfoldable pub call_at : List (List ℕ) → Reading (Call × List (List ℕ))
 call_at [] = stop expected.CallName []
-call_at (word ∷ words) = wanted expected.CallName (word ∷ words) (find (λ v. bytes_eq (verb_word v) word) all_verbs) >>= λ v. behind_at v words
+call_at (word ∷ words) = wanted expected.CallName (word ∷ words) (find (λ v. bytes_eq (verb_word v) word) all_verbs) >>= λ v. after_at v words

@@ -2,7 +2,7 @@
 use Rattle.std.specs.Prelude.{◌≡◌, ℕ, zero, suc, ◌+◌, ◌*◌, ◌/◌, ◌%◌, nat_lt, ◌==◌, List, [], ◌∷◌, ◌++◌, length, take, drop, map, flat_map, Option, None, Some, Ok, codes, false, if◌then◌else◌}
 use Rattle.std.specs.Str.{bytes_eq}
 use Rattle.byteorder.specs.Endian.{little_number}
-use Rattle.ipc_model.specs.messages.Items.{Item, item_text, is_port_type}
+use Rattle.ipc_model.specs.messages.Items.{Item, item_encoding, is_port_type}
 use Rattle.words.specs.Words.{word}
 use Rattle.script.specs.declared.fault.Expected.TheVariants as expected
 use Rattle.script.specs.declared.kind.Kind.{Kind}
@@ -94,24 +94,24 @@ numbers_at (word ∷ words) = elim (read_word Hexadecimal word) [ None ↦ ([], 
 -- an item by its type and its words
 unfoldable pub words_item_at : List (List ℕ) → Reading (List ℕ × List (List ℕ))
 words_item_at words = bounded_at expected.Item Element 0x100 words >>= λ t.
-    if nat_lt (length (numbers_at t.1).0) 0x1000 then Ok (item_text (words_item t.0 (numbers_at t.1).0), (numbers_at t.1).1) else stop expected.Item words
+    if nat_lt (length (numbers_at t.1).0) 0x1000 then Ok (item_encoding (words_item t.0 (numbers_at t.1).0), (numbers_at t.1).1) else stop expected.Item words
 
 unfoldable pub bytes_item_at : List (List ℕ) → Reading (List ℕ × List (List ℕ))
-bytes_item_at words = bytes_at words >>= λ b. if nat_lt (length b.0) 0x1000 then Ok (item_text (bytes_item b.0), b.1) else stop expected.Item words
+bytes_item_at words = bytes_at words >>= λ b. if nat_lt (length b.0) 0x1000 then Ok (item_encoding (bytes_item b.0), b.1) else stop expected.Item words
 
 unfoldable pub item_at : List (List ℕ) → Reading (List ℕ × List (List ℕ))
 item_at words = elim (label_at (codes "bytes") words) [ None ↦ words_item_at words | Some rest ↦ bytes_item_at rest ]
 
 -- bytes put before those that are read
-abbrev pub behind_bytes : List ℕ → Reading (List ℕ × List (List ℕ)) → Reading (List ℕ × List (List ℕ))
-behind_bytes done read = read >>= λ b. Ok (done ++ b.0, b.1)
+abbrev pub after_bytes : List ℕ → Reading (List ℕ × List (List ℕ)) → Reading (List ℕ × List (List ℕ))
+after_bytes done read = read >>= λ b. Ok (done ++ b.0, b.1)
 
 -- items, at most this many, and the rest of a body
 unfoldable pub parts_at : ℕ → List (List ℕ) → Reading (List ℕ × List (List ℕ))
 parts_at zero words = optional_bytes_at (codes "data") words
 parts_at (suc n) words = elim (label_at (codes "item") words) [
   | None ↦ optional_bytes_at (codes "data") words
-  | Some rest ↦ item_at rest >>= λ i. behind_bytes i.0 (parts_at n i.1)
+  | Some rest ↦ item_at rest >>= λ i. after_bytes i.0 (parts_at n i.1)
 ]
 
 -- each item has at least one word, so there are no more items than words

@@ -1,7 +1,7 @@
 -- Lines of scripts.
 use Rattle.std.specs.Prelude.{◌≡◌, ℕ, ◌-◌, List, [], ◌∷◌, ◌++◌, length, Option, None, Some, Result, Ok, Err}
 use Rattle.ipc_model.specs.calls.Step.{number_of_call}
-use Rattle.ipc_model.specs.texts.Texts.{number_of_reply, FitsReply}
+use Rattle.ipc_model.specs.encodings.Encodings.{number_of_reply, FitsReply}
 use Rattle.ipc_model.specs.declared.call.Call.{Call}
 use Rattle.script.specs.declared.fault.Expected.TheVariants.{End}
 use Rattle.script.specs.declared.fault.Fault.{Fault}

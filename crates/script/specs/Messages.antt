@@ -36,8 +36,8 @@ header_of message = record {
 }
 
 -- a message made of them and a body
-unfoldable pub header_text : Header → List ℕ → List ℕ
-header_text h body = word h.bits ++ word h.size ++ word h.remote ++ word h.local ++ word h.seqno ++ word h.id ++ body
+unfoldable pub header_encoding : Header → List ℕ → List ℕ
+header_encoding h body = word h.bits ++ word h.size ++ word h.remote ++ word h.local ++ word h.seqno ++ word h.id ++ body
 
 unfoldable pub header_words : Header → List (List ℕ)
 header_words h =
@@ -94,5 +94,5 @@ header_at words = do
 unfoldable pub message_at : List (List ℕ) → Reading (List ℕ × List (List ℕ))
 message_at words = elim (label_at (codes "bytes") words) [
   | Some rest ↦ bytes_at rest
-  | None ↦ header_at words >>= λ h. body_at h.1 >>= λ b. Ok (header_text h.0 b.0, b.1)
+  | None ↦ header_at words >>= λ h. body_at h.1 >>= λ b. Ok (header_encoding h.0 b.0, b.1)
 ]

@@ -17,14 +17,14 @@ signed n = if nat_lt n (2 ^ 31) then decimal n else codes "-" ++ decimal (2 ^ 32
 abbrev pub with_digit : ℕ → ℕ → ℕ → Option ℕ
 with_digit radix n c = if nat_lt (digit_value c) radix && nat_lt (n * radix + digit_value c) (2 ^ 32) then Some (n * radix + digit_value c) else None
 
-abbrev pub number_behind : (ℕ → Option ℕ) → Option ℕ → Option ℕ
-number_behind f None = None
-number_behind f (Some n) = f n
+abbrev pub number_after : (ℕ → Option ℕ) → Option ℕ → Option ℕ
+number_after f None = None
+number_after f (Some n) = f n
 
 -- the number that digits give, after those of n
 abbrev pub number_from : ℕ → ℕ → List ℕ → Option ℕ
 number_from radix n [] = Some n
-number_from radix n (c ∷ cs) = number_behind (λ m. number_from radix m cs) (with_digit radix n c)
+number_from radix n (c ∷ cs) = number_after (λ m. number_from radix m cs) (with_digit radix n c)
 
 abbrev pub natural : ℕ → List ℕ → Option ℕ
 natural radix word = if length word == 0 then None else number_from radix 0 word

@@ -5,7 +5,7 @@ ghost use Rattle.script.specs.Spaced.{words_of, spaced};
 
 use crate::fault::{Expected, Fault};
 use crate::spaced::{push_spaced, take_word};
-use crate::values::behind_label;
+use crate::values::after_label;
 use hex::FromHexError;
 use std::alloc::{AllocError, Global};
 
@@ -36,7 +36,7 @@ pub(crate) fn read_optional_bytes<'a>(
 ) -> Result<(Vec<u8>, &'a [u8]), Fault>
     ensures { Gives (λ r. (r.0.items, words_of r.1.now)) result (optional_bytes_at label.now (words_of text.now)) }
 {
-    match behind_label(label, text) {
+    match after_label(label, text) {
         Some(rest) => read_bytes(alloc, rest),
         None => Ok((Vec::new(alloc), text)),
     }

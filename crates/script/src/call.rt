@@ -1,6 +1,6 @@
 ghost use Rattle.std.specs.Prelude.{◌≡◌, ◌++◌, ◌∷◌, [], OnOk};
 ghost use Rattle.ipc_model.specs.declared.call.Call.TheVariants as call_variants;
-ghost use Rattle.script.specs.Calls.{verb_of, receive_words, pair_words, argument_words, receive_at, send_at, behind_at, call_at};
+ghost use Rattle.script.specs.Calls.{verb_of, receive_words, pair_words, argument_words, receive_at, send_at, after_at, call_at};
 ghost use Rattle.script.specs.Kinds.{value_word};
 ghost use Rattle.script.specs.Reading.{Gives};
 ghost use Rattle.script.specs.Spaced.{words_of, spaced};
@@ -213,10 +213,10 @@ fn read_send(alloc: Global, text: &[u8]) -> Result<(Call, &[u8]), Fault>
     Ok((Call::Send { message }, rest))
 }
 
-#[tactic(auto, unfolding(crate::specs::Calls::behind_at))]
+#[tactic(auto, unfolding(crate::specs::Calls::after_at))]
 /// The call of a verb whose arguments are in front.
-fn read_behind(alloc: Global, verb: Verb, text: &[u8]) -> Result<(Call, &[u8]), Fault>
-    ensures { Gives (λ r. (r.0, words_of r.1.now)) result (behind_at verb (words_of text.now)) }
+fn read_after(alloc: Global, verb: Verb, text: &[u8]) -> Result<(Call, &[u8]), Fault>
+    ensures { Gives (λ r. (r.0, words_of r.1.now)) result (after_at verb (words_of text.now)) }
 {
     match verb {
         Verb::Send => read_send(alloc, text),
@@ -234,7 +234,7 @@ pub(crate) fn read_call(alloc: Global, text: &[u8]) -> Result<(Call, &[u8]), Fau
         return Err(Fault::expected(Expected::CallName, text));
     };
     match Verb::of_word(word) {
-        Some(verb) => read_behind(alloc, verb, rest),
+        Some(verb) => read_after(alloc, verb, rest),
         None => Err(Fault::expected(Expected::CallName, text)),
     }
 }

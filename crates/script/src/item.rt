@@ -1,8 +1,8 @@
 ghost use Rattle.std.specs.Prelude.{◌≡◌, ◌<◌, ◌++◌, length, map, flat_map, MatchOption, None, Some, Ok, OnOk, IfOk};
 ghost use Rattle.std.specs.Option.{option_map};
-ghost use Rattle.ipc_model.specs.messages.Items.{item_text};
+ghost use Rattle.ipc_model.specs.messages.Items.{item_encoding};
 ghost use Rattle.script.specs.Bytes.{optional_bytes_at};
-ghost use Rattle.script.specs.Items.{words_item, bytes_item, zeros, element_kind, words_item_words, bytes_item_words, word_front, split_front, descriptor, number_told, numbers_in, words_front, bytes_front, item_front, body_words, numbers_at, words_item_at, bytes_item_at, item_at, behind_bytes, body_at, AddsItem};
+ghost use Rattle.script.specs.Items.{words_item, bytes_item, zeros, element_kind, words_item_words, bytes_item_words, word_front, split_front, descriptor, number_told, numbers_in, words_front, bytes_front, item_front, body_words, numbers_at, words_item_at, bytes_item_at, item_at, after_bytes, body_at, AddsItem};
 ghost use Rattle.script.specs.Kinds.{value_word};
 ghost use Rattle.script.specs.Reading.{Gives};
 ghost use Rattle.script.specs.Spaced.{words_of, spaced};
@@ -13,7 +13,7 @@ use crate::bytes::{push_bytes, push_optional_bytes, read_bytes, read_optional_by
 use crate::fault::{Expected, Fault};
 use crate::kind::{Kind, push_value};
 use crate::spaced::{count_words, push_spaced};
-use crate::values::{behind_label, read_bounded, take_number};
+use crate::values::{after_label, read_bounded, take_number};
 use byteorder::{ByteOrder, LittleEndian};
 use std::alloc::{AllocError, Global};
 use words::{push_word, take_word};
@@ -222,7 +222,7 @@ fn push_words(out: &mut Vec<u8>, numbers: &[u32]) -> Result<(), AllocError>
 fn words_item(alloc: Global, type_name: u32, numbers: &[u32]) -> Result<Vec<u8>, AllocError>
     requires type_name { type_name < 0x100 }
     requires number { length numbers.now < 0x1000 }
-    ensures { IfOk result (λ item. item.items ≡ item_text (words_item type_name numbers.now)) }
+    ensures { IfOk result (λ item. item.items ≡ item_encoding (words_item type_name numbers.now)) }
 {
     let mut item = Vec::new(alloc);
     push_word(
@@ -236,7 +236,7 @@ fn words_item(alloc: Global, type_name: u32, numbers: &[u32]) -> Result<Vec<u8>,
 /// The bytes of an item of bytes.
 fn bytes_item(alloc: Global, bytes: &[u8]) -> Result<Vec<u8>, AllocError>
     requires { length bytes.now < 0x1000 }
-    ensures { IfOk result (λ item. item.items ≡ item_text (bytes_item bytes.now)) }
+    ensures { IfOk result (λ item. item.items ≡ item_encoding (bytes_item bytes.now)) }
 {
     let mut item = Vec::new(alloc);
     push_word(
@@ -284,7 +284,7 @@ fn read_bytes_item(alloc: Global, text: &[u8]) -> Result<(Vec<u8>, &[u8]), Fault
 fn read_item(alloc: Global, text: &[u8]) -> Result<(Vec<u8>, &[u8]), Fault>
     ensures { Gives (λ r. (r.0.items, words_of r.1.now)) result (item_at (words_of text.now)) }
 {
-    match behind_label(b"bytes", text) {
+    match after_label(b"bytes", text) {
         Some(rest) => read_bytes_item(alloc, rest),
         None => read_words_item(alloc, text),
     }
@@ -292,7 +292,7 @@ fn read_item(alloc: Global, text: &[u8]) -> Result<(Vec<u8>, &[u8]), Fault>
 
 /// A body that begins with these bytes, completed by the rest in front of the text, and the text after that.
 fn read_rest(alloc: Global, mut body: Vec<u8>, text: &[u8]) -> Result<(Vec<u8>, &[u8]), Fault>
-    ensures { Gives (λ r. (r.0.items, words_of r.1.now)) result (behind_bytes body.items (optional_bytes_at (codes "data") (words_of text.now))) }
+    ensures { Gives (λ r. (r.0.items, words_of r.1.now)) result (after_bytes body.items (optional_bytes_at (codes "data") (words_of text.now))) }
 {
     let (rest, behind) = read_optional_bytes(alloc, b"data", text)?;
     match body.extend_from_slice(rest.as_slice()) {
@@ -309,7 +309,7 @@ pub(crate) fn read_body(alloc: Global, text: &[u8]) -> Result<(Vec<u8>, &[u8]), 
     let mut rest = text;
     let mut left = count_words(text);
     while left > 0 {
-        let Some(behind) = behind_label(b"item", rest) else {
+        let Some(behind) = after_label(b"item", rest) else {
             return read_rest(alloc, body, rest);
         };
         let (item, behind) = read_item(alloc, behind)?;

@@ -3,7 +3,7 @@ ghost use Rattle.byteorder.specs.Endian.{little_number};
 ghost use Rattle.script.specs.Bytes.{bytes_word};
 ghost use Rattle.script.specs.Items.{body_words};
 ghost use Rattle.script.specs.Kinds.{value_word};
-ghost use Rattle.script.specs.Messages.{header_of, header_text, message_words, header_words, local_words, optional_words, flag_words, further_at, rights_at, local_at, bits_of, message_at, header_at};
+ghost use Rattle.script.specs.Messages.{header_of, header_encoding, message_words, header_words, local_words, optional_words, flag_words, further_at, rights_at, local_at, bits_of, message_at, header_at};
 ghost use Rattle.script.specs.Reading.{Gives};
 ghost use Rattle.script.specs.Spaced.{words_of, spaced};
 
@@ -13,7 +13,7 @@ use crate::item::{push_body, read_body};
 use crate::kind::{Kind, push_value};
 use crate::spaced::push_spaced;
 use crate::values::{
-    behind_label, push_two, read_bounded, read_flag, read_labelled, read_optional, read_value,
+    after_label, push_two, read_bounded, read_flag, read_labelled, read_optional, read_value,
 };
 use byteorder::{ByteOrder, LittleEndian};
 use codes::HEADER_LENGTH;
@@ -174,7 +174,7 @@ fn read_further(text: &[u8]) -> Result<(u32, &[u8]), Fault>
     ensures read { Gives (λ r. (r.0, words_of r.1.now)) result (further_at (words_of text.now)) }
     ensures small { IfOk result (λ r. r.0 < 0x8000) }
 {
-    match behind_label(b"bits", text) {
+    match after_label(b"bits", text) {
         Some(rest) => read_bounded(Expected::Number, Kind::Hexadecimal, 0x8000, rest),
         None => Ok((0, text)),
     }
@@ -186,7 +186,7 @@ fn read_local(text: &[u8]) -> Result<(u32, u32, &[u8]), Fault>
     ensures read { Gives (λ r. (r.0, r.1, words_of r.2.now)) result (local_at (words_of text.now)) }
     ensures small { IfOk result (λ r. r.0 < 0x100) }
 {
-    let Some(text) = behind_label(b"local", text) else {
+    let Some(text) = after_label(b"local", text) else {
         return Ok((0, 0, text));
     };
     let (disposition, rest) = read_bounded(Expected::Number, Kind::Disposition, 0x100, text)?;
@@ -250,10 +250,10 @@ fn read_header(text: &[u8]) -> Result<(Header, &[u8]), Fault>
     Ok((header, rest))
 }
 
-#[tactic(auto, unfolding(crate::specs::Messages::header_text))]
+#[tactic(auto, unfolding(crate::specs::Messages::header_encoding))]
 /// The bytes of a header with its body.
 fn message_of(alloc: Global, header: &Header, body: &[u8]) -> Result<Vec<u8>, AllocError>
-    ensures { IfOk result (λ message. message.items ≡ header_text header.now body.now) }
+    ensures { IfOk result (λ message. message.items ≡ header_encoding header.now body.now) }
 {
     let mut message = Vec::new(alloc);
     push_word(&mut message, header.bits)?;
@@ -271,7 +271,7 @@ fn message_of(alloc: Global, header: &Header, body: &[u8]) -> Result<Vec<u8>, Al
 pub(crate) fn read_message(alloc: Global, text: &[u8]) -> Result<(Vec<u8>, &[u8]), Fault>
     ensures { Gives (λ r. (r.0.items, words_of r.1.now)) result (message_at (words_of text.now)) }
 {
-    if let Some(rest) = behind_label(b"bytes", text) {
+    if let Some(rest) = after_label(b"bytes", text) {
         return read_bytes(alloc, rest);
     }
     let (header, rest) = read_header(text)?;

@@ -10,7 +10,7 @@ use crate::fault::{Expected, Fault};
 use crate::kind::{Kind, push_value};
 use crate::message::{push_labelled, push_message, push_optional, read_message};
 use crate::spaced::{push_spaced, take_word};
-use crate::values::{behind_label, push_two, read_labelled, read_optional, read_value};
+use crate::values::{after_label, push_two, read_labelled, read_optional, read_value};
 use codes::{
     KernReturn, MACH_MSG, MACH_PORT_ALLOCATE, MACH_PORT_EXTRACT_RIGHT,
     MACH_PORT_GET_RECEIVE_STATUS, MACH_PORT_GET_REFS, MACH_PORT_GET_SET_STATUS, MACH_PORT_NAMES,
@@ -214,10 +214,10 @@ fn last<X: Drop>(found: X, text: &[u8]) -> Result<X, Fault>
 fn read_yes_or_no(text: &[u8]) -> Result<(bool, &[u8]), Fault>
     ensures { Gives (λ r. (r.0, words_of r.1.now)) result (yes_or_no_at (words_of text.now)) }
 {
-    if let Some(rest) = behind_label(b"yes", text) {
+    if let Some(rest) = after_label(b"yes", text) {
         return Ok((true, rest));
     }
-    match behind_label(b"no", text) {
+    match after_label(b"no", text) {
         Some(rest) => Ok((false, rest)),
         None => Err(Fault::expected(Expected::YesOrNo, text)),
     }
@@ -227,7 +227,7 @@ fn read_yes_or_no(text: &[u8]) -> Result<(bool, &[u8]), Fault>
 fn read_answer<'a>(label: &[u8], text: &'a [u8]) -> Result<(bool, &'a [u8]), Fault>
     ensures { Gives (λ r. (r.0, words_of r.1.now)) result (answer_at label.now (words_of text.now)) }
 {
-    match behind_label(label, text) {
+    match after_label(label, text) {
         Some(rest) => read_yes_or_no(rest),
         None => Err(Fault::expected(Expected::Label, text)),
     }
@@ -237,13 +237,13 @@ fn read_answer<'a>(label: &[u8], text: &'a [u8]) -> Result<(bool, &'a [u8]), Fau
 fn read_kind(text: &[u8]) -> Result<(RightKind, &[u8]), Fault>
     ensures { Gives (λ r. (r.0, words_of r.1.now)) result (kind_at (words_of text.now)) }
 {
-    if let Some(rest) = behind_label(b"receive", text) {
+    if let Some(rest) = after_label(b"receive", text) {
         return Ok((RightKind::Receive, rest));
     }
-    if let Some(rest) = behind_label(b"send", text) {
+    if let Some(rest) = after_label(b"send", text) {
         return Ok((RightKind::Send, rest));
     }
-    match behind_label(b"send_once", text) {
+    match after_label(b"send_once", text) {
         Some(rest) => Ok((RightKind::SendOnce, rest)),
         None => Err(Fault::expected(Expected::RightKind, text)),
     }
@@ -357,7 +357,7 @@ fn read_members(alloc: Global, text: &[u8]) -> Result<Sequence<u32>, Fault>
 fn read_received(alloc: Global, text: &[u8]) -> Result<(Vec<u8>, &[u8]), Fault>
     ensures { Gives (λ r. (r.0.items, words_of r.1.now)) result (received_at (words_of text.now)) }
 {
-    match behind_label(b"message", text) {
+    match after_label(b"message", text) {
         Some(rest) => read_message(alloc, rest),
         None => Ok((Vec::new(alloc), text)),
     }

@@ -25,7 +25,7 @@ fn count_line_bytes(text: &[u8]) -> usize
 }
 
 /// What stands after the first byte.
-fn behind_first(text: &[u8]) -> &[u8]
+fn after_first(text: &[u8]) -> &[u8]
     ensures { result.now ≡ drop 1 text.now }
 {
     match text.split_first() {
@@ -40,7 +40,7 @@ fn first_line(text: &[u8]) -> (&[u8], &[u8])
     ensures rest { result.1.now ≡ drop 1 (drop (prefix_len in_line text.now) text.now) }
 {
     let (line, rest) = text.split_at(count_line_bytes(text));
-    (line, behind_first(rest))
+    (line, after_first(rest))
 }
 
 /// Adds the call of a line, if it holds one.

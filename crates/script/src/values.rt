@@ -56,7 +56,7 @@ pub(crate) fn read_bounded(
 
 #[tactic(auto, unfolding(crate::specs::Reading::label_at))]
 /// The text after a word, if it is the first.
-pub(crate) fn behind_label<'a>(label: &[u8], text: &'a [u8]) -> Option<&'a [u8]>
+pub(crate) fn after_label<'a>(label: &[u8], text: &'a [u8]) -> Option<&'a [u8]>
     ensures { MatchOption result (label_at label.now (words_of text.now) ≡ None)
         (λ rest. label_at label.now (words_of text.now) ≡ Some (words_of rest.now)) }
 {
@@ -73,7 +73,7 @@ pub(crate) fn read_labelled<'a>(
 ) -> Result<(u32, &'a [u8]), Fault>
     ensures { Gives (λ r. (r.0, words_of r.1.now)) result (labelled_at label.now kind (words_of text.now)) }
 {
-    match behind_label(label, text) {
+    match after_label(label, text) {
         Some(rest) => read_value(kind, rest),
         None => Err(Fault::expected(Expected::Label, text)),
     }
@@ -88,7 +88,7 @@ pub(crate) fn read_optional<'a>(
 ) -> Result<(u32, &'a [u8]), Fault>
     ensures { Gives (λ r. (r.0, words_of r.1.now)) result (optional_at label.now kind (words_of text.now)) }
 {
-    match behind_label(label, text) {
+    match after_label(label, text) {
         Some(rest) => read_value(kind, rest),
         None => Ok((0, text)),
     }
@@ -99,7 +99,7 @@ pub(crate) fn read_optional<'a>(
 pub(crate) fn read_flag<'a>(label: &[u8], text: &'a [u8]) -> (bool, &'a [u8])
     ensures { flag_at label.now (words_of text.now) ≡ (result.0, words_of result.1.now) }
 {
-    match behind_label(label, text) {
+    match after_label(label, text) {
         Some(rest) => (true, rest),
         None => (false, text),
     }

@@ -8,7 +8,7 @@ use Rattle.ipc_model.specs.declared.message.CarriedRight.{CarriedRight}
 use Rattle.ipc_model.specs.declared.message.Message.{Message}
 use Rattle.ipc_model.specs.declared.message.RightKind.TheVariants as kind
 use Rattle.ipc_model.specs.effects.Effects.{Effect}
-use Rattle.ipc_model.specs.messages.Items.{Item, as_stored, is_port_item, items_text}
+use Rattle.ipc_model.specs.messages.Items.{Item, as_stored, is_port_item, items_encoding}
 use Rattle.ipc_model.specs.messages.Messages.{UsedParts}
 use Rattle.ipc_model.specs.messages.Sending.{TakenHeader, TakenRights, Ready, ready_message, is_full, tests_of_queue, take_items}
 use Rattle.ipc_model.specs.state.Placed.{same_kind}
@@ -36,7 +36,7 @@ message_of parts items found rights = record {
   id = parts.id;
   complex = list_any is_port_item items;
   rights = rights;
-  body = if parts.complex then items_text (map as_stored items) else parts.body;
+  body = if parts.complex then items_encoding (map as_stored items) else parts.body;
 }
 
 abbrev pub made : UsedParts → List Item → HeaderRights → State → List CarriedRight → Result Message KernReturn
@@ -62,7 +62,7 @@ module _ (space : ℕ) (parts : UsedParts) (items : List Item) (found : HeaderRi
       id = parts.id;
       complex = list_any is_port_item items;
       rights = sym rights_are i;
-      body = if parts.complex then items_text (map as_stored items) else parts.body;
+      body = if parts.complex then items_encoding (map as_stored items) else parts.body;
     };
     port = (sym head.0 i).port;
     state = sym state_is i;

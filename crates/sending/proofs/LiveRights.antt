@@ -10,7 +10,7 @@ use Rattle.ipc_model.specs.declared.message.PortInMessage.{PortInMessage}
 use Rattle.ipc_model.specs.declared.message.PortInMessage.TheVariants as in_message
 use Rattle.ipc_model.specs.declared.message.RightKind.{RightKind}
 use Rattle.ipc_model.specs.messages.Sending.{Ready, ready_to_send}
-use Rattle.ipc_model.specs.state.Circular.{Grounded}
+use Rattle.ipc_model.specs.state.Circular.{Acyclic}
 use Rattle.ipc_model.specs.state.Lawful.{Lawful}
 use Rattle.ipc_model.specs.state.State.{State, Names, lives}
 use Rattle.ipc_laws.specs.Hands.{mid_of}
@@ -50,8 +50,8 @@ module _ (state : State) where
       both (is_live_reply state message.reply) (list_all (is_live state) message.rights) (reply_live message.reply (λ q dead. omega (arith, none q dead)))
       (rights_live message.rights (λ q dead. omega (arith, none q dead)))
 
-pub ready_live : (old : State) (space : ℕ) (bytes : List ℕ) (ready : Ready) → AreBytes bytes → Lawful old → Grounded old → IsSome (finmap.get old.spaces space) → ready_to_send old space bytes ≡ Ok ready → carries_live ready.state ready.message ≡ true
-ready_live old space bytes ready fits lawful grounded there is = by_case (finmap.get old.spaces space) refl there
+pub ready_live : (old : State) (space : ℕ) (bytes : List ℕ) (ready : Ready) → AreBytes bytes → Lawful old → Acyclic old → IsSome (finmap.get old.spaces space) → ready_to_send old space bytes ≡ Ok ready → carries_live ready.state ready.message ≡ true
+ready_live old space bytes ready fits lawful acyclic there is = by_case (finmap.get old.spaces space) refl there
   where
     of_mid : MidReady ready → carries_live ready.state ready.message ≡ true
     of_mid mid = message_live ready.state ready.port ready.message (λ q dead. mid.mid.in_hand q dead)
@@ -59,5 +59,5 @@ ready_live old space bytes ready fits lawful grounded there is = by_case (finmap
     by_case : (o : Option Names) → finmap.get old.spaces space ≡ o → IsSome o → carries_live ready.state ready.message ≡ true
     by_case None at some = absurd (cc some)
     by_case (Some names) at some =
-        let done : IfOk (ready_to_send old space bytes) MidReady = ready_mid old space names bytes fits (mid_of old (at_rest old lawful) grounded) at in
+        let done : IfOk (ready_to_send old space bytes) MidReady = ready_mid old space names bytes fits (mid_of old (at_rest old lawful) acyclic) at in
         of_mid (subst (λ (r : Result Ready KernReturn). IfOk r MidReady) is done)

@@ -3,7 +3,7 @@ ghost use Rattle.std.specs.Prelude.{◌≡◌, ◌∷◌, ◌&&◌, [], map, not
 ghost use Rattle.std.specs.List.{list_any};
 ghost use Rattle.ipc_model.specs.calls.Tests.{and_then, or_refused, unless_failing};
 ghost use Rattle.ipc_model.specs.declared.message.RightKind.TheVariants as right_kind;
-ghost use Rattle.ipc_model.specs.messages.Items.{as_stored, is_port_item, items_text};
+ghost use Rattle.ipc_model.specs.messages.Items.{as_stored, is_port_item, items_encoding};
 ghost use Rattle.ipc_model.specs.messages.Sending as sending;
 ghost use Rattle.ipc_model.specs.messages.Sending.{Ready, ready_to_send};
 ghost use Rattle.ipc_model.specs.state.Placed.{same_kind};
@@ -41,7 +41,7 @@ fn kept_body(
     items: &[Item<'_>],
     body: &[u8],
 ) -> Result<Vec<u8>, AllocError>
-    ensures { IfOk result (λ kept. kept.items ≡ (if complex then items_text (map as_stored (map item_value items.now)) else body.now)) }
+    ensures { IfOk result (λ kept. kept.items ≡ (if complex then items_encoding (map as_stored (map item_value items.now)) else body.now)) }
 {
     let mut kept = Vec::with_capacity(alloc, body.len())?;
     if complex {
@@ -78,7 +78,7 @@ fn message_of(
       id = read.entry.header.id;
       complex = list_any is_port_item (map item_value read.entry.items.now);
       rights = rights.items;
-      body = if read.entry.header.complex then items_text (map as_stored (map item_value read.entry.items.now)) else read.entry.body.now;
+      body = if read.entry.header.complex then items_encoding (map as_stored (map item_value read.entry.items.now)) else read.entry.body.now;
     }))) (λ message found. found ≡ message) result }
 {
     if is_stopped(state, taken.port, taken.kind) {

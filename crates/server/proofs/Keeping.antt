@@ -7,7 +7,7 @@ use Rattle.ipc_model.specs.calls.Step.{Step, has_record}
 use Rattle.ipc_model.specs.declared.call.Call.{Call}
 use Rattle.ipc_model.specs.declared.call.Reply.{Reply}
 use Rattle.ipc_model.specs.state.State.{State}
-use Rattle.ipc_model.specs.texts.Texts.{FitsCall, kept_record, IsRecord}
+use Rattle.ipc_model.specs.encodings.Encodings.{FitsCall, canonical_record, IsRecord}
 use Rattle.journal.specs.Batch.{BatchValue, Holds}
 use Rattle.journal.specs.declared.fault.StoreFault.{StoreFault}
 use Rattle.journal.specs.declared.fault.StoreFault.TheVariants.{Device, NoMemory}
@@ -30,7 +30,7 @@ pub kept_held : {D : Type 0} (view : D → View) (store : StoreValue D) (state :
 kept_held view store state standing = kept_recovered (view store.disk) store.segment store.checkpoint standing.0 state standing.1
 
 -- one record, as a batch of its own
-one_ready : (before after : State) (count space : ℕ) (c : Call) (answer : Reply) (batch : BatchValue) → FitsCall c → Step before space c answer after → IsRecord (kept_record (entry_of space c answer)) → count < MAX_RECORDS
+one_ready : (before after : State) (count space : ℕ) (c : Call) (answer : Reply) (batch : BatchValue) → FitsCall c → Step before space c answer after → IsRecord (canonical_record (entry_of space c answer)) → count < MAX_RECORDS
     → Holds count (entry_of space c answer ∷ []) batch → IsReadyBatch before after count (entry_of space c answer ∷ []) batch
 one_ready before after count space c answer batch in_range step fits room holds = record {
   run = (after, step, refl);
@@ -41,7 +41,7 @@ one_ready before after count space c answer batch in_range step fits room holds 
   holds = holds;
 }
 
-pub batch_stands : (old new : View) (segment : Segment) (checkpoint : Option CheckpointValue) (mid before after : State) (space : ℕ) (c : Call) (answer : Reply) (batch : BatchValue) → Keeps old segment checkpoint mid before → FitsCall c → Step before space c answer after → IsRecord (kept_record (entry_of space c answer))
+pub batch_stands : (old new : View) (segment : Segment) (checkpoint : Option CheckpointValue) (mid before after : State) (space : ℕ) (c : Call) (answer : Reply) (batch : BatchValue) → Keeps old segment checkpoint mid before → FitsCall c → Step before space c answer after → IsRecord (canonical_record (entry_of space c answer))
     → has_record c answer ≡ true → segment.records < MAX_RECORDS → Holds segment.records (entry_of space c answer ∷ []) batch → (IsSynced old (segment_slot segment.epoch) → PassesAppend segment.epoch old new batch) → Passes old new (IsBeforeOrAfter before space c after)
 batch_stands old new segment checkpoint mid before after space c answer batch kept in_range step fits recorded room holds passes =
     let ready = one_ready before after segment.records space c answer batch in_range step fits room holds in
@@ -50,7 +50,7 @@ batch_stands old new segment checkpoint mid before after space c answer batch ke
       | inr last ↦ inr (answer, step, recorded, last)
     ])
 
-pub batch_kept : (old new : View) (segment : Segment) (checkpoint : Option CheckpointValue) (mid before after : State) (space : ℕ) (c : Call) (answer : Reply) (batch : BatchValue) → Keeps old segment checkpoint mid before → FitsCall c → Step before space c answer after → IsRecord (kept_record (entry_of space c answer))
+pub batch_kept : (old new : View) (segment : Segment) (checkpoint : Option CheckpointValue) (mid before after : State) (space : ℕ) (c : Call) (answer : Reply) (batch : BatchValue) → Keeps old segment checkpoint mid before → FitsCall c → Step before space c answer after → IsRecord (canonical_record (entry_of space c answer))
     → segment.records < MAX_RECORDS → Holds segment.records (entry_of space c answer ∷ []) batch → IsAppended segment.epoch old.seen new.seen batch → IsSynced new (segment_slot segment.epoch)
     → (IsSynced old (segment_slot segment.epoch) → PassesAppend segment.epoch old new batch) → Keeps new (with_more segment 1) checkpoint mid after
 batch_kept old new segment checkpoint mid before after space c answer batch kept in_range step fits room holds stored synced passes =

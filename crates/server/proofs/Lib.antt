@@ -1,4 +1,4 @@
 mod Ended
 mod Keeping
 mod Making
-mod Stopping
+mod Crashing

@@ -7,7 +7,7 @@ use Rattle.server.specs.declared.ending.SocketEnd.TheVariants.{Socket, InUse, Un
 use Rattle.server.specs.declared.program.LoneEnd.TheVariants as lone_end
 use Rattle.server.specs.declared.lock.LockFault.{LockFault}
 use Rattle.server.specs.declared.lock.LockFault.TheVariants as lock
-use Rattle.serving.specs.declared.service.ServeFault.TheVariants as serve_fault
+use Rattle.frame_service.specs.declared.service.ServeFault.TheVariants as serve_fault
 
 -- the line of errors that a run ends with
 abbrev pub line_of : SocketEnd → List ℕ

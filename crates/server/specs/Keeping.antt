@@ -13,10 +13,10 @@ use Rattle.ipc_model.specs.history.History.{space_after}
 use Rattle.journal.specs.declared.fault.StoreFault.{StoreFault}
 use Rattle.journal.specs.declared.fault.StoreFault.TheVariants.{Device, Failed}
 use Rattle.ipc_model.specs.store.Recovery.{Recovered}
-use Rattle.standing.specs.Standing.{as_written}
+use Rattle.store_layout.specs.Standing.{as_written}
 use Rattle.system.specs.GoingOn.{GoesOn, TakesMemory}
 use Rattle.system.specs.Passed.{StoreValue, store_code}
-use Rattle.serving.specs.Serving.{StepOrShortage}
+use Rattle.frame_service.specs.Serving.{StepOrShortage}
 
 -- The state after the calls so far, the store, the space that the caller is attached to, and whether a call failed.
 pub record AloneValue (D : Type 0) : Type 0 where

@@ -1,4 +1,4 @@
 pub mod Ending
 pub mod Keeping
 pub mod Program
-pub mod Stopping
+pub mod Crashing

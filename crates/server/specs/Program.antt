@@ -5,13 +5,13 @@ use Rattle.journal.specs.Fault as store
 use Rattle.journal.specs.declared.fault.StoreFault.{StoreFault}
 use Rattle.journal.specs.declared.fault.StoreFault.TheVariants.{Device}
 use Rattle.server.specs.Keeping.{AloneValue, AnswersKept, BreaksKept, FailsKept, IsHeld, RestsKept}
-use Rattle.serving.specs.Serving.{Ends}
+use Rattle.frame_service.specs.Serving.{Ends}
 use Rattle.server.specs.declared.program.LoneEnd.{LoneEnd}
 use Rattle.server.specs.declared.program.LoneEnd.TheVariants.{Served, CommandLine, InUse, Unlockable, Fault}
 use Rattle.server.specs.declared.lock.LockFault.{LockFault}
 use Rattle.server.specs.declared.lock.LockFault.TheVariants as lock
-use Rattle.serving.specs.declared.service.ServeFault.{ServeFault}
-use Rattle.serving.specs.declared.service.ServeFault.TheVariants.{Wire, Store}
+use Rattle.frame_service.specs.declared.service.ServeFault.{ServeFault}
+use Rattle.frame_service.specs.declared.service.ServeFault.TheVariants.{Wire, Store}
 use Rattle.wire.specs.Fault as wire
 
 -- 0: the input was served to its end; 1: a fault, or the store's folder isn't locked; 2: the arguments are not exactly

@@ -2,24 +2,24 @@ ghost use Rattle.std.specs.Prelude.{◌≡◌, ◌+◌, ◌<◌, ◌≤◌, true
 ghost use Rattle.disk.specs.Moments.{LeftSince, Passes};
 ghost use Rattle.disk.specs.Slots.{Slots};
 ghost use Rattle.ipc_model.specs.store.Recovery.{Recovered};
-ghost use Rattle.standing.specs.Standing.{as_written};
+ghost use Rattle.store_layout.specs.Standing.{as_written};
 ghost use Rattle.system.specs.Calling.{IsResting};
 ghost use Rattle.system.specs.Core.{first_system};
 ghost use Rattle.system.specs.Counting.{counted};
 ghost use Rattle.system.specs.GoingOn.{GoesOn, IsStanding};
 ghost use Rattle.server.specs.Keeping.{AnswersKept, BreaksKept, FailsKept, IsBeforeOrAfter, IsCounted, IsHeld, IsMoved, IsShortOf, RestsKept};
-ghost use Rattle.serving.specs.Serving.{StepOrShortage};
+ghost use Rattle.frame_service.specs.Serving.{StepOrShortage};
 ghost use Rattle.ipc_model.specs.calls.Step.{has_record, succeeded};
-ghost use Rattle.ipc_model.specs.texts.Texts.{reply_text};
+ghost use Rattle.ipc_model.specs.encodings.Encodings.{reply_encoding};
 ghost use Rattle.ipc_model.specs.declared.call.Call.{Call};
 ghost use Rattle.ipc_model.specs.declared.call.Reply.{Reply};
 ghost use Rattle.journal.specs.declared.fault.StoreFault.{StoreFault};
 
 use codes::{CHECKPOINT_RECORDS, FIRST_SPACE, MAX_FRAME_CONTENT};
 use disk::Disk;
+use frame_service::{Caller, shortage};
 use ipc_model::{Call, Reply};
 use journal::StoreFault;
-use serving::{Caller, shortage};
 use std::alloc::Global;
 use std::marker::Model;
 use system::{CallFault, Opened, System};
@@ -112,7 +112,7 @@ impl<D: Disk> Caller for Alone<D> {
     /// damaged or of another version.
     fn call(&mut self, call: Call) -> Result<Reply, StoreFault>
         ensures answers { IfOk result (λ reply. AnswersKept D.honest D.view self.old call reply self.new) }
-        ensures fits { IfOk result (λ reply. length (reply_text reply) ≤ MAX_FRAME_CONTENT) }
+        ensures fits { IfOk result (λ reply. length (reply_encoding reply) ≤ MAX_FRAME_CONTENT) }
         ensures fails { IfErr result (λ fault. FailsKept D.honest D.view self.old call fault self.new) }
         ensures failures { D.failed_calls self.new.store.disk ≡ counted result (D.failed_calls self.old.store.disk) }
         // A crash at any moment from the beginning of the call to its end leaves the state before it or the state after
@@ -192,7 +192,7 @@ fn make_call<D: Disk>(
 ) -> Result<Reply, StoreFault>
     requires { IsResting system.old }
     ensures answers { IfOk result (λ reply. StepOrShortage system.old.core.kernel space call.now reply system.new.core.kernel) }
-    ensures frame { IfOk result (λ reply. length (reply_text reply) ≤ MAX_FRAME_CONTENT) }
+    ensures frame { IfOk result (λ reply. length (reply_encoding reply) ≤ MAX_FRAME_CONTENT) }
     ensures passes { D.honest → IsStanding D.view system.old.store system.old.core.kernel
         → Passes (D.view system.old.store.disk) (D.view system.new.store.disk)
         (IsBeforeOrAfter system.old.core.kernel space call.now system.new.core.kernel) }

@@ -1,6 +1,6 @@
 // Laws over what `serve` says of a single caller, as contracts of functions that do nothing, so that the check proves
 // them.
-ghost use Rattle.server.specs.Stopping.{AnsweredIsStored, BreakingLosesNothing, FailureLosesNothing, FrameIsStored};
+ghost use Rattle.server.specs.Crashing.{AnsweredIsStored, BreakingLosesNothing, FailureLosesNothing, FrameIsStored};
 
 use disk::Disk;
 

@@ -101,7 +101,7 @@ where
     // line.
     ensures ended { IfSome (I.remaining input.old) (λ bytes. IfSome (O.contents output.old) (λ before.
         (end : LoneEnd) × (result ≡ status_of end) × AppendsPart (E.contents errors.old) (E.contents errors.new) (line_of end)
-        × EndsAlone ⟦<FileDisk<&'a F> as Disk>⟧.honest ⟦<FileDisk<&'a F> as Disk>⟧.view bytes before (I.remaining input.new) (O.contents output.new) (option_map (λ texts. length texts.now) words.entry) end)) }
+        × EndsAlone ⟦<FileDisk<&'a F> as Disk>⟧.honest ⟦<FileDisk<&'a F> as Disk>⟧.view bytes before (I.remaining input.new) (O.contents output.new) (option_map (λ encodings. length encodings.now) words.entry) end)) }
 {
     let end = run_alone(alloc, files, words, input, output);
     let _ = end.tell(errors);
@@ -119,7 +119,7 @@ pub fn run_alone<'a, F: Files, I: Read, O: Write>(
 where
     F::File: LockFile,
     ensures ended { IfSome (I.remaining input.old) (λ bytes. IfSome (O.contents output.old) (λ before.
-        EndsAlone ⟦<FileDisk<&'a F> as Disk>⟧.honest ⟦<FileDisk<&'a F> as Disk>⟧.view bytes before (I.remaining input.new) (O.contents output.new) (option_map (λ texts. length texts.now) words.entry) result)) }
+        EndsAlone ⟦<FileDisk<&'a F> as Disk>⟧.honest ⟦<FileDisk<&'a F> as Disk>⟧.view bytes before (I.remaining input.new) (O.contents output.new) (option_map (λ encodings. length encodings.now) words.entry) result)) }
 {
     let Some([store]) = words else {
         return LoneEnd::CommandLine;

@@ -1,5 +1,5 @@
 //! Events of a core, and their answers as numbers.
-use crate::store::Core;
+use crate::store::TriedCore;
 use codes::MAX_RECORDS;
 use ipc_model::Call;
 
@@ -36,10 +36,10 @@ pub(crate) enum Asked {
 
 /// An event, and its answer: for a call its ticket's number, for a ticket what the reply says, for any other 1 if it
 /// was done and 0 if it can't be.
-pub(crate) type Row = (Asked, u64);
+pub(crate) type AskedRow = (Asked, u64);
 
 /// What an event answers.
-fn answered<C: Core>(core: &mut C, event: Asked) -> u64 {
+fn answered<C: TriedCore>(core: &mut C, event: Asked) -> u64 {
     match event {
         Asked::Allocate => core.submit_call(&Call::Allocate { right: 1 }),
         Asked::Type(name) => core.submit_call(&Call::Type { name }),
@@ -51,7 +51,7 @@ fn answered<C: Core>(core: &mut C, event: Asked) -> u64 {
 }
 
 /// The first row with another answer: which it is, and the answer.
-pub(crate) fn unlike<C: Core>(core: &mut C, rows: &[Row]) -> Option<(usize, u64)> {
+pub(crate) fn unlike<C: TriedCore>(core: &mut C, rows: &[AskedRow]) -> Option<(usize, u64)> {
     for (index, (event, wanted)) in rows.iter().enumerate() {
         let seen = answered(core, *event);
         if seen != *wanted {
@@ -68,7 +68,7 @@ const SET_SEQNO: Call = Call::SetSeqno {
 };
 
 /// Makes as many calls as an epoch log takes. Returns whether each gets a ticket.
-pub(crate) fn fill<C: Core>(core: &mut C) -> bool {
+pub(crate) fn fill<C: TriedCore>(core: &mut C) -> bool {
     if core.submit_call(&Call::Allocate { right: 1 }) >= NOT_NOW {
         return false;
     }

@@ -1,10 +1,10 @@
-use crate::asking::{Asked, NOT_NOW, Row};
+use crate::asking::{Asked, AskedRow, NOT_NOW};
 use crate::expect::same;
 use crate::store::{self, Store};
 use disk::{Disk, MemDisk, Slot};
 use std::alloc::Global;
 
-static TWO_IN_A_BATCH: [Row; 24] = [
+static TWO_IN_A_BATCH: [AskedRow; 24] = [
     // Nothing waits.
     (Asked::Take, 0),
     (Asked::Append, 0),
@@ -37,7 +37,7 @@ static TWO_IN_A_BATCH: [Row; 24] = [
 ];
 
 /// The first row with another answer on a new store, and the length of its segment.
-fn asked<S: Store + Drop>(alloc: Global, rows: &[Row]) -> Option<(Option<(usize, u64)>, u64)> {
+fn asked<S: Store + Drop>(alloc: Global, rows: &[AskedRow]) -> Option<(Option<(usize, u64)>, u64)> {
     let (unlike, disk) = store::asked(alloc, S::empty(alloc), rows)?;
     Some((unlike, disk.length(Slot::Segment0)))
 }

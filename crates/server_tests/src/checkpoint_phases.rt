@@ -54,7 +54,7 @@ port 2 held 1 00000101 send 0 once 0 queue 0 of 5 seqno 0 mscount 0
 );
 
 /// The first record is in the image now, and the second one in its epoch's segment.
-const ONE_RECORD_BEHIND_AN_IMAGE: Printed = (
+const ONE_RECORD_AFTER_AN_IMAGE: Printed = (
     "epoch 1 records 1
 space 1
 name 00000100 00020000 port 1 refs 0
@@ -120,7 +120,7 @@ static CHECKPOINT: [Phase; 13] = [
 ];
 
 /// The same, and a second right is stored in the next epoch's segment while the image is made.
-static BESIDE: [Phase; 18] = [
+static ALONGSIDE: [Phase; 18] = [
     (b"a", NEW),
     (b"ak", NEW),
     (b"akw", ONE_RECORD),
@@ -137,8 +137,8 @@ static BESIDE: [Phase; 18] = [
     (b"akwd0clhoiakwd", TWO_RECORDS),
     (b"akwd0clhoiakwd1", TWO_RECORDS),
     (b"akwd0clhoiakwd1p", TWO_RECORDS),
-    (b"akwd0clhoiakwd1pf", ONE_RECORD_BEHIND_AN_IMAGE),
-    (b"akwd0clhoiakwd1pfd", ONE_RECORD_BEHIND_AN_IMAGE),
+    (b"akwd0clhoiakwd1pf", ONE_RECORD_AFTER_AN_IMAGE),
+    (b"akwd0clhoiakwd1pfd", ONE_RECORD_AFTER_AN_IMAGE),
 ];
 
 /// Whether each event of a list was done, by the letters of the answers: a ticket, a name, or that it was done. None of
@@ -175,7 +175,7 @@ fn inspected_after<S: Store + Drop>(alloc: Global, letters: &[u8]) -> Option<Ins
 }
 
 /// What is seen as texts. `None` if a part isn't one.
-fn texts(seen: &Option<Inspected>) -> Option<(&str, &str, bool)> {
+fn encodings(seen: &Option<Inspected>) -> Option<(&str, &str, bool)> {
     let (lines, drawing, is_same) = seen.as_ref()?;
     let lines = str::from_utf8(lines).ok()?;
     Some((lines, str::from_utf8(drawing).ok()?, *is_same))
@@ -185,7 +185,12 @@ fn texts(seen: &Option<Inspected>) -> Option<(&str, &str, bool)> {
 fn check_phases<S: Store + Drop, A: Abort>(rt: &A, alloc: Global, phases: &[Phase]) {
     for (letters, (lines, drawing)) in phases {
         let seen = inspected_after::<S>(alloc, letters);
-        same_in_row(rt, *letters, texts(&seen), Some((*lines, *drawing, true)));
+        same_in_row(
+            rt,
+            *letters,
+            encodings(&seen),
+            Some((*lines, *drawing, true)),
+        );
     }
 }
 
@@ -195,6 +200,6 @@ fn a_checkpoint_shows_one_state_in_each_phase(rt: HostRuntime) {
 }
 
 #[test]
-fn a_call_beside_an_image_is_shown_from_its_append_on(rt: HostRuntime) {
-    check_phases::<MemDisk, HostRuntime>(&rt, rt.alloc(), &BESIDE);
+fn a_call_alongside_an_image_is_shown_from_its_append_on(rt: HostRuntime) {
+    check_phases::<MemDisk, HostRuntime>(&rt, rt.alloc(), &ALONGSIDE);
 }

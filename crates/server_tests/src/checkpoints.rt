@@ -23,7 +23,7 @@ static TWICE: (&[u8], &[u8]) = (
 );
 
 /// A call of the next epoch is stored and acknowledged while the image is written.
-static BESIDE: (&[u8], &[u8]) = (b"akwd0aclhkwodiakwd1d2pfd", b"#+++A#++++++++#+++B-C+++");
+static ALONGSIDE: (&[u8], &[u8]) = (b"akwd0aclhkwodiakwd1d2pfd", b"#+++A#++++++++#+++B-C+++");
 
 // Whether a list of events has these answers on a new store; and how long the second segment and image are then.
 fn lengths<S: Store + Drop>(alloc: Global, list: (&[u8], &[u8])) -> Option<(bool, u64, u64)> {
@@ -52,7 +52,7 @@ fn steps_come_in_their_turn(rt: HostRuntime) {
     let seen = [
         is_answered::<MemDisk>(rt.alloc(), OUT_OF_TURN),
         is_answered::<MemDisk>(rt.alloc(), TWICE),
-        is_answered::<MemDisk>(rt.alloc(), BESIDE),
+        is_answered::<MemDisk>(rt.alloc(), ALONGSIDE),
     ];
     same(&rt, seen, [true; 3]);
 }
@@ -65,7 +65,7 @@ fn ports<S: Store + Drop>(alloc: Global, disk: S) -> Option<u64> {
 
 // Opens a store whose device fails from this call of the opening on. Returns how many ports are found after a crash
 // then, and whether it was opened.
-fn ports_behind_opening<S: Store + Drop>(
+fn ports_after_opening<S: Store + Drop>(
     alloc: Global,
     disk: &S,
     at: u64,
@@ -80,7 +80,7 @@ fn ports_behind_opening<S: Store + Drop>(
 // Whether a crash at each device call of an opening leaves as many ports, until none of its calls fails any more.
 fn openings_keep<S: Store + Drop>(alloc: Global, disk: &S, wanted: u64, torn: Torn) -> bool {
     for at in 1..60u64 {
-        let Some((found, is_opened)) = ports_behind_opening(alloc, disk, at, torn) else {
+        let Some((found, is_opened)) = ports_after_opening(alloc, disk, at, torn) else {
             return false;
         };
         if found != wanted {
@@ -101,9 +101,9 @@ fn is_kept<S: Store + Drop>(
     bounds: Option<(u64, u64)>,
     torn: Torn,
 ) -> Option<bool> {
-    let (told, applied) = bounds?;
+    let (acknowledged, applied) = bounds?;
     let found = ports(alloc, disk.copied(alloc)?)?;
-    Some(told <= found && found <= applied && openings_keep(alloc, disk, found, torn))
+    Some(acknowledged <= found && found <= applied && openings_keep(alloc, disk, found, torn))
 }
 
 // The same for what a list of events on this disk leaves; and whether one of its events met a fault.
@@ -149,9 +149,9 @@ fn unswept<S: Store + Drop>(alloc: Global, letters: &[u8], calls: u64) -> Option
 }
 
 #[test]
-fn a_stop_in_a_checkpoint_leaves_what_was_told(rt: HostRuntime) {
+fn a_crash_in_a_checkpoint_leaves_what_was_acknowledged(rt: HostRuntime) {
     same(&rt, unswept::<MemDisk>(rt.alloc(), TWICE.0, 46), None);
-    same(&rt, unswept::<MemDisk>(rt.alloc(), BESIDE.0, 28), None);
+    same(&rt, unswept::<MemDisk>(rt.alloc(), ALONGSIDE.0, 28), None);
 }
 
 // A hundred and twenty receive rights, which make an image of three pieces; a checkpoint is begun, its image closed and

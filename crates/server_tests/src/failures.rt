@@ -1,4 +1,4 @@
-use crate::asking::{Asked, DEVICE, FAILED, NOT_NOW, Row};
+use crate::asking::{Asked, AskedRow, DEVICE, FAILED, NOT_NOW};
 use crate::expect::same_in_row;
 use crate::store::{Store, asked, failing, stored_records};
 use disk::{MemDisk, Torn};
@@ -9,7 +9,7 @@ use std::alloc::Global;
 const OPENING: u64 = 13;
 
 /// An append writes the batch, syncs, opens its gate, and syncs. One of these fails.
-static FAILS: [Row; 8] = [
+static FAILS: [AskedRow; 8] = [
     (Asked::Allocate, 0),
     (Asked::Allocate, 1),
     (Asked::Take, 1),
@@ -21,7 +21,7 @@ static FAILS: [Row; 8] = [
 ];
 
 /// None of them fails.
-static IS_STORED: [Row; 6] = [
+static IS_STORED: [AskedRow; 6] = [
     (Asked::Allocate, 0),
     (Asked::Allocate, 1),
     (Asked::Take, 1),
@@ -47,7 +47,7 @@ fn left<S: Store + Drop>(
     call: u64,
     once: bool,
     torn: Torn,
-    rows: &[Row],
+    rows: &[AskedRow],
 ) -> Option<(Option<(usize, u64)>, u64)> {
     let disk: S = failing(alloc, OPENING.saturating_add(call), once, torn)?;
     let (unlike, disk) = asked(alloc, disk, rows)?;
@@ -56,9 +56,9 @@ fn left<S: Store + Drop>(
 
 #[test]
 fn a_batch_is_left_whole_or_not_at_all(rt: HostRuntime) {
-    for (torn, behind_gate) in &KINDS {
+    for (torn, after_gate) in &KINDS {
         for call in 1..5u64 {
-            let found = if call < 3 { 0 } else { *behind_gate };
+            let found = if call < 3 { 0 } else { *after_gate };
             let for_good = left::<MemDisk>(rt.alloc(), call, false, *torn, &FAILS);
             let once = left::<MemDisk>(rt.alloc(), call, true, *torn, &FAILS);
             let wanted = [Some((None, found)); 2];

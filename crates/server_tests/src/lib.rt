@@ -7,11 +7,11 @@ mod asking;
 #[cfg(test)]
 mod batches;
 #[cfg(test)]
-mod bent;
-#[cfg(test)]
 mod checkpoint_phases;
 #[cfg(test)]
 mod checkpoints;
+#[cfg(test)]
+mod corrupted;
 #[cfg(test)]
 mod expect;
 #[cfg(test)]
@@ -19,7 +19,7 @@ mod failures;
 #[cfg(test)]
 mod frames;
 #[cfg(test)]
-mod full_row;
+mod full_log;
 #[cfg(test)]
 mod inspected;
 #[cfg(test)]

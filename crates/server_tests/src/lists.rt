@@ -191,7 +191,7 @@ fn count_told(
     letters: &[u8],
     answers: &[u8],
 ) -> Result<(u64, u64), AllocError> {
-    let (mut told, mut taken, mut applied) = (0, 0, 0u64);
+    let (mut acknowledged, mut taken, mut applied) = (0, 0, 0u64);
     for (letter, answer) in letters.iter().zip(answers) {
         match (*letter, *answer) {
             (_, b'#') => {
@@ -199,12 +199,14 @@ fn count_told(
                 seen.push(applied)?;
             }
             (b'k', b'+') => taken = applied,
-            (b'w', b'+') => told = taken.max(told),
-            (_, answer) if answer >= b'=' => told = seen_by(seen, *letter).max(told),
+            (b'w', b'+') => acknowledged = taken.max(acknowledged),
+            (_, answer) if answer >= b'=' => acknowledged = seen_by(seen, *letter).max(
+                acknowledged,
+            ),
             _ => {}
         }
     }
-    Ok((told, applied))
+    Ok((acknowledged, applied))
 }
 
 /// How many records a list of events acknowledged by its answers, and how many were applied.
@@ -259,8 +261,8 @@ fn is_bounded<S: Store + Drop>(alloc: Global, disk: S, letters: &[u8]) -> Option
     let (answers, disk) = play(alloc, disk, letters)?;
     let found = found(alloc, disk);
     let is = match (found, bounds(alloc, letters, &answers)) {
-        (Some((records, ports)), Some((told, applied))) => {
-            told <= records
+        (Some((records, ports)), Some((acknowledged, applied))) => {
+            acknowledged <= records
                 && records <= applied
                 && ports == allocations(letters, &answers, records)
         }
@@ -338,7 +340,7 @@ fn unswept_by<S: Store + Drop>(alloc: Global, seed: u64) -> Option<Option<Way>> 
 }
 
 #[test]
-fn a_stop_leaves_what_was_told(rt: HostRuntime) {
+fn a_crash_leaves_what_was_acknowledged(rt: HostRuntime) {
     same(&rt, unswept::<MemDisk>(rt.alloc(), TWO_CALLS.0), None);
     same(&rt, unswept::<MemDisk>(rt.alloc(), SEND_SEEN.0), None);
     for seed in 1..5 {

@@ -114,7 +114,7 @@ impl<'a> Env for Line<'a> {
 }
 
 /// Whether a program that was started by such a line ends with this status and this line of errors.
-fn is_told(rt: &HostRuntime, bytes: &[u8], status: u8, line: &str) -> bool {
+fn is_acknowledged(rt: &HostRuntime, bytes: &[u8], status: u8, line: &str) -> bool {
     let words = read_words(&(Line { bytes }, rt.alloc()));
     ends(rt, words.as_deref(), &ALLOCATE, (status, &[], line))
 }
@@ -131,7 +131,12 @@ static LINES: [(&'static [u8], u8, &'static str); 6] = [
 #[test]
 fn words_have_a_status_and_a_line(rt: HostRuntime) {
     for (bytes, status, line) in &LINES {
-        same_in_row(&rt, *bytes, is_told(&rt, bytes, *status, line), true);
+        same_in_row(
+            &rt,
+            *bytes,
+            is_acknowledged(&rt, bytes, *status, line),
+            true,
+        );
     }
 }
 
@@ -158,12 +163,12 @@ fn tells_damage_in(rt: &HostRuntime, name: &str) -> Option<(Option<()>, [bool; 2
     let words = folder(rt, name)?;
     let written = write_file(rt, &words, "image0", &DAMAGED);
     let line = "machipcd: store fault 3: damaged\n";
-    let told = ends(rt, Some(&words), &[], (1, &[], line));
-    Some((written, [told, removed(rt, &words)]))
+    let acknowledged = ends(rt, Some(&words), &[], (1, &[], line));
+    Some((written, [acknowledged, removed(rt, &words)]))
 }
 
 #[test]
-fn a_damaged_slot_is_told(rt: HostRuntime) {
+fn a_damaged_slot_is_reported(rt: HostRuntime) {
     let seen = tells_damage_in(&rt, "machipcd_damaged_store");
     same(&rt, seen, Some((Some(()), [true; 2])));
 }
@@ -231,7 +236,7 @@ fn tells_writers_in(rt: &HostRuntime, name: &str) -> Option<[bool; 5]> {
 }
 
 #[test]
-fn a_writer_that_fails_is_told(rt: HostRuntime) {
+fn a_writer_that_fails_is_reported(rt: HostRuntime) {
     let seen = tells_writers_in(&rt, "machipcd_writer_faults");
     same(&rt, seen, Some([true; 5]));
 }

@@ -77,7 +77,7 @@ fn tired_once<S: Store + Drop>(alloc: Global) -> Option<(bool, Result<(), ServeF
 }
 
 #[test]
-fn a_fault_after_a_reply_ends_behind_it(rt: HostRuntime) {
+fn a_fault_after_a_reply_ends_after_it(rt: HostRuntime) {
     let seen = tired_once::<MemDisk>(rt.alloc());
     // The third frame has twelve bytes.
     let end = Err(ServeFault::Store(StoreFault::Device));

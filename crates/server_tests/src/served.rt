@@ -7,7 +7,7 @@ use server::ServeFault;
 use std::alloc::Global;
 use wire::WireFault;
 
-fn behind_allocation(alloc: Global, tail: &[u8]) -> Option<Vec<u8>> {
+fn after_allocation(alloc: Global, tail: &[u8]) -> Option<Vec<u8>> {
     let mut input = Vec::from_slice(alloc, &ALLOCATE).ok()?;
     input.extend_from_slice(tail).ok()?;
     Some(input)
@@ -19,7 +19,7 @@ fn with_tail<S: Store + Drop>(
     alloc: Global,
     tail: &[u8],
 ) -> Option<(bool, Result<(), ServeFault>, u64)> {
-    let input = behind_allocation(alloc, tail)?;
+    let input = after_allocation(alloc, tail)?;
     let (run, disk) = served(alloc, S::empty(alloc), &input);
     let length = disk.length(Slot::Segment0);
     drop(disk);
@@ -34,15 +34,15 @@ fn with_tail<S: Store + Drop>(
     ))
 }
 
-static BENT: [(&'static [u8], WireFault); 3] = [
+static CORRUPTED: [(&'static [u8], WireFault); 3] = [
     (&[3, 0, 0, 0], WireFault::Short),
     (&[253, 255, 0, 0], WireFault::TooLong),
     (&[8, 0, 0, 0, 2, 0, 0, 0, 0, 1, 0], WireFault::Short),
 ];
 
 #[test]
-fn a_wire_fault_ends_behind_whole_replies(rt: HostRuntime) {
-    for (tail, fault) in &BENT {
+fn a_wire_fault_ends_after_whole_replies(rt: HostRuntime) {
+    for (tail, fault) in &CORRUPTED {
         let seen = with_tail::<MemDisk>(rt.alloc(), tail);
         let end = Err(ServeFault::Wire(*fault));
         same_in_row(&rt, *tail, seen, Some((true, end, 70)));
@@ -63,7 +63,7 @@ fn on_failing_disk<S: Store + Drop>(
     fails_at: u64,
 ) -> Option<(usize, Result<(), ServeFault>)> {
     let disk = failing::<S>(alloc, fails_at)?;
-    let input = behind_allocation(alloc, &ALLOCATE)?;
+    let input = after_allocation(alloc, &ALLOCATE)?;
     let (run, disk) = served(alloc, disk, &input);
     drop(disk);
     drop(input);

@@ -10,7 +10,7 @@ use std::alloc::Global;
 /// Whether a name has this type.
 fn has_type<D: Disk>(opened: &Opened<D>, name: u32, bits: u32) -> bool {
     match opened.kernel.port_type(1, name) {
-        Reply::Type { bits: told } => told == bits,
+        Reply::Type { bits: acknowledged } => acknowledged == bits,
         _ => false,
     }
 }
@@ -44,29 +44,29 @@ fn stopped<S: Store + Drop>(alloc: Global, stop_at: u64, torn: Torn) -> (u64, Op
     let mut disk = S::empty(alloc);
     disk.plan_faults(Some(stop_at), None, torn);
     let (run, disk) = served(alloc, disk, &three_calls());
-    let told = match &run {
+    let acknowledged = match &run {
         Some(run) => run.output.len() as u64 / 16,
         None => 0,
     };
     drop(run);
     match disk.stop() {
-        Some(disk) => (told, known_again(alloc, disk)),
-        None => (told, None),
+        Some(disk) => (acknowledged, known_again(alloc, disk)),
+        None => (acknowledged, None),
     }
 }
 
 /// Whether a crash at this device call left what was answered.
 fn is_left(stop_at: u64, seen: (u64, Option<Known>)) -> bool {
-    let (told, Some((found, port, set))) = seen else {
+    let (acknowledged, Some((found, port, set))) = seen else {
         return false;
     };
     // The call after the last answered one was being made; the third has no record.
-    let is_found = told.min(2) <= found && found <= told.saturating_add(1).min(2);
-    is_found && (port, set, told == 3) == (1 <= found, 2 <= found, stop_at == 33)
+    let is_found = acknowledged.min(2) <= found && found <= acknowledged.saturating_add(1).min(2);
+    is_found && (port, set, acknowledged == 3) == (1 <= found, 2 <= found, stop_at == 33)
 }
 
 #[test]
-fn a_stop_leaves_the_calls_that_were_answered(rt: HostRuntime) {
+fn a_crash_leaves_the_calls_that_were_answered(rt: HostRuntime) {
     // A new store is made with 24 device calls, and two appends make eight.
     for torn in &KINDS {
         for stop_at in 1..34 {

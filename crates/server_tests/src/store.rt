@@ -2,14 +2,14 @@
 //! the disk, so that a test's proof carries nothing of a disk or of a core: what is known of one would be written out
 //! at each exit of a function that owns it.
 
-use crate::asking::{EPOCH_FULL, FAULT, NO_MEMORY, NOT_NOW, Row, fill, unlike};
+use crate::asking::{AskedRow, EPOCH_FULL, FAULT, NO_MEMORY, NOT_NOW, fill, unlike};
 use disk::{Disk, MemDisk, Slot, Torn};
 use ipc_model::{Call, Reply};
 use std::alloc::Global;
 use system::{Event, Opened, Outcome, SubmitFault, System, open};
 
 /// Makes calls, stores them and replies. Answers are numbers, as in a row.
-pub(crate) trait Core {
+pub(crate) trait TriedCore {
     /// Makes a call of space 1.
     fn submit_call(&mut self, call: &Call) -> u64;
 
@@ -27,7 +27,7 @@ pub(crate) trait Core {
 }
 
 /// What a reply says: the new name, the type bits, or the code.
-fn told(reply: &Reply) -> u64 {
+fn acknowledged(reply: &Reply) -> u64 {
     match reply {
         Reply::Allocate { name } => u64::from(*name),
         Reply::Type { bits } => u64::from(*bits),
@@ -36,7 +36,7 @@ fn told(reply: &Reply) -> u64 {
     }
 }
 
-impl<D: Disk> Core for System<D> {
+impl<D: Disk> TriedCore for System<D> {
     fn submit_call(&mut self, call: &Call) -> u64 {
         match self.submit(1, call) {
             Ok(number) => number,
@@ -62,7 +62,7 @@ impl<D: Disk> Core for System<D> {
 
     fn replied(&mut self, ticket: u64) -> u64 {
         match self.reply(ticket) {
-            Some(reply) => told(&reply),
+            Some(reply) => acknowledged(&reply),
             None => NOT_NOW,
         }
     }
@@ -84,7 +84,7 @@ pub(crate) trait Store: Disk {
     fn bytes(&self, slot: Slot) -> &[u8];
 
     /// A disk whose slots hold what this one's do, except for one byte of a slot.
-    fn bent(&self, alloc: Global, slot: Slot, at: usize, byte: u8) -> Option<Self>;
+    fn corrupted(&self, alloc: Global, slot: Slot, at: usize, byte: u8) -> Option<Self>;
 
     /// Plans failures of calls, as `MemDisk::plan` does.
     fn plan_faults(&mut self, stop_at: Option<u64>, fail_at: Option<u64>, torn: Torn);
@@ -118,7 +118,7 @@ impl Store for MemDisk {
         self.content(slot)
     }
 
-    fn bent(&self, alloc: Global, slot: Slot, at: usize, byte: u8) -> Option<MemDisk> {
+    fn corrupted(&self, alloc: Global, slot: Slot, at: usize, byte: u8) -> Option<MemDisk> {
         let mut own = Vec::from_slice(alloc, self.content(slot)).ok()?;
         *own.get_mut(at)? = byte;
         let copy = MemDisk::with_slots(
@@ -136,7 +136,7 @@ impl Store for MemDisk {
     }
 
     fn stop(self) -> Option<MemDisk> {
-        self.after_stop().ok()
+        self.after_crash().ok()
     }
 }
 
@@ -168,7 +168,7 @@ fn core_on<D: Disk + Drop>(alloc: Global, disk: D) -> Option<System<D>> {
 pub(crate) fn asked<D: Disk + Drop>(
     alloc: Global,
     disk: D,
-    rows: &[Row],
+    rows: &[AskedRow],
 ) -> Option<(Option<(usize, u64)>, D)> {
     let mut core = core_on(alloc, disk)?;
     let unlike = unlike(&mut core, rows);
@@ -179,7 +179,7 @@ pub(crate) fn asked<D: Disk + Drop>(
 pub(crate) fn asked_full<D: Disk + Drop>(
     alloc: Global,
     disk: D,
-    rows: &[Row],
+    rows: &[AskedRow],
 ) -> Option<(bool, Option<(usize, u64)>)> {
     let mut core = core_on(alloc, disk)?;
     let is_full = fill(&mut core);

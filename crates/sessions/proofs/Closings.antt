@@ -7,17 +7,17 @@ use Rattle.history.proofs.Beginnings.{begins_records, begins_records_length}
 use Rattle.history.specs.Entries.{Begins, records_of}
 use Rattle.history.specs.declared.entry.Entry.{Entry}
 use Rattle.ipc_laws.specs.HistoryLaws.{legal_is_in_order, legal_stays_legal}
-use Rattle.ipc_model.specs.calls.Step.{Run}
+use Rattle.ipc_model.specs.calls.LoopStep.{Run}
 use Rattle.ipc_model.specs.declared.record.Record.{Record}
 use Rattle.ipc_model.specs.history.History.{Session, Sessions, AllLegal, AreAll, AreApart, Legal, places_of}
 use Rattle.ipc_model.specs.state.State.{State}
-use Rattle.session_core.proofs.Apart.{AreForeign, apart_beside, foreign_both, foreign_to, none_apart, none_foreign}
-use Rattle.session_core.proofs.Calling.{counted}
-use Rattle.session_core.proofs.Histories.{own_further}
-use Rattle.session_core.specs.Belonging.{AllBelong, Belongs, tasks_of}
-use Rattle.session_core.specs.Tokens.{SessionValue, IsHistory}
+use Rattle.kernel_keeper.proofs.Apart.{AreForeign, apart_alongside, foreign_both, foreign_to, none_apart, none_foreign}
+use Rattle.kernel_keeper.proofs.Calling.{counted}
+use Rattle.kernel_keeper.proofs.Histories.{own_further}
+use Rattle.kernel_keeper.specs.Belonging.{AllBelong, Belongs, tasks_of}
+use Rattle.kernel_keeper.specs.Tokens.{SessionValue, IsHistory}
 use Rattle.sessions.specs.Closing.{AreLegal}
-use Rattle.storer.specs.Storing.{StandsFor}
+use Rattle.store_keeper.specs.Storing.{StandsFor}
 
 module _ (base : State) (entries : List Entry) (stored : ℕ) where
   -- what holds of each that belongs
@@ -29,15 +29,15 @@ module _ (base : State) (entries : List Entry) (stored : ℕ) where
   -- The numbers ascend.
   greater : (last : ℕ) (sessions : List SessionValue) → AllBelong base entries stored last sessions → All (λ s. last < s.number) sessions
   greater last [] belong k d within = absurd (omega (arith, within))
-  greater last (s ∷ sessions) belong zero d within = belong.0.rises
-  greater last (s ∷ sessions) belong (suc k) d within = omega (arith, belong.0.rises, greater s.number sessions belong.1 k d (omega (arith, within)))
+  greater last (s ∷ sessions) belong zero d within = belong.0.ascends
+  greater last (s ∷ sessions) belong (suc k) d within = omega (arith, belong.0.ascends, greater s.number sessions belong.1 k d (omega (arith, within)))
 
-  pub all_rise : (last : ℕ) (sessions : List SessionValue) → AllBelong base entries stored last sessions → AllPairs (λ one other. one.number < other.number) sessions
-  all_rise last [] belong i j d before within = absurd (omega (arith, within))
-  all_rise last (s ∷ sessions) belong zero zero d before within = absurd (omega (arith, before))
-  all_rise last (s ∷ sessions) belong zero (suc j) d before within = greater s.number sessions belong.1 j d (omega (arith, within))
-  all_rise last (s ∷ sessions) belong (suc i) zero d before within = absurd (omega (arith, before))
-  all_rise last (s ∷ sessions) belong (suc i) (suc j) d before within = all_rise s.number sessions belong.1 i j d (omega (arith, before)) (omega (arith, within))
+  pub all_ascend : (last : ℕ) (sessions : List SessionValue) → AllBelong base entries stored last sessions → AllPairs (λ one other. one.number < other.number) sessions
+  all_ascend last [] belong i j d before within = absurd (omega (arith, within))
+  all_ascend last (s ∷ sessions) belong zero zero d before within = absurd (omega (arith, before))
+  all_ascend last (s ∷ sessions) belong zero (suc j) d before within = greater s.number sessions belong.1 j d (omega (arith, within))
+  all_ascend last (s ∷ sessions) belong (suc i) zero d before within = absurd (omega (arith, before))
+  all_ascend last (s ∷ sessions) belong (suc i) (suc j) d before within = all_ascend s.number sessions belong.1 i j d (omega (arith, before)) (omega (arith, within))
 
   -- No place belongs to two.
 
@@ -45,15 +45,15 @@ module _ (base : State) (entries : List Entry) (stored : ℕ) where
   foreign_to_all number last [] less belong = none_foreign entries number
   foreign_to_all number last (s ∷ sessions) less belong =
       foreign_both entries number s.task.places (places_of (tasks_of sessions))
-      (foreign_to entries number s.number s.task.places (λ same. absurd (omega (arith, same, less, belong.0.rises))) (own_further s.past.entries entries s.number s.task.places belong.0.begins belong.0.is.own))
-      (foreign_to_all number s.number sessions (omega (arith, less, belong.0.rises)) belong.1)
+      (foreign_to entries number s.number s.task.places (λ same. absurd (omega (arith, same, less, belong.0.ascends))) (own_further s.past.entries entries s.number s.task.places belong.0.begins belong.0.is.own))
+      (foreign_to_all number s.number sessions (omega (arith, less, belong.0.ascends)) belong.1)
 
   pub all_apart : (last : ℕ) (sessions : List SessionValue) → AllBelong base entries stored last sessions → AreApart (tasks_of sessions)
   all_apart last [] belong = none_apart
   all_apart last (s ∷ sessions) belong =
       let is = belong.0.is in
       let order = legal_is_in_order base (records_of s.past.entries) is.operations s.task is.legal in
-      apart_beside entries s.number 0 s.task.seen s.task.places (places_of (tasks_of sessions)) order.places (own_further s.past.entries entries s.number s.task.places belong.0.begins is.own)
+      apart_alongside entries s.number 0 s.task.seen s.task.places (places_of (tasks_of sessions)) order.places (own_further s.past.entries entries s.number s.task.places belong.0.begins is.own)
       (foreign_to_all s.number s.number sessions (omega arith) belong.1) (all_apart s.number sessions belong.1)
 
   -- They are legal in the whole history.

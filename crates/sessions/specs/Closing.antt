@@ -6,9 +6,9 @@ use Rattle.history.specs.Entries.{records_of}
 use Rattle.history.specs.declared.entry.Entry.{Entry}
 use Rattle.ipc_model.specs.history.History.{Sessions, IsLegalHistory}
 use Rattle.ipc_model.specs.state.State.{State}
-use Rattle.session_core.specs.Belonging.{tasks_of}
-use Rattle.session_core.specs.Tokens.{SessionValue, IsHistory}
-use Rattle.storer.specs.Storing.{StandsFor}
+use Rattle.kernel_keeper.specs.Belonging.{tasks_of}
+use Rattle.kernel_keeper.specs.Tokens.{SessionValue, IsHistory}
+use Rattle.store_keeper.specs.Storing.{StandsFor}
 
 -- Operations led to each of these sessions, in one legal history.
 pub record AreLegal (base : State) (entries : List Entry) (sessions : List SessionValue) : Type 0 where

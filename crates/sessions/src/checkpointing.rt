@@ -1,20 +1,20 @@
 //! The loop that makes images while calls go on.
 
-use crate::gate::{Gate, Step};
+use crate::gate::{Gate, LoopStep};
 use crate::shared::Shared;
 use codes::MAX_RECORDS;
 use disk::Disk;
 use journal::StoreFault;
-use session_core::{End, Founding, Row};
+use kernel_keeper::{End, EntryBlock, Founding};
 use std::sync::{Arc, Wait};
 use std::time::Clock;
-use storer::NotBegun;
-use storing::Finished;
+use store_half::Finished;
+use store_keeper::NotBegun;
 
 impl<L: Founding, D: Disk, G: Gate> Shared<L, D, G> {
     /// Makes an image each time that the epoch log has `records` records, until it is told to stop or the store fails.
     pub fn checkpointer<R: Wait + Clock>(&self, rt: &R, records: u64) {
-        self.desk.lock(rt).begin_images(records);
+        self.guarded.lock(rt).begin_images(records);
         for _ in rt.forever() {
             let Some(end) = self.next_end(rt, records) else {
                 return;
@@ -31,7 +31,7 @@ impl<L: Founding, D: Disk, G: Gate> Shared<L, D, G> {
             if !self.await_records(rt, records) {
                 return None;
             }
-            self.gate.pass(rt, Step::Cut);
+            self.gate.pass(rt, LoopStep::Cut);
             if let Some(end) = self.cut(rt) {
                 return Some(end);
             }
@@ -42,17 +42,19 @@ impl<L: Founding, D: Disk, G: Gate> Shared<L, D, G> {
 
     /// Waits until the epoch log has `records` records. Returns whether the loop is to go on.
     fn await_records<R: Wait>(&self, rt: &R, records: u64) -> bool {
-        let desk = self
-            .images
-            .wait_while(rt, self.desk.lock(rt), |desk| desk.is_short(records));
-        !desk.is_ending()
+        let guarded = self.images_due.wait_while(
+            rt,
+            self.guarded.lock(rt),
+            |guarded| guarded.is_short(records),
+        );
+        !guarded.is_ending()
     }
 
     /// Ends the epoch, if there is memory for it.
     fn cut<R: Wait>(&self, rt: &R) -> Option<End<L>> {
-        let row = Row::new(self.alloc, MAX_RECORDS as usize).ok()?;
-        let row = Arc::new(self.alloc, row).ok()?;
-        let cut = self.desk.lock(rt).keeper.cut(row);
+        let block = EntryBlock::new(self.alloc, MAX_RECORDS as usize).ok()?;
+        let block = Arc::new(self.alloc, block).ok()?;
+        let cut = self.guarded.lock(rt).keeper.cut(block);
         self.epochs.notify_all();
         cut.ok()?
     }
@@ -61,9 +63,9 @@ impl<L: Founding, D: Disk, G: Gate> Shared<L, D, G> {
     fn checkpoint<R: Wait + Clock>(&self, rt: &R, end: End<L>) -> bool {
         match self.do_steps(rt, end) {
             Ok(finished) => {
-                self.gate.pass(rt, Step::Finished);
-                self.desk.lock(rt).keeper.finished(finished);
-                self.calls.notify_all();
+                self.gate.pass(rt, LoopStep::Finished);
+                self.guarded.lock(rt).keeper.finished(finished);
+                self.records.notify_all();
                 true
             }
             Err(fault) => {
@@ -95,7 +97,7 @@ impl<L: Founding, D: Disk, G: Gate> Shared<L, D, G> {
 
     /// Passes the state to the store. If memory is short, the end comes back.
     fn try_to_begin<R: Wait>(&self, rt: &R, end: End<L>) -> Result<Option<End<L>>, StoreFault> {
-        match self.storer.lock(rt).begin(end) {
+        match self.store_keeper.lock(rt).begin(end) {
             Ok(()) => Ok(None),
             Err((NotBegun::NoMemory, back)) => Ok(Some(back)),
             Err((NotBegun::NotNow, back)) => {
@@ -107,15 +109,15 @@ impl<L: Founding, D: Disk, G: Gate> Shared<L, D, G> {
 
     /// Makes the next segment, which is opened once the one before holds all of its records.
     fn roll<R: Wait + Clock>(&self, rt: &R) -> Result<(), StoreFault> {
-        self.gate.pass(rt, Step::RollClose);
-        self.storer.lock(rt).roll_close()?;
-        self.gate.pass(rt, Step::RollHead);
-        self.storer.lock(rt).roll_head()?;
+        self.gate.pass(rt, LoopStep::RollClose);
+        self.store_keeper.lock(rt).roll_close()?;
+        self.gate.pass(rt, LoopStep::RollHead);
+        self.store_keeper.lock(rt).roll_head()?;
         for _ in rt.forever() {
             self.await_stored(rt);
-            self.gate.pass(rt, Step::RollOpen);
-            if self.storer.lock(rt).roll_open()? {
-                self.stored.notify_all();
+            self.gate.pass(rt, LoopStep::RollOpen);
+            if self.store_keeper.lock(rt).roll_open()? {
+                self.store_changed.notify_all();
                 return Ok(());
             }
             self.pause(rt);
@@ -125,32 +127,34 @@ impl<L: Founding, D: Disk, G: Gate> Shared<L, D, G> {
 
     /// Waits until the segment in use holds all of its records.
     fn await_stored<R: Wait>(&self, rt: &R) {
-        let storer = self
-            .stored
-            .wait_while(rt, self.storer.lock(rt), |storer| storer.is_behind());
-        drop(storer);
+        let store_keeper = self.store_changed.wait_while(
+            rt,
+            self.store_keeper.lock(rt),
+            |store_keeper| store_keeper.is_after(),
+        );
+        drop(store_keeper);
     }
 
     /// Makes the image, piece by piece.
     fn image<R: Wait + Clock>(&self, rt: &R) -> Result<Finished, StoreFault> {
         self.close_image(rt)?;
         for piece in 0..u64::MAX {
-            self.gate.pass(rt, Step::Piece(piece));
-            let written = self.storer.lock(rt).write_piece()?;
+            self.gate.pass(rt, LoopStep::Piece(piece));
+            let written = self.store_keeper.lock(rt).write_piece()?;
             if !written {
                 break;
             }
         }
-        self.gate.pass(rt, Step::Finish);
-        let finished = self.storer.lock(rt).finish()?;
+        self.gate.pass(rt, LoopStep::Finish);
+        let finished = self.store_keeper.lock(rt).finish()?;
         finished.ok_or(StoreFault::Failed)
     }
 
     /// Closes the image's slot, once there is memory for its encoding.
     fn close_image<R: Wait + Clock>(&self, rt: &R) -> Result<(), StoreFault> {
         for _ in rt.forever() {
-            self.gate.pass(rt, Step::ImageClose);
-            let closed = self.storer.lock(rt).close_image(self.alloc);
+            self.gate.pass(rt, LoopStep::ImageClose);
+            let closed = self.store_keeper.lock(rt).close_image(self.alloc);
             match closed {
                 Err(StoreFault::NoMemory) => self.pause(rt),
                 Err(fault) => return Err(fault),

@@ -3,16 +3,16 @@ ghost use Rattle.disk.specs.Moments.{MayLeave};
 ghost use Rattle.disk.specs.Slots.{Slots};
 ghost use Rattle.history.specs.Entries.{Begins, records_of};
 ghost use Rattle.ipc_model.specs.history.History.{AreAll, AreApart};
-ghost use Rattle.session_core.specs.Belonging.{tasks_of};
-ghost use Rattle.session_core.specs.Tokens.{IsHistory};
+ghost use Rattle.kernel_keeper.specs.Belonging.{tasks_of};
+ghost use Rattle.kernel_keeper.specs.Tokens.{IsHistory};
 ghost use Rattle.sessions.specs.Closing.{AreLegal, IsLeft};
-ghost use Rattle.storer.specs.Storing.{StandsFor};
+ghost use Rattle.store_keeper.specs.Storing.{StandsFor};
 
-use crate::desk::Desk;
+use crate::guarded::KernelGuarded;
 use crate::shared::Shared;
 use disk::Disk;
-use session_core::{Founding, Keeper, Past, Session};
-use storer::Storer;
+use kernel_keeper::{Founding, KernelKeeper, Past, Session};
+use store_keeper::StoreKeeper;
 
 /// What is left once both halves are closed: the disk, how many records of the history are stored there, how many
 /// sessions were made, and the history itself, with the entry blocks that are left of it.
@@ -43,18 +43,18 @@ pub fn close<L: Founding, D: Disk, G: Drop>(
 ) -> Result<Book<L, D>, Unmatched<D>>
     ensures history { IfOk result (λ book. IsHistory L.base book.past.entries) }
     ensures seen { IfOk result (λ book. All (λ session. Begins session.past.entries book.past.entries) sessions.items) }
-    ensures rise { IfOk result (λ book. AllPairs (λ one other. one.number < other.number) sessions.items) }
+    ensures ascend { IfOk result (λ book. AllPairs (λ one other. one.number < other.number) sessions.items) }
     ensures apart { IfOk result (λ book. AreApart (tasks_of sessions.items)) }
     ensures legal { IfOk result (λ book. AreLegal L.base book.past.entries sessions.items) }
     ensures most { IfOk result (λ book. length sessions.items ≤ book.made) }
     ensures all { IfOk result (λ book. length sessions.items ≡ book.made → AreAll (records_of book.past.entries) (tasks_of sessions.items)) }
-    ensures told { IfOk result (λ book. All (λ session. session.task.told ≤ book.stored) sessions.items) }
+    ensures acknowledged { IfOk result (λ book. All (λ session. session.task.acknowledged ≤ book.stored) sessions.items) }
     ensures left { IfOk result (λ book. D.honest → (c : Slots) → MayLeave (D.view book.disk) c → StandsFor L.base book.stored (records_of book.past.entries) c) }
     ensures unmatched { IfErr result (λ unmatched. D.honest → IsLeft L.base unmatched.stored (D.view unmatched.disk)) }
 {
-    let (keeper, storer) = into_halves(shared);
-    let stored = storer.stored();
-    let (disk, known) = storer.into_parts();
+    let (keeper, store_keeper) = into_halves(shared);
+    let stored = store_keeper.stored();
+    let (disk, known) = store_keeper.into_parts();
     let Some((past, made)) = keeper.into_matched(known, stored, sessions) else {
         return Err(Unmatched { disk, stored });
     };
@@ -69,8 +69,12 @@ pub fn close<L: Founding, D: Disk, G: Drop>(
 /// What lies under the two locks.
 fn into_halves<L: Founding, D: Disk, G: Drop>(
     shared: Shared<L, D, G>,
-) -> (Keeper<L>, Storer<L, D>) {
-    let Shared { desk, storer, .. } = shared;
-    let Desk { keeper, .. } = desk.into_inner();
-    (keeper, storer.into_inner())
+) -> (KernelKeeper<L>, StoreKeeper<L, D>) {
+    let Shared {
+        guarded,
+        store_keeper,
+        ..
+    } = shared;
+    let KernelGuarded { keeper, .. } = guarded.into_inner();
+    (keeper, store_keeper.into_inner())
 }

@@ -1,12 +1,12 @@
 //! The loop that stores calls.
 
-use crate::gate::{Gate, Step};
+use crate::gate::{Gate, LoopStep};
 use crate::shared::{PATIENCE_MILLISECONDS, Shared};
 use disk::Disk;
-use session_core::{Founding, Load};
+use kernel_keeper::{Founding, Load};
 use std::sync::Wait;
 use std::time::{Clock, Duration};
-use storer::NotStored;
+use store_keeper::NotStored;
 
 /// For how many microseconds a few records wait for calls that were just given their turn, so that these calls' records
 /// are in the same batch.
@@ -30,17 +30,17 @@ impl<L: Founding, D: Disk, G: Gate> Shared<L, D, G> {
     /// The records that wait, once there are some. `None` if the loop is to end.
     fn next_load<R: Wait + Clock>(&self, rt: &R) -> Option<Load<L>> {
         for _ in rt.forever() {
-            let desk = self
-                .calls
-                .wait_while(rt, self.desk.lock(rt), |desk| desk.is_idle());
-            let (desk, _) = self.turns.wait_timeout_while(
+            let guarded = self
+                .records
+                .wait_while(rt, self.guarded.lock(rt), |guarded| guarded.is_idle());
+            let (guarded, _) = self.turns_taken.wait_timeout_while(
                 rt,
-                desk,
+                guarded,
                 Duration::from_micros(TURN_MICROSECONDS),
-                |desk| desk.may_soon_have_more(),
+                |guarded| guarded.may_soon_have_more(),
             );
-            let is_over = desk.is_over();
-            drop(desk);
+            let is_over = guarded.is_over();
+            drop(guarded);
             if is_over {
                 return None;
             }
@@ -55,8 +55,8 @@ impl<L: Founding, D: Disk, G: Gate> Shared<L, D, G> {
 
     /// Takes the records that wait.
     fn take_load<R: Wait>(&self, rt: &R) -> Option<Load<L>> {
-        self.gate.pass(rt, Step::Take);
-        let load = self.desk.lock(rt).take()?;
+        self.gate.pass(rt, LoopStep::Take);
+        let load = self.guarded.lock(rt).take()?;
         let taken = load.first.saturating_add(u64::from(load.batch.count()));
         self.replies.lock(rt).take(taken);
         Some(load)
@@ -78,13 +78,13 @@ impl<L: Founding, D: Disk, G: Gate> Shared<L, D, G> {
 
     /// Stores a load as `store` does, unless it comes back to be tried once more.
     fn try_to_store<R: Wait + Clock>(&self, rt: &R, load: Load<L>) -> Result<bool, Load<L>> {
-        self.gate.pass(rt, Step::Append);
-        let stored = self.storer.lock(rt).append(load);
+        self.gate.pass(rt, LoopStep::Append);
+        let stored = self.store_keeper.lock(rt).append(load);
         match stored {
             Ok(receipt) => {
-                self.stored.notify_all();
-                self.gate.pass(rt, Step::Durable);
-                let stored = self.desk.lock(rt).learn(receipt);
+                self.store_changed.notify_all();
+                self.gate.pass(rt, LoopStep::Durable);
+                let stored = self.guarded.lock(rt).learn(receipt);
                 let side = self.replies.lock(rt).store(stored);
                 self.replies_at(side).notify_all();
                 Ok(true)
@@ -124,11 +124,11 @@ impl<L: Founding, D: Disk, G: Gate> Shared<L, D, G> {
 
     /// Waits until the segment of an epoch is open, or for a while.
     fn await_segment<R: Wait + Clock>(&self, rt: &R, epoch: u64) {
-        let _ = self.stored.wait_timeout_while(
+        let _ = self.store_changed.wait_timeout_while(
             rt,
-            self.storer.lock(rt),
+            self.store_keeper.lock(rt),
             Duration::from_millis(PATIENCE_MILLISECONDS),
-            |storer| storer.epoch() != epoch && !storer.has_failed(),
+            |store_keeper| store_keeper.epoch() != epoch && !store_keeper.has_failed(),
         );
     }
 }

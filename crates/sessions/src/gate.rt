@@ -2,7 +2,7 @@ use std::sync::Wait;
 
 /// The steps of the loops, before each of which a gate is passed.
 #[derive(Clone, Copy, PartialEq, Eq)]
-pub enum Step {
+pub enum LoopStep {
     /// Records are taken.
     Take,
     /// They are stored.
@@ -30,7 +30,7 @@ pub enum Step {
 /// May hold a loop up between its steps, as tests do.
 pub trait Gate: Drop {
     /// Is called with no lock held, just before a step.
-    fn pass<R: Wait>(&self, rt: &R, step: Step);
+    fn pass<R: Wait>(&self, rt: &R, step: LoopStep);
 }
 
 /// A gate that holds no loop up.
@@ -38,5 +38,5 @@ pub trait Gate: Drop {
 pub struct OpenGate;
 
 impl Gate for OpenGate {
-    fn pass<R: Wait>(&self, _rt: &R, _step: Step) {}
+    fn pass<R: Wait>(&self, _rt: &R, _step: LoopStep) {}
 }

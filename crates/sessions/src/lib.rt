@@ -4,9 +4,9 @@
 
 mod checkpointing;
 mod closing;
-mod desk;
 mod flushing;
 mod gate;
+mod guarded;
 mod lines;
 mod replies;
 mod seat;
@@ -14,8 +14,8 @@ mod shared;
 mod waiters;
 
 pub use closing::{Book, Unmatched, close};
-pub use desk::Waited;
-pub use gate::{Gate, OpenGate, Step};
+pub use gate::{Gate, LoopStep, OpenGate};
+pub use guarded::Waited;
+pub use kernel_keeper::{EntryBlock, Founding, MOST_SESSIONS, Session, SessionFault, Unmet, meet};
 pub use seat::{Peer, Seat};
-pub use session_core::{Founding, MOST_SESSIONS, Row, Session, SessionFault, Unmet, meet};
 pub use shared::{NotMade, Shared};

@@ -3,22 +3,24 @@ ghost use Rattle.std.specs.Arc.{arc_value};
 ghost use Rattle.codes.specs.declared.limits.TheConstants.{MAX_FRAME_CONTENT};
 ghost use Rattle.codes.specs.declared.name.TheConstants.{FIRST_SPACE};
 ghost use Rattle.ipc_model.specs.history.History.{called, looked, redemption};
-ghost use Rattle.ipc_model.specs.texts.Texts.{reply_text};
-ghost use Rattle.session_core.specs.Tokens.{Did};
+ghost use Rattle.ipc_model.specs.encodings.Encodings.{reply_encoding};
+ghost use Rattle.kernel_keeper.specs.Tokens.{Did};
 
-use crate::desk::{Desk, Waited};
+use crate::guarded::{KernelGuarded, Waited};
 use crate::replies::{Replies, Side};
 use crate::seat::{Bell, Peer, Seat};
 use disk::Disk;
 use ipc_model::{Call, Reply};
 use journal::StoreFault;
-use session_core::{Founding, Keeper, MOST_SESSIONS, Past, Row, Session, SessionFault};
+use kernel_keeper::{
+    EntryBlock, Founding, KernelKeeper, MOST_SESSIONS, Past, Session, SessionFault,
+};
 use std::alloc::Global;
 use std::sync::ledger::Blank;
 use std::sync::{Arc, Condvar, Mutex, MutexGuard, Wait};
 use std::thread;
 use std::time::{Clock, Duration};
-use storer::Storer;
+use store_keeper::StoreKeeper;
 use system::{Opened, SubmitFault, Ticket};
 
 /// How many milliseconds a thread waits before it tries again after it ran out of memory.
@@ -39,19 +41,19 @@ pub enum NotMade {
 pub struct Shared<L: Founding, D: Disk, G> {
     pub(crate) alloc: Global,
     pub(crate) gate: G,
-    pub(crate) desk: Mutex<Desk<L>>,
-    pub(crate) storer: Mutex<Storer<L, D>>,
+    pub(crate) guarded: Mutex<KernelGuarded<L>>,
+    pub(crate) store_keeper: Mutex<StoreKeeper<L, D>>,
     pub(crate) replies: Mutex<Replies>,
 
     // Waited on under the kernel's lock: that there is something to do for the loop that stores; that no turn is due
     // that it waits for; that there is something to do for the loop that makes images; and that an epoch has begun.
-    pub(crate) calls: Condvar,
-    pub(crate) turns: Condvar,
-    pub(crate) images: Condvar,
+    pub(crate) records: Condvar,
+    pub(crate) turns_taken: Condvar,
+    pub(crate) images_due: Condvar,
     pub(crate) epochs: Condvar,
 
     // Waited on under the store's lock: that it changed.
-    pub(crate) stored: Condvar,
+    pub(crate) store_changed: Condvar,
 
     // Waited on under the lock of the replies, each by the callers of every other batch.
     pub(crate) even: Condvar,
@@ -64,39 +66,39 @@ impl<L: Founding, D: Disk, G: Drop> Shared<L, D, G> {
     pub fn new(
         alloc: Global,
         opened: Opened<D>,
-        row: Arc<Row, Global>,
+        block: Arc<EntryBlock, Global>,
         blank: Blank,
         gate: G,
     ) -> Result<Self, D>
         requires base { opened.kernel ≡ L.base }
-        requires row { arc_value row ≡ L.first }
+        requires block { arc_value block ≡ L.first }
         requires blank { (blank.name ≡ L.name) × (blank.parts ≡ L.parts) × (L.parts ≡ MOST_SESSIONS) }
         ensures { IfErr result (λ disk. disk ≡ opened.disk) }
     {
-        let mut past = Past::new(alloc, row);
+        let mut past = Past::new(alloc, block);
         let Opened {
             kernel,
             disk,
             segment,
         } = opened;
-        kernel.has_image();
+        kernel.show_image();
         let Ok(mine) = past.again() else {
             drop(kernel);
             return Err(disk);
         };
-        let storer = Storer::new(disk, segment, mine);
-        let keeper = Keeper::new(alloc, kernel, segment.epoch, segment.records, past, blank);
+        let store_keeper = StoreKeeper::new(disk, segment, mine);
+        let keeper = KernelKeeper::new(alloc, kernel, segment.epoch, segment.records, past, blank);
         Ok(Shared {
             alloc,
             gate,
-            desk: Mutex::new(Desk::new(alloc, keeper)),
-            storer: Mutex::new(storer),
+            guarded: Mutex::new(KernelGuarded::new(alloc, keeper)),
+            store_keeper: Mutex::new(store_keeper),
             replies: Mutex::new(Replies::none()),
-            calls: Condvar::new(),
-            turns: Condvar::new(),
-            images: Condvar::new(),
+            records: Condvar::new(),
+            turns_taken: Condvar::new(),
+            images_due: Condvar::new(),
             epochs: Condvar::new(),
-            stored: Condvar::new(),
+            store_changed: Condvar::new(),
             even: Condvar::new(),
             odd: Condvar::new(),
         })
@@ -104,9 +106,9 @@ impl<L: Founding, D: Disk, G: Drop> Shared<L, D, G> {
 
     /// A new session, of a task that is attached to space 1 and has seen all that was made.
     pub fn session(&self, rt: &impl Wait) -> Result<Session<L>, SessionFault>
-        ensures new { IfOk result (λ session. (session.task.space ≡ FIRST_SPACE) × (session.task.told ≡ 0) × (session.task.tickets ≡ []) × (session.task.places ≡ [])) }
+        ensures new { IfOk result (λ session. (session.task.space ≡ FIRST_SPACE) × (session.task.acknowledged ≡ 0) × (session.task.tickets ≡ []) × (session.task.places ≡ [])) }
     {
-        self.desk.lock(rt).keeper.session()
+        self.guarded.lock(rt).keeper.session()
     }
 
     /// Makes a call of a session, whose ticket keeps its reply. Even if it isn't made, the session may have seen more
@@ -114,7 +116,7 @@ impl<L: Founding, D: Disk, G: Drop> Shared<L, D, G> {
     ///
     /// If the epoch log is full and a loop makes images, it waits for the next epoch. `NoMemory`: an allocation failed.
     /// `EpochFull`: no room is left for its record, and no next epoch comes; or the session isn't known to be in the
-    /// history of this server (`Keeper::submit`).
+    /// history of this server (`KernelKeeper::submit`).
     pub fn submit<R: Wait>(
         &self,
         rt: &R,
@@ -124,8 +126,8 @@ impl<L: Founding, D: Disk, G: Drop> Shared<L, D, G> {
         ensures given { IfOk result.1 (λ ticket. Did L.base session (called call.now ticket.answer) result.0 × (ticket.seen ≡ result.0.task.seen)) }
         ensures err { OnErr result.1 (Did L.base session looked result.0) }
     {
-        let desk = self.lock_desk(rt);
-        self.make(desk, session, call, None)
+        let guarded = self.lock_guarded(rt);
+        self.make(guarded, session, call, None)
     }
 
     /// Makes a call of a session as `submit` does, for the task of this seat. A receive isn't made for a task that has
@@ -145,29 +147,28 @@ impl<L: Founding, D: Disk, G: Drop> Shared<L, D, G> {
         ensures given { IfOk result.1 (λ ticket. Did L.base session (called call.now ticket.answer) result.0 × (ticket.seen ≡ result.0.task.seen)) }
         ensures err { OnErr result.1 (Did L.base session looked result.0) }
     {
-        let mut desk = self.lock_desk(rt);
+        let mut guarded = self.lock_guarded(rt);
         // With the lock held, since whatever is sent now is sent after this check.
         if is_receive(call) && seat.peer().is_gone() {
-            desk.leave_line(session.number());
-            drop(desk);
+            guarded.leave_line(session.number());
+            drop(guarded);
             session.show_looked();
             return (session, Err(NotMade::Gone));
         }
         let bell = if may_wait { Some(seat.bell()) } else { None };
-        let (session, made) = self.make(desk, session, call, bell);
+        let (session, made) = self.make(guarded, session, call, bell);
         (session, made.map_err(NotMade::Fault))
     }
 
     /// Locks what lies under the kernel's lock, once a call may be made.
-    fn lock_desk<R: Wait>(&self, rt: &R) -> MutexGuard<'_, Desk<L>> {
-        self.epochs
-            .wait_while(rt, self.desk.lock(rt), |desk| desk.awaits_epoch())
+    fn lock_guarded<R: Wait>(&self, rt: &R) -> MutexGuard<'_, KernelGuarded<L>> {
+        self.epochs.wait_while(rt, self.guarded.lock(rt), |guarded| guarded.awaits_epoch())
     }
 
     /// Makes a call, and notifies the loops of what they have to do.
     fn make(
         &self,
-        desk: MutexGuard<'_, Desk<L>>,
+        guarded: MutexGuard<'_, KernelGuarded<L>>,
         session: Session<L>,
         call: &Call,
         bell: Option<&Bell>,
@@ -175,27 +176,27 @@ impl<L: Founding, D: Disk, G: Drop> Shared<L, D, G> {
         ensures given { IfOk result.1 (λ ticket. Did L.base session (called call.now ticket.answer) result.0 × (ticket.seen ≡ result.0.task.seen)) }
         ensures err { OnErr result.1 (Did L.base session looked result.0) }
     {
-        let mut desk = desk;
-        let before = desk.keeper.made();
-        let had_due = desk.has_turns_due();
-        let made = desk.submit(session, call, bell);
-        let has_more = before < desk.keeper.made();
-        let are_over = had_due && !desk.has_turns_due();
-        let has_image_due = has_more && desk.has_image_due();
-        let rung = desk.take_rung();
-        drop(desk);
+        let mut guarded = guarded;
+        let before = guarded.keeper.made();
+        let had_due = guarded.has_turns_due();
+        let made = guarded.submit(session, call, bell);
+        let has_more = before < guarded.keeper.made();
+        let are_over = had_due && !guarded.has_turns_due();
+        let has_image_due = has_more && guarded.has_image_due();
+        let rung = guarded.take_rung();
+        drop(guarded);
         // After the lock is free, since the call whose turn has come takes it first.
         if let Some(bell) = rung {
             bell.ring();
         }
         if has_more {
-            self.calls.notify_all();
+            self.records.notify_all();
         }
         if are_over {
-            self.turns.notify_all();
+            self.turns_taken.notify_all();
         }
         if has_image_due {
-            self.images.notify_all();
+            self.images_due.notify_all();
         }
         made
     }
@@ -210,26 +211,26 @@ impl<L: Founding, D: Disk, G: Drop> Shared<L, D, G> {
         most: Option<Duration>,
     ) -> Waited {
         let number = session.number();
-        let desk = self.desk.lock(rt);
-        if !desk.is_waiting(number) {
-            drop(desk);
+        let guarded = self.guarded.lock(rt);
+        if !guarded.is_waiting(number) {
+            drop(guarded);
             self.pause(rt);
             return Waited::Turn;
         }
         let bell = seat.bell().condvar();
-        let desk = match most {
-            None => bell.wait_while(rt, desk, |desk| desk.is_in_line(number)),
+        let guarded = match most {
+            None => bell.wait_while(rt, guarded, |guarded| guarded.is_in_line(number)),
             Some(most) => {
-                let (desk, _) = bell.wait_timeout_while(
+                let (guarded, _) = bell.wait_timeout_while(
                     rt,
-                    desk,
+                    guarded,
                     most,
-                    |desk| desk.is_in_line(number),
+                    |guarded| guarded.is_in_line(number),
                 );
-                desk
+                guarded
             }
         };
-        desk.waited(number)
+        guarded.waited(number)
     }
 
     /// Waits a while.
@@ -239,7 +240,7 @@ impl<L: Founding, D: Disk, G: Drop> Shared<L, D, G> {
 
     /// Gives the waiting call of the session with this number its turn: for a caller that knows that its task has gone.
     pub fn give_turn(&self, rt: &impl Wait, session: u32) {
-        self.desk.lock(rt).give_turn(session);
+        self.guarded.lock(rt).give_turn(session);
     }
 
     /// The reply that a ticket of this session keeps, once all that its call saw is stored; until then it waits.
@@ -253,12 +254,12 @@ impl<L: Founding, D: Disk, G: Drop> Shared<L, D, G> {
         ticket: Ticket,
     ) -> (Session<L>, Result<Reply, StoreFault>)
         ensures redeemed { IfOk result.1 (λ reply. (reply ≡ ticket.answer) × Did L.base session (redemption session.task ticket.seen) result.0) }
-        ensures fits { IfOk result.1 (λ reply. length (reply_text reply) ≤ MAX_FRAME_CONTENT) }
+        ensures fits { IfOk result.1 (λ reply. length (reply_encoding reply) ≤ MAX_FRAME_CONTENT) }
         ensures err { OnErr result.1 (result.0 ≡ session) }
     {
         let stored = self.await_reply(rt, ticket.seen());
-        let (session, told) = session.redeem(ticket, stored);
-        match told {
+        let (session, acknowledged) = session.redeem(ticket, stored);
+        match acknowledged {
             Ok(reply) => (session, Ok(reply)),
             Err(_) => (session, Err(self.fault(rt).unwrap_or(StoreFault::Failed))),
         }
@@ -287,20 +288,20 @@ impl<L: Founding, D: Disk, G: Drop> Shared<L, D, G> {
 
     /// The fault that a loop met, if one did: then nothing more is stored.
     pub fn fault(&self, rt: &impl Wait) -> Option<StoreFault> {
-        self.desk.lock(rt).fault()
+        self.guarded.lock(rt).fault()
     }
 
     /// Tells both loops to end, after what was called until now.
     pub fn stop(&self, rt: &impl Wait) {
-        self.desk.lock(rt).stop();
-        self.calls.notify_all();
-        self.images.notify_all();
+        self.guarded.lock(rt).stop();
+        self.records.notify_all();
+        self.images_due.notify_all();
         self.epochs.notify_all();
     }
 
     /// The loop that stores ends: all waiting threads are notified.
     pub(crate) fn end(&self, rt: &impl Wait) {
-        self.desk.lock(rt).end();
+        self.guarded.lock(rt).end();
         self.epochs.notify_all();
         self.end_replies(rt);
     }
@@ -314,11 +315,11 @@ impl<L: Founding, D: Disk, G: Drop> Shared<L, D, G> {
 
     /// A loop met a fault: all waiting threads are notified.
     pub(crate) fn fail(&self, rt: &impl Wait, fault: StoreFault) {
-        self.desk.lock(rt).fail(fault);
+        self.guarded.lock(rt).fail(fault);
         self.epochs.notify_all();
-        self.calls.notify_all();
-        self.images.notify_all();
-        self.stored.notify_all();
+        self.records.notify_all();
+        self.images_due.notify_all();
+        self.store_changed.notify_all();
         self.end_replies(rt);
     }
 }

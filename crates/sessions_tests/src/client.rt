@@ -1,8 +1,8 @@
 //! A server on a socket, its clients, and what they write and read. Nothing has a clause, so that a test's proof
 //! carries nothing of a server.
 
-use connections::serve_opened;
 use disk::MemDisk;
+use socket_server::serve_opened;
 use std::alloc::AllocGlobal;
 use std::io::{Read, Write};
 use std::net::{Net, TcpListener, TcpStream};

@@ -33,7 +33,7 @@ fn call_and_end<S: Service, R: Wait>(rt: &R, service: &S) -> Option<(S::Session,
     called
 }
 
-fn call_beside_both_loops<S: Service + Sync, R: Threads + Wait + Clock + Sync>(
+fn call_alongside_both_loops<S: Service + Sync, R: Threads + Wait + Clock + Sync>(
     rt: &R,
     service: &S,
 ) -> Option<(S::Session, S::Session)> {
@@ -59,7 +59,7 @@ fn closed<S: Service + Sync + Drop, R: Threads + Wait + Clock + Sync>(
     service: S,
     is_turned: bool,
 ) -> Option<[u64; 3]> {
-    let (one, other) = call_beside_both_loops(rt, &service)?;
+    let (one, other) = call_alongside_both_loops(rt, &service)?;
     let both = if is_turned {
         in_order(alloc, other, one)
     } else {

@@ -1,6 +1,6 @@
 //! Entries and entry blocks of a history, for tests.
 
-use history::{AddFault, Entry, FirstRow, Past, Row};
+use history::{AddFault, Entry, EntryBlock, FirstBlock, Past};
 use ipc_model::{Call, Record, Reply};
 use std::alloc::{AllocError, Global};
 use std::sync::Arc;
@@ -16,12 +16,12 @@ fn entry_of(space: u32) -> Entry {
 }
 
 /// Adds an entry, of a call of a space.
-pub(crate) fn add<L: FirstRow>(past: &mut Past<L>, space: u32) -> Result<(), AddFault> {
+pub(crate) fn add<L: FirstBlock>(past: &mut Past<L>, space: u32) -> Result<(), AddFault> {
     past.add(entry_of(space))
 }
 
 /// Adds an entry to two that have as many in as many entry blocks.
-pub(crate) fn add_to_both<L: FirstRow>(
+pub(crate) fn add_to_both<L: FirstBlock>(
     past: &mut Past<L>,
     other: &mut Past<L>,
     space: u32,
@@ -36,21 +36,24 @@ pub(crate) fn add_to_both<L: FirstRow>(
 }
 
 /// The space of the call at a place of the entry block, if it was read.
-pub(crate) fn space_at<L: FirstRow>(past: &Past<L>, at: usize) -> Option<u32> {
+pub(crate) fn space_at<L: FirstBlock>(past: &Past<L>, at: usize) -> Option<u32> {
     Some(past.record(at)?.space)
 }
 
 /// An entry block of `capacity` cells.
-pub(crate) fn row_of(alloc: Global, capacity: usize) -> Result<Arc<Row, Global>, AllocError> {
-    Ok(Arc::new(alloc, Row::new(alloc, capacity)?)?)
+pub(crate) fn row_of(
+    alloc: Global,
+    capacity: usize,
+) -> Result<Arc<EntryBlock, Global>, AllocError> {
+    Ok(Arc::new(alloc, EntryBlock::new(alloc, capacity)?)?)
 }
 
 /// Goes on in a new entry block.
-pub(crate) fn begin_row<L: FirstRow>(
+pub(crate) fn begin_block<L: FirstBlock>(
     alloc: Global,
     past: &mut Past<L>,
     capacity: usize,
 ) -> Result<(), AddFault> {
     let row = row_of(alloc, capacity)?;
-    past.begin_row(row)
+    past.begin_block(row)
 }

@@ -14,9 +14,9 @@ mod expect;
 #[cfg(test)]
 mod flag;
 #[cfg(test)]
-mod full_row;
+mod full_log;
 #[cfg(test)]
-mod history_rows;
+mod history_blocks;
 #[cfg(test)]
 mod history_threads;
 #[cfg(test)]

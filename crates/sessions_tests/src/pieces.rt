@@ -9,7 +9,7 @@ use crate::shares::{Start, shared_from, start_on};
 use crate::stop::{Stay, Stop};
 use disk::{Disk, MemDisk};
 use ipc_model::Call;
-use sessions::{Founding, Gate, Shared, Step};
+use sessions::{Founding, Gate, LoopStep, Shared};
 use std::alloc::Global;
 use std::marker::Brand;
 use std::sync::Wait;
@@ -33,7 +33,7 @@ struct Seen {
 }
 
 /// Makes calls until a checkpoint begins, and one more while it is held up.
-fn call_beside_a_checkpoint<S: Service, R: Wait + Clock>(
+fn call_alongside_a_checkpoint<S: Service, R: Wait + Clock>(
     rt: &R,
     service: &S,
     session: S::Session,
@@ -56,14 +56,14 @@ fn call_beside_a_checkpoint<S: Service, R: Wait + Clock>(
 /// The same in a new session, after which the loops are told to end.
 fn call_and_end<S: Service, R: Wait + Clock>(rt: &R, service: &S, stay: &Stay) -> Option<Seen> {
     let seen = match service.begin(rt) {
-        Some(session) => Some(call_beside_a_checkpoint(rt, service, session, stay)),
+        Some(session) => Some(call_alongside_a_checkpoint(rt, service, session, stay)),
         None => None,
     };
     service.end(rt);
     seen
 }
 
-fn call_beside_both_loops<S: Service + Sync, R: Threads + Wait + Clock + Sync>(
+fn call_alongside_both_loops<S: Service + Sync, R: Threads + Wait + Clock + Sync>(
     rt: &R,
     service: &S,
     stay: &Stay,
@@ -88,7 +88,7 @@ fn seen_on<
     requires blank { (start.blank.name ≡ L.name) × (start.blank.parts ≡ L.parts) }
 {
     let shared: Shared<L, D, G> = shared_from(alloc, start, gate)?;
-    call_beside_both_loops(rt, &shared, stay)
+    call_alongside_both_loops(rt, &shared, stay)
 }
 
 /// What is seen on a disk without a store. `None` if none can be made.
@@ -108,7 +108,7 @@ fn a_call_is_stored_while_a_checkpoint_is_held_up(rt: HostRuntime) {
     let stay = Stay::new();
     let gate = Stop {
         rt: &rt,
-        at: Step::Piece(2),
+        at: LoopStep::Piece(2),
         stay: &stay,
     };
     let seen = seen_on_new(&rt, rt.alloc(), MemDisk::new(rt.alloc()), gate, &stay);

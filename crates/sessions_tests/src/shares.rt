@@ -1,11 +1,11 @@
 //! New stores that are shared.
 ghost use Rattle.std.specs.Prelude.{◌≡◌};
 ghost use Rattle.std.specs.Arc.{arc_value};
-ghost use Rattle.session_core.specs.declared.keeper.TheConstants.{MOST_SESSIONS};
+ghost use Rattle.kernel_keeper.specs.declared.keeper.TheConstants.{MOST_SESSIONS};
 
 use codes::MAX_RECORDS;
 use disk::Disk;
-use sessions::{Founding, Gate, MOST_SESSIONS, Row, Shared};
+use sessions::{EntryBlock, Founding, Gate, MOST_SESSIONS, Shared};
 use std::alloc::Global;
 use std::sync::Arc;
 use std::sync::ledger::Blank;
@@ -15,13 +15,13 @@ use system::{Opened, open};
 #[derive(Drop)]
 pub(crate) struct Start<D: Disk> {
     pub(crate) opened: Opened<D>,
-    pub(crate) row: Arc<Row, Global>,
+    pub(crate) row: Arc<EntryBlock, Global>,
     pub(crate) blank: Blank,
     ghost parts: { blank.parts ≡ MOST_SESSIONS },
 }
 
-fn first_row(alloc: Global) -> Option<Arc<Row, Global>> {
-    let row = Row::new(alloc, MAX_RECORDS as usize).ok()?;
+fn first_row(alloc: Global) -> Option<Arc<EntryBlock, Global>> {
+    let row = EntryBlock::new(alloc, MAX_RECORDS as usize).ok()?;
     Arc::new(alloc, row).ok()
 }
 

@@ -108,7 +108,7 @@ fn call_and_end<S: Service, R: Wait + Clock>(
     seen
 }
 
-fn call_beside_the_loop<S: Service + Sync, R: Threads + Wait + Clock + Sync>(
+fn call_alongside_the_loop<S: Service + Sync, R: Threads + Wait + Clock + Sync>(
     rt: &R,
     service: &S,
     is_wanted: &Flag,
@@ -135,7 +135,7 @@ fn seen_on<L: Founding + Send + Sync, D: Disk + Drop + Send, R: Threads + Wait +
     requires blank { (start.blank.name ≡ L.name) × (start.blank.parts ≡ L.parts) }
 {
     let shared: Shared<L, D, OpenGate> = shared_from(alloc, start, OpenGate)?;
-    call_beside_the_loop(rt, &shared, is_wanted, stay)
+    call_alongside_the_loop(rt, &shared, is_wanted, stay)
 }
 
 /// What is seen on such a disk without a store. `None` if none can be made.

@@ -1,7 +1,7 @@
 //! A gate that holds a loop up at one step.
 
 use crate::flag::Flag;
-use sessions::{Gate, Step};
+use sessions::{Gate, LoopStep};
 use std::sync::Wait;
 use std::time::Clock;
 
@@ -52,16 +52,16 @@ impl Stay {
 #[derive(Drop)]
 pub(crate) struct Stop<'a, R> {
     pub(crate) rt: &'a R,
-    pub(crate) at: Step,
+    pub(crate) at: LoopStep,
     pub(crate) stay: &'a Stay,
 }
 
 impl<'a, C: Clock> Gate for Stop<'a, C> {
-    fn pass<R: Wait>(&self, _rt: &R, step: Step) {
+    fn pass<R: Wait>(&self, _rt: &R, step: LoopStep) {
         if step == self.at {
             self.stay.hold(self.rt);
         }
-        if step == Step::Finished {
+        if step == LoopStep::Finished {
             self.stay.has_finished.set();
         }
     }

@@ -79,7 +79,7 @@ fn count_and_end<S: Service + Sync, R: Threads + Wait + Sync>(
     counted
 }
 
-fn count_beside_the_loop<S: Service + Sync, R: Threads + Wait + Clock + Sync>(
+fn count_alongside_the_loop<S: Service + Sync, R: Threads + Wait + Clock + Sync>(
     rt: &R,
     alloc: Global,
     service: &S,
@@ -97,7 +97,7 @@ fn totals<S: Service + Sync + Drop, R: Threads + Wait + Clock + Sync>(
     alloc: Global,
     service: S,
 ) -> Option<Totals> {
-    let (sessions, counts) = count_beside_the_loop(rt, alloc, &service)?;
+    let (sessions, counts) = count_alongside_the_loop(rt, alloc, &service)?;
     let closed = service.counts_closed(sessions)?;
     Some((counts, closed))
 }

@@ -53,7 +53,7 @@ fn seen_by_both<R: Net + Files + Clock>(rt: &R, path: &str) -> Option<Seen> {
 }
 
 #[test]
-fn a_message_comes_to_who_waits_for_it(rt: HostRuntime) -> Result<(), Fail> {
+fn a_message_comes_to_the_one_that_waits_for_it(rt: HostRuntime) -> Result<(), Fail> {
     let wanted = Seen {
         name: Some(FIRST_NAME),
         came_early: false,

@@ -10,7 +10,7 @@ use crate::shares::{Start, shared_from, start_on};
 use crate::stop::{Stay, Stop};
 use disk::{Disk, MemDisk};
 use ipc_model::{Call, Reply};
-use sessions::{Founding, Gate, Shared, Step};
+use sessions::{Founding, Gate, LoopStep, Shared};
 use std::alloc::Global;
 use std::marker::Brand;
 use std::sync::Wait;
@@ -111,7 +111,7 @@ fn call_and_end<S: Service + Sync, R: Threads + Wait + Clock + Sync>(
     seen
 }
 
-fn call_beside_the_loop<S: Service + Sync, R: Threads + Wait + Clock + Sync>(
+fn call_alongside_the_loop<S: Service + Sync, R: Threads + Wait + Clock + Sync>(
     rt: &R,
     service: &S,
     stay: &Stay,
@@ -136,7 +136,7 @@ fn seen_on<
     requires blank { (start.blank.name ≡ L.name) × (start.blank.parts ≡ L.parts) }
 {
     let shared: Shared<L, D, G> = shared_from(alloc, start, gate)?;
-    call_beside_the_loop(rt, &shared, stay)
+    call_alongside_the_loop(rt, &shared, stay)
 }
 
 /// What is seen on a disk without a store. `None` if none can be made.
@@ -156,7 +156,7 @@ fn a_reply_waits_for_what_its_call_saw(rt: HostRuntime) {
     let stay = Stay::new();
     let gate = Stop {
         rt: &rt,
-        at: Step::Append,
+        at: LoopStep::Append,
         stay: &stay,
     };
     let seen = seen_on_new(&rt, rt.alloc(), MemDisk::new(rt.alloc()), gate, &stay);

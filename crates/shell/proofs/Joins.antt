@@ -5,7 +5,7 @@ use Rattle.std.specs.Result.{is_ok}
 use Rattle.codes.specs.declared.call_number.TheConstants.{MACH_PORT_NAMES}
 use Rattle.ipc_model.specs.declared.call.NamedType.{NamedType}
 use Rattle.ipc_model.specs.declared.call.Reply.TheVariants as reply
-use Rattle.ipc_model.specs.texts.Texts.{reply_text, done_text}
+use Rattle.ipc_model.specs.encodings.Encodings.{reply_encoding, done_encoding}
 use Rattle.std.specs.Io.KnownBytes.{Consumes, IsAtEnd}
 use Rattle.std.proofs.KnownBytes.{Appends-nil}
 use Rattle.relay.specs.Relaying.{Side, TakesAll, as_left}
@@ -38,11 +38,11 @@ not_chosen false x y is = refl
 
 pub names_reply : (results rows : List ℕ) (count : ℕ) (items names : List NamedType) → results ≡ word count ++ rows → count < 2 ^ 32
     → rows ≡ flat_map (λ (n : NamedType). word n.name ++ word n.bits) items → All (λ (n : NamedType). (n.name < 2 ^ 32) × (n.bits < 2 ^ 32)) items → length items ≡ count → names ≡ items
-    → IsReplyTo MACH_PORT_NAMES (done_text MACH_PORT_NAMES results) (reply.Names names)
-unfolding reply_text
+    → IsReplyTo MACH_PORT_NAMES (done_encoding MACH_PORT_NAMES results) (reply.Names names)
+unfolding reply_encoding
 names_reply results rows count items names front fits row fit few is =
-    subst (λ (ns : List NamedType). IsReplyTo MACH_PORT_NAMES (done_text MACH_PORT_NAMES results) (reply.Names ns)) (sym is) (record {
-      text = ap (λ (l : List ℕ). done_text MACH_PORT_NAMES l) (front ∙ ap (λ (n : ℕ). word n ++ rows) (sym few) ∙ ap (λ (l : List ℕ). word (length items) ++ l) row);
+    subst (λ (ns : List NamedType). IsReplyTo MACH_PORT_NAMES (done_encoding MACH_PORT_NAMES results) (reply.Names ns)) (sym is) (record {
+      text = ap (λ (l : List ℕ). done_encoding MACH_PORT_NAMES l) (front ∙ ap (λ (n : ℕ). word n ++ rows) (sym few) ∙ ap (λ (l : List ℕ). word (length items) ++ l) row);
       fits = (subst (λ (n : ℕ). n < 2 ^ 32) (sym few) fits, fit);
       of_call = refl;
       own = tt;

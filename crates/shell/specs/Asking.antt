@@ -5,7 +5,7 @@ use Rattle.codes.specs.declared.call_number.TheConstants.{MACH_MSG}
 use Rattle.codes.specs.declared.limits.TheConstants.{MIN_FRAME_CONTENT, MAX_FRAME_CONTENT}
 use Rattle.ipc_model.specs.declared.call.Call.{Call}
 use Rattle.ipc_model.specs.declared.call.Call.TheVariants as call
-use Rattle.ipc_model.specs.texts.Texts.{call_text}
+use Rattle.ipc_model.specs.encodings.Encodings.{call_encoding}
 use Rattle.script.specs.Lines.{line_read, request_read}
 use Rattle.script.specs.declared.fault.LineFault.{LineFault}
 use Rattle.script.specs.declared.line.Exchange.{Exchange}
@@ -37,8 +37,8 @@ receive_options false true = 0x2
 receive_options true false = 0x902
 receive_options true true = 0x802
 
-abbrev pub message_text : ℕ → ℕ → ℕ → List ℕ → List ℕ
-message_text option limit name message = word MACH_MSG ++ mach_msg_arguments (record {
+abbrev pub message_encoding : ℕ → ℕ → ℕ → List ℕ → List ℕ
+message_encoding option limit name message = word MACH_MSG ++ mach_msg_arguments (record {
   option = option;
   limit = limit;
   name = name;
@@ -48,9 +48,9 @@ message_text option limit name message = word MACH_MSG ++ mach_msg_arguments (re
 
 -- The content of the frame that asks for a call: a send by MACH_SEND_MSG and MACH_SEND_TIMEOUT, and every timeout 0.
 abbrev pub attempt_text : Call → List ℕ
-attempt_text (call.Send message) = message_text 0x11 0 0 message
-attempt_text (call.Receive limit large name waited) = message_text (receive_options large waited) limit name []
-attempt_text c = call_text c
+attempt_text (call.Send message) = message_encoding 0x11 0 0 message
+attempt_text (call.Receive limit large name waited) = message_encoding (receive_options large waited) limit name []
+attempt_text c = call_encoding c
 
 -- the call that a line asks for
 abbrev pub call_of : Asked → Option Call

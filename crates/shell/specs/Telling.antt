@@ -9,8 +9,8 @@ use Rattle.script.specs.declared.fault.Expected.{Expected}
 use Rattle.script.specs.declared.fault.Expected.TheVariants as expected
 
 -- a comment on a line of this number
-unfoldable pub place_text : ℕ → List ℕ
-place_text number = codes "# line " ++ decimal number
+unfoldable pub place_encoding : ℕ → List ℕ
+place_encoding number = codes "# line " ++ decimal number
 
 abbrev pub expected_words : Expected → List ℕ
 expected_words expected.CallName = codes "the name of a call"
@@ -25,30 +25,30 @@ expected_words expected.YesOrNo = codes "yes or no"
 expected_words expected.RightKind = codes "receive, send or send_once"
 expected_words expected.End = codes "the end of the line"
 
-unfoldable pub column_text : ℕ → List ℕ
-column_text column = codes ", column " ++ decimal column
+unfoldable pub column_encoding : ℕ → List ℕ
+column_encoding column = codes ", column " ++ decimal column
 
 unfoldable pub expected_text : Expected → List ℕ
 expected_text what = codes ": expected " ++ (expected_words what ++ 10 ∷ [])
 
 -- a line can't be read: after this many bytes something else was expected
 abbrev pub wrong_line : ℕ → ℕ → Expected → List ℕ
-wrong_line number column what = place_text number ++ (column_text column ++ expected_text what)
+wrong_line number column what = place_encoding number ++ (column_encoding column ++ expected_text what)
 
 -- the line's call doesn't fit a frame
 abbrev pub long_line : ℕ → List ℕ
-long_line number = place_text number ++ codes ": a message that is too long for a frame\n"
+long_line number = place_encoding number ++ codes ": a message that is too long for a frame\n"
 
 -- what came isn't a reply to the line's call
 abbrev pub strange_line : ℕ → List ℕ
-strange_line number = place_text number ++ codes ": a reply that isn't one of this call\n"
+strange_line number = place_encoding number ++ codes ": a reply that isn't one of this call\n"
 
 -- the call with its answer: the line of a script
 unfoldable pub answered_line : Call → Reply → List ℕ
 answered_line c answer = call_line c ++ (reply_line answer ++ 10 ∷ [])
 
 unfoldable pub expected_place : ℕ → List ℕ
-expected_place number = place_text number ++ codes ", expected: "
+expected_place number = place_encoding number ++ codes ", expected: "
 
 -- the answer that the line has, if it differs
 abbrev pub difference_line : ℕ → Call → Reply → List ℕ

@@ -11,7 +11,7 @@ use Rattle.ipc_model.specs.declared.call.Reply.{Reply}
 use Rattle.script.specs.declared.fault.LineFault.{LineFault}
 use Rattle.script.specs.declared.fault.LineFault.TheVariants as line_fault
 use Rattle.script.specs.declared.line.Exchange.{Exchange}
-use Rattle.words.specs.Words.{frame_text}
+use Rattle.words.specs.Words.{frame_encoding}
 use Rattle.shell.specs.declared.asked.Asked.{Asked}
 use Rattle.shell.specs.declared.asked.Asked.TheVariants as asked
 use Rattle.shell.specs.Answers.{IsReplyTo}
@@ -45,7 +45,7 @@ Tells number c a content text well =
 abbrev pub AsksCall : ℕ → Call → Asked → Side → Side → List ℕ → Bool → Type 0
 AsksCall number c a peer peer_new text well =
     ((text ≡ long_line number) × (well ≡ false) × (peer_new ≡ peer))
-    ⊎ ((content : List ℕ) × Appends peer.written peer_new.written (frame_text (attempt_text c)) × Consumes peer.left peer_new.left (frame_text content) × Tells number c a content text well)
+    ⊎ ((content : List ℕ) × Appends peer.written peer_new.written (frame_encoding (attempt_text c)) × Consumes peer.left peer_new.left (frame_encoding content) × Tells number c a content text well)
 
 abbrev pub HearsAsked : ℕ → Asked → Option Call → Side → Side → List ℕ → Bool → Type 0
 HearsAsked number a None peer peer_new text well = (text ≡ []) × (well ≡ true) × (peer_new ≡ peer)

@@ -1,6 +1,6 @@
 ghost use Rattle.std.specs.Prelude.{◌≡◌, ◌≢◌, ◌++◌, ◌||◌, ◌==◌, not, IfOk, IfSome};
 ghost use Rattle.codes.specs.KernReturn.{number_of};
-ghost use Rattle.ipc_model.specs.texts.Texts.{done_text};
+ghost use Rattle.ipc_model.specs.encodings.Encodings.{done_encoding};
 ghost use Rattle.script.specs.Replies.{has_results};
 ghost use Rattle.words.specs.Words.{AreBytes, word};
 ghost use Rattle.shell.specs.Answers.{IsReplyTo};
@@ -16,10 +16,10 @@ use ipc_model::{Reply, RightKind, Sequence};
 use std::alloc::{AllocError, Global};
 use words::take_word;
 
-#[tactic(auto, unfolding(ipc_model::specs::texts::Texts::reply_text))]
+#[tactic(auto, unfolding(ipc_model::specs::texts::Texts::reply_encoding))]
 /// The names of a space, after their number.
 fn read_name_row(alloc: Global, results: &[u8]) -> Result<Option<Reply>, AllocError>
-    ensures { IfOk result (λ found. IfSome found (IsReplyTo MACH_PORT_NAMES (done_text MACH_PORT_NAMES results.now))) }
+    ensures { IfOk result (λ found. IfSome found (IsReplyTo MACH_PORT_NAMES (done_encoding MACH_PORT_NAMES results.now))) }
 {
     let Some((count, rows)) = take_word(results) else {
         return Ok(None);
@@ -35,10 +35,10 @@ fn read_name_row(alloc: Global, results: &[u8]) -> Result<Option<Reply>, AllocEr
     }))
 }
 
-#[tactic(auto, unfolding(ipc_model::specs::texts::Texts::reply_text))]
+#[tactic(auto, unfolding(ipc_model::specs::texts::Texts::reply_encoding))]
 /// The members of a set, after their number.
 fn read_member_row(alloc: Global, results: &[u8]) -> Result<Option<Reply>, AllocError>
-    ensures { IfOk result (λ found. IfSome found (IsReplyTo MACH_PORT_GET_SET_STATUS (done_text MACH_PORT_GET_SET_STATUS results.now))) }
+    ensures { IfOk result (λ found. IfSome found (IsReplyTo MACH_PORT_GET_SET_STATUS (done_encoding MACH_PORT_GET_SET_STATUS results.now))) }
 {
     let Some((count, rows)) = take_word(results) else {
         return Ok(None);
@@ -54,11 +54,11 @@ fn read_member_row(alloc: Global, results: &[u8]) -> Result<Option<Reply>, Alloc
     }))
 }
 
-#[tactic(auto, unfolding(ipc_model::specs::texts::Texts::reply_text))]
+#[tactic(auto, unfolding(ipc_model::specs::texts::Texts::reply_encoding))]
 /// The reply to a call with this number that was done and has one number or two, or nothing, as its results.
 fn read_plain(number: u32, results: &[u8]) -> Option<Reply>
     requires { number ≢ MACH_MSG }
-    ensures { IfSome result (IsReplyTo number (done_text number results.now)) }
+    ensures { IfSome result (IsReplyTo number (done_encoding number results.now)) }
 {
     match number {
         MACH_PORT_TYPE => {
@@ -102,10 +102,10 @@ fn has_no_results(number: u32) -> bool
     !matches!(number, 1 | 2 | 5 | 8 | 13 | 14 | 16 | 18 | 19 | 20)
 }
 
-#[tactic(auto, unfolding(ipc_model::specs::texts::Texts::reply_text))]
+#[tactic(auto, unfolding(ipc_model::specs::texts::Texts::reply_encoding))]
 /// The reply to a call with this number that was done and has no results.
 fn read_done(number: u32, results: &[u8]) -> Option<Reply>
-    ensures { IfSome result (IsReplyTo number (done_text number results.now)) }
+    ensures { IfSome result (IsReplyTo number (done_encoding number results.now)) }
 {
     if results.is_empty() && has_no_results(number) {
         return Some(Reply::Done { number });
@@ -113,7 +113,7 @@ fn read_done(number: u32, results: &[u8]) -> Option<Reply>
     None
 }
 
-#[tactic(auto, unfolding(ipc_model::specs::texts::Texts::reply_text))]
+#[tactic(auto, unfolding(ipc_model::specs::texts::Texts::reply_encoding))]
 /// The reply to a call with this number that was refused.
 fn read_refusal(number: u32, code: KernReturn, results: &[u8]) -> Option<Reply>
     requires number { number ≢ MACH_MSG }
@@ -134,7 +134,7 @@ fn keep(alloc: Global, message: &[u8]) -> Result<Sequence<u8>, AllocError>
     Ok(Sequence::new(Vec::from_slice(alloc, message)?))
 }
 
-#[tactic(auto, unfolding(ipc_model::specs::texts::Texts::reply_text))]
+#[tactic(auto, unfolding(ipc_model::specs::texts::Texts::reply_encoding))]
 /// The reply to a `mach_msg`, after its code.
 fn read_message(
     alloc: Global,
@@ -161,7 +161,7 @@ fn read_message(
 /// The reply to a call with this number that was done.
 fn read_results(alloc: Global, number: u32, results: &[u8]) -> Result<Option<Reply>, AllocError>
     requires { number ≢ MACH_MSG }
-    ensures { IfOk result (λ found. IfSome found (IsReplyTo number (done_text number results.now))) }
+    ensures { IfOk result (λ found. IfSome found (IsReplyTo number (done_encoding number results.now))) }
 {
     match number {
         MACH_PORT_NAMES => read_name_row(alloc, results),

@@ -1,6 +1,6 @@
 ghost use Rattle.std.specs.Prelude.{◌≡◌, ◌<◌, ◌^◌, ◌++◌, All, flat_map, IfSome, IfOk};
 ghost use Rattle.ipc_model.specs.declared.call.NamedType.{NamedType};
-ghost use Rattle.ipc_model.specs.texts.Texts.{number_of_bool};
+ghost use Rattle.ipc_model.specs.encodings.Encodings.{number_of_bool};
 ghost use Rattle.words.specs.Words.{word};
 ghost use Rattle.shell.specs.Answers.{IsStatus};
 

@@ -1,5 +1,5 @@
 ghost use Rattle.std.specs.Prelude.{◌≡◌, ◌++◌, decimal, IfOk, OnOk};
-ghost use Rattle.shell.specs.Telling.{answered_line, column_text, difference_line, expected_place, expected_text, expected_words, is_same_reply, long_line, place_text, strange_line, wrong_line};
+ghost use Rattle.shell.specs.Telling.{answered_line, column_encoding, difference_line, expected_place, expected_text, expected_words, is_same_reply, long_line, place_encoding, strange_line, wrong_line};
 
 use ipc_model::{Call, Reply};
 use script::{Expected, push_call, push_reply};
@@ -13,10 +13,10 @@ fn push_decimal(out: &mut Vec<u8>, number: u64) -> Result<(), AllocError>
     out.extend_from_slice(text.as_bytes())
 }
 
-#[tactic(auto, unfolding(crate::specs::Telling::place_text))]
+#[tactic(auto, unfolding(crate::specs::Telling::place_encoding))]
 /// Adds the beginning of a comment on a line.
 fn push_place(out: &mut Vec<u8>, number: u64) -> Result<(), AllocError>
-    ensures { OnOk result (out.new.items ≡ out.old.items ++ place_text number) }
+    ensures { OnOk result (out.new.items ≡ out.old.items ++ place_encoding number) }
 {
     out.extend_from_slice(b"# line ")?;
     push_decimal(out, number)
@@ -24,7 +24,7 @@ fn push_place(out: &mut Vec<u8>, number: u64) -> Result<(), AllocError>
 
 /// Adds a comment on a line.
 fn push_comment(out: &mut Vec<u8>, number: u64, words: &[u8]) -> Result<(), AllocError>
-    ensures { OnOk result (out.new.items ≡ out.old.items ++ (place_text number ++ words.now)) }
+    ensures { OnOk result (out.new.items ≡ out.old.items ++ (place_encoding number ++ words.now)) }
 {
     push_place(out, number)?;
     out.extend_from_slice(words)
@@ -63,10 +63,10 @@ fn expected_words(expected: Expected) -> &'static [u8]
     }
 }
 
-#[tactic(auto, unfolding(crate::specs::Telling::column_text))]
+#[tactic(auto, unfolding(crate::specs::Telling::column_encoding))]
 /// Adds a column.
 fn push_column(out: &mut Vec<u8>, column: usize) -> Result<(), AllocError>
-    ensures { OnOk result (out.new.items ≡ out.old.items ++ column_text column) }
+    ensures { OnOk result (out.new.items ≡ out.old.items ++ column_encoding column) }
 {
     out.extend_from_slice(b", column ")?;
     push_decimal(out, column as u64)

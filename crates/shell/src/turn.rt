@@ -8,7 +8,7 @@ ghost use Rattle.shell.specs.Telling.{difference_line, long_line, strange_line, 
 ghost use Rattle.shell.specs.Turns.{AsksCall, Hears, HearsAsked, Tells, said_text, said_well};
 ghost use Rattle.relay.specs.Relaying.{side};
 ghost use Rattle.wire.specs.Frame.{IsContentLength};
-ghost use Rattle.words.specs.Words.{frame_text};
+ghost use Rattle.words.specs.Words.{frame_encoding};
 
 use crate::asked::{Asked, read_asked};
 use crate::attempt::push_attempt;
@@ -56,7 +56,7 @@ fn call_of(asked: &Asked) -> Option<&Call>
 }
 
 /// The space that a task of this space is attached to after a call with this reply.
-fn space_behind(space: u32, call: &Call, reply: &Reply) -> u32
+fn space_after(space: u32, call: &Call, reply: &Reply) -> u32
     ensures { result ≡ (if succeeded call.now reply.now then attached_by space call.now else space) }
 {
     if reply.is_success() {
@@ -138,7 +138,7 @@ fn tell_reply(
     Ok(Told {
         text,
         is_well,
-        space: space_behind(place.space, call, reply),
+        space: space_after(place.space, call, reply),
     })
 }
 
@@ -233,8 +233,8 @@ fn exchange<P: Read, S: Write + Drop>(
     requests: &mut BufWriter<S>,
 ) -> Result<Frame, WireFault>
     requires { IsContentLength (length content.now) }
-    ensures sent { OnOk result (Appends (writer_contents S.contents requests.old) (writer_contents S.contents requests.new) (frame_text content.now)) }
-    ensures heard { IfOk result (λ reply. Consumes (P.remaining replies.old) (P.remaining replies.new) (frame_text reply.content)) }
+    ensures sent { OnOk result (Appends (writer_contents S.contents requests.old) (writer_contents S.contents requests.new) (frame_encoding content.now)) }
+    ensures heard { IfOk result (λ reply. Consumes (P.remaining replies.old) (P.remaining replies.new) (frame_encoding reply.content)) }
 {
     let frame = Frame::from_content(alloc, content)?;
     send(requests, &frame)?;

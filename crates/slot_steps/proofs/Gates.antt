@@ -50,9 +50,9 @@ gate_closing header before after some needs gate = elim needs [
 ]
 
 -- what stands after the first byte of a slot
-pub behind_first : (slot text : List ℕ) → 0 < length slot → drop 1 (take 1 slot ++ text) ≡ text
-behind_first [] text some = absurd (omega (arith, some))
-behind_first (gate ∷ rest) text some = refl
+pub after_first : (slot encoding : List ℕ) → 0 < length slot → drop 1 (take 1 slot ++ encoding) ≡ encoding
+after_first [] encoding some = absurd (omega (arith, some))
+after_first (gate ∷ rest) encoding some = refl
 
 -- a gate that is being opened: it isn't open, or all that stood after it stands there
 pub gate_opened : (behind shut after : List ℕ) → drop 1 shut ≡ behind → HasSomeGate shut after → IsClosed after ⊎ (after ≡ open_gate ∷ behind)

@@ -56,7 +56,7 @@ pub fn close_slot<D: Disk>(disk: &mut D, slot: Slot, header: usize) -> Result<()
 }
 
 /// Writes after a slot's gate.
-pub fn write_behind<D: Disk>(
+pub fn write_after<D: Disk>(
     disk: &mut D,
     slot: Slot,
     at: u64,
@@ -75,7 +75,7 @@ pub fn write_behind<D: Disk>(
 }
 
 /// Truncates a slot after its gate.
-pub fn cut_behind<D: Disk>(disk: &mut D, slot: Slot, len: u64) -> Result<(), DiskFault>
+pub fn cut_after<D: Disk>(disk: &mut D, slot: Slot, len: u64) -> Result<(), DiskFault>
     requires behind { 0 < len }
     requires inside { D.honest → len ≤ length (slot_of (D.view disk.old).seen slot) }
     ensures cut { D.honest → OnOk result ((D.view disk.new).seen
@@ -89,7 +89,7 @@ pub fn cut_behind<D: Disk>(disk: &mut D, slot: Slot, len: u64) -> Result<(), Dis
 }
 
 /// Syncs what stands after a slot's gate.
-pub fn sync_behind<D: Disk>(disk: &mut D, slot: Slot) -> Result<(), DiskFault>
+pub fn sync_after<D: Disk>(disk: &mut D, slot: Slot) -> Result<(), DiskFault>
     ensures seen { D.honest → (D.view disk.new).seen ≡ (D.view disk.old).seen }
     ensures synced { D.honest → OnOk result (IsSynced (D.view disk.new) slot) }
     ensures any_moment { D.honest → IsShut (D.view disk.old) slot

@@ -1,6 +1,6 @@
 -- The snapshots of lawful states.
 use Rattle.std.specs.Prelude.{◌≡◌}
-use Rattle.ipc_model.specs.state.Circular.{Grounded}
+use Rattle.ipc_model.specs.state.Circular.{Acyclic}
 use Rattle.ipc_model.specs.state.Lawful.{Lawful, ShortQueues}
 use Rattle.ipc_model.specs.state.State.{State}
 use Rattle.snapshot.specs.Snapshots.{snapshot_of}
@@ -11,5 +11,5 @@ pub record IsLawfulSnapshot (snapshot : Snapshot) : Type 0 where
   pub state : State
   pub same : snapshot ≡ snapshot_of state
   pub lawful : Lawful state
-  pub grounded : Grounded state
+  pub acyclic : Acyclic state
   pub short : ShortQueues state

@@ -1,4 +1,4 @@
 pub mod LawfulSnapshot
-pub mod Rising
+pub mod Ascending
 pub mod Rows
 pub mod Snapshots

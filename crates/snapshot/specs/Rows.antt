@@ -15,7 +15,7 @@ use Rattle.ipc_laws.specs.MapSums.{key_is, same_key}
 use Rattle.ipc_model.specs.declared.entry.Entry.{Entry}
 use Rattle.ipc_model.specs.declared.port.PortState.{PortState}
 use Rattle.ipc_model.specs.state.State.{Names, State}
-pub use Rattle.snapshot.specs.Rising.{RisesFrom, name_of, number_of, serial_of}
+pub use Rattle.snapshot.specs.Ascending.{AscendsFrom, name_of, number_of, serial_of}
 use Rattle.snapshot.specs.Snapshots.{names_of, snapshot_of}
 use Rattle.snapshot.specs.declared.rows.LivePort.{LivePort}
 use Rattle.snapshot.specs.declared.rows.NamedEntry.{NamedEntry}
@@ -67,11 +67,11 @@ module _ {X : Type 0} where
   under_last at k v (e ∷ es) le under = (omega (arith, le, under.0), under_last at k v es le under.1)
 
   -- ascending entries put after those that are there
-  pub all_put : (es : List (ℕ × X)) (m : FinMap {K = ℕ} nat_cmp X) (at : ℕ) → AreUnder at (entries m) → RisesFrom at (map key_of es) → entries (put_all es m) ≡ entries m ++ es
-  all_put [] m at under rises = sym (append-nil (entries m))
-  all_put (e ∷ es) m at under rises =
-      let put : entries (insert m e.0 e.1) ≡ entries m ++ e ∷ [] = entries-insert nat_cmp_total m e.0 e.1 ∙ put_last e.0 e.1 (entries m) (under_more at e.0 (entries m) rises.0 under) in
-      all_put es (insert m e.0 e.1) (e.0 + 1) (subst (AreUnder (e.0 + 1)) (sym put) (under_last at e.0 e.1 (entries m) rises.0 under)) rises.1
+  pub all_put : (es : List (ℕ × X)) (m : FinMap {K = ℕ} nat_cmp X) (at : ℕ) → AreUnder at (entries m) → AscendsFrom at (map key_of es) → entries (put_all es m) ≡ entries m ++ es
+  all_put [] m at under ascends = sym (append-nil (entries m))
+  all_put (e ∷ es) m at under ascends =
+      let put : entries (insert m e.0 e.1) ≡ entries m ++ e ∷ [] = entries-insert nat_cmp_total m e.0 e.1 ∙ put_last e.0 e.1 (entries m) (under_more at e.0 (entries m) ascends.0 under) in
+      all_put es (insert m e.0 e.1) (e.0 + 1) (subst (AreUnder (e.0 + 1)) (sym put) (under_last at e.0 e.1 (entries m) ascends.0 under)) ascends.1
       ∙ ap (λ (xs : List (ℕ × X)). xs ++ es) put
       ∙ append_assoc (entries m) (e ∷ []) es
 
@@ -79,8 +79,8 @@ module _ {X : Type 0} where
   abbrev pub map_of : List (ℕ × X) → FinMap {K = ℕ} nat_cmp X
   map_of es = put_all es empty
 
-  pub entries_of : (es : List (ℕ × X)) (at : ℕ) → RisesFrom at (map key_of es) → entries (map_of es) ≡ es
-  entries_of es at rises = all_put es empty at (subst (AreUnder at) (sym entries_none) tt) rises ∙ ap (λ (xs : List (ℕ × X)). xs ++ es) entries_none
+  pub entries_of : (es : List (ℕ × X)) (at : ℕ) → AscendsFrom at (map key_of es) → entries (map_of es) ≡ es
+  entries_of es at ascends = all_put es empty at (subst (AreUnder at) (sym entries_none) tt) ascends ∙ ap (λ (xs : List (ℕ × X)). xs ++ es) entries_none
 
   -- what is found after a key is above it
   pub over : (low k : ℕ) (v : X) (es : List (ℕ × X)) → T (below_all nat_cmp low es) → find nat_cmp k es ≡ Some v → low + 1 ≤ k
@@ -92,27 +92,27 @@ module _ {X : Type 0} where
       ] refl there
 
   -- a key of ascending entries is no less than the least
-  found_from : (at : ℕ) (es : List (ℕ × X)) (k : ℕ) (v : X) → RisesFrom at (map key_of es) → find nat_cmp k es ≡ Some v → at ≤ k
-  found_from at [] k v rises there = absurd (cc there)
-  found_from at (e ∷ es) k v rises there =
+  found_from : (at : ℕ) (es : List (ℕ × X)) (k : ℕ) (v : X) → AscendsFrom at (map key_of es) → find nat_cmp k es ≡ Some v → at ≤ k
+  found_from at [] k v ascends there = absurd (cc there)
+  found_from at (e ∷ es) k v ascends there =
       elim (eq_by_cmp nat_cmp k e.0) as (λ (b : Bool). eq_by_cmp nat_cmp k e.0 ≡ b → cond b (Some e.1) (find nat_cmp k es) ≡ Some v → at ≤ k) [
-        | true ↦ λ (same : _) (_ : _). omega (arith, key_is k e.0 same, rises.0)
-        | false ↦ λ (_ : _) (later : _). omega (arith, rises.0, found_from (e.0 + 1) es k v rises.1 later)
+        | true ↦ λ (same : _) (_ : _). omega (arith, key_is k e.0 same, ascends.0)
+        | false ↦ λ (_ : _) (later : _). omega (arith, ascends.0, found_from (e.0 + 1) es k v ascends.1 later)
       ] refl there
 
-  pub rising_keys : (at : ℕ) (m : FinMap {K = ℕ} nat_cmp X) (k : ℕ) (v : X) → RisesFrom at (map key_of (entries m)) → get m k ≡ Some v → at ≤ k
-  rising_keys at m k v rises there = found_from at (entries m) k v rises (sym (get-entries m k) ∙ there)
+  pub ascending_keys : (at : ℕ) (m : FinMap {K = ℕ} nat_cmp X) (k : ℕ) (v : X) → AscendsFrom at (map key_of (entries m)) → get m k ≡ Some v → at ≤ k
+  ascending_keys at m k v ascends there = found_from at (entries m) k v ascends (sym (get-entries m k) ∙ there)
 
   -- the entries of a map ascend
-  risen : (at : ℕ) (es : List (ℕ × X)) → ((k : ℕ) (v : X) → find nat_cmp k es ≡ Some v → at ≤ k) → T (is_sorted nat_cmp es) → RisesFrom at (map key_of es)
+  risen : (at : ℕ) (es : List (ℕ × X)) → ((k : ℕ) (v : X) → find nat_cmp k es ≡ Some v → at ≤ k) → T (is_sorted nat_cmp es) → AscendsFrom at (map key_of es)
   risen at [] from sorted = tt
   risen at (e ∷ es) from sorted =
       let below = front_of (below_all nat_cmp e.0 es) (is_sorted nat_cmp es) sorted in
       let rest = back_of (below_all nat_cmp e.0 es) (is_sorted nat_cmp es) sorted in
       (from e.0 e.1 (ap (λ (b : Bool). cond b (Some e.1) (find nat_cmp e.0 es)) (same_key e.0)), risen (e.0 + 1) es (λ k v there. over e.0 k v es below there) rest)
 
-  pub entries_rise : (at : ℕ) (m : FinMap {K = ℕ} nat_cmp X) → ((k : ℕ) (v : X) → get m k ≡ Some v → at ≤ k) → RisesFrom at (map key_of (entries m))
-  entries_rise at m from = risen at (entries m) (λ k v there. from k v (get-entries m k ∙ there)) (entries_sorted m)
+  pub entries_ascend : (at : ℕ) (m : FinMap {K = ℕ} nat_cmp X) → ((k : ℕ) (v : X) → get m k ≡ Some v → at ≤ k) → AscendsFrom at (map key_of (entries m))
+  entries_ascend at m from = risen at (entries m) (λ k v there. from k v (get-entries m k ∙ there)) (entries_sorted m)
 
   -- what holds of all that a map has holds of its entries, and conversely
   all_of : (P : ℕ × X → Type 0) (es : List (ℕ × X)) → T (is_sorted nat_cmp es) → ((k : ℕ) (x : X) → find nat_cmp k es ≡ Some x → P (k, x)) → All P es
@@ -173,35 +173,35 @@ map_same_id f [] all = refl
 map_same_id {A = A} f (x ∷ xs) all = λ i. All-head (λ (y : A). f y ≡ y) x xs all i ∷ map_same_id f xs (All-tail (λ (y : A). f y ≡ y) x xs all) i
 
 -- the rows of a space's names
-pub rows_of_names : (rows : List NamedEntry) (at : ℕ) → RisesFrom at (map name_of rows) → names_of (names_in_rows rows) ≡ rows
-rows_of_names rows at rises =
-    ap (map named_row) (entries_of (map entry_of rows) at (subst (RisesFrom at) (sym (map_map key_of entry_of rows)) rises))
+pub rows_of_names : (rows : List NamedEntry) (at : ℕ) → AscendsFrom at (map name_of rows) → names_of (names_in_rows rows) ≡ rows
+rows_of_names rows at ascends =
+    ap (map named_row) (entries_of (map entry_of rows) at (subst (AscendsFrom at) (sym (map_map key_of entry_of rows)) ascends))
     ∙ map_map named_row entry_of rows ∙ map_same_id (λ (r : NamedEntry). r) rows (λ k d less. refl)
 
 -- each space's names ascend
-abbrev pub NamesRise : Space → Type 0
-NamesRise row = RisesFrom 1 (map name_of row.names)
+abbrev pub NamesAscend : Space → Type 0
+NamesAscend row = AscendsFrom 1 (map name_of row.names)
 
 -- A snapshot whose rows ascend.
-pub record Rises (snapshot : Snapshot) : Type 0 where
-  pub spaces : RisesFrom 1 (map number_of snapshot.spaces)
-  pub names : All NamesRise snapshot.spaces
-  pub ports : RisesFrom 1 (map serial_of snapshot.ports)
+pub record Ascends (snapshot : Snapshot) : Type 0 where
+  pub spaces : AscendsFrom 1 (map number_of snapshot.spaces)
+  pub names : All NamesAscend snapshot.spaces
+  pub ports : AscendsFrom 1 (map serial_of snapshot.ports)
 
 -- Such a snapshot is that of the state of its rows.
-pub is_of_rows : (snapshot : Snapshot) → Rises snapshot → snapshot ≡ snapshot_of (state_of_rows snapshot)
+pub is_of_rows : (snapshot : Snapshot) → Ascends snapshot → snapshot ≡ snapshot_of (state_of_rows snapshot)
 unfolding snapshot_of
-is_of_rows snapshot rises = λ i. record { next_serial = snapshot.next_serial; spaces = sym spaces i; ports = sym ports i }
+is_of_rows snapshot ascends = λ i. record { next_serial = snapshot.next_serial; spaces = sym spaces i; ports = sym ports i }
   where
     spaces : map space_row (entries (map_of (map space_of snapshot.spaces))) ≡ snapshot.spaces
     spaces =
-        ap (map space_row) (entries_of (map space_of snapshot.spaces) 1 (subst (RisesFrom 1) (sym (map_map key_of space_of snapshot.spaces)) rises.spaces))
+        ap (map space_row) (entries_of (map space_of snapshot.spaces) 1 (subst (AscendsFrom 1) (sym (map_map key_of space_of snapshot.spaces)) ascends.spaces))
         ∙ map_map space_row space_of snapshot.spaces
-        ∙ map_same_id (λ (s : Space). space_row (space_of s)) snapshot.spaces (λ k d less i. record { number = (slice_index_or snapshot.spaces k d).number; names = rows_of_names (slice_index_or snapshot.spaces k d).names 1 (rises.names k d less) i })
+        ∙ map_same_id (λ (s : Space). space_row (space_of s)) snapshot.spaces (λ k d less i. record { number = (slice_index_or snapshot.spaces k d).number; names = rows_of_names (slice_index_or snapshot.spaces k d).names 1 (ascends.names k d less) i })
 
     ports : map port_row (entries (map_of (map port_in_row snapshot.ports))) ≡ snapshot.ports
     ports =
-        ap (map port_row) (entries_of (map port_in_row snapshot.ports) 1 (subst (RisesFrom 1) (sym (map_map key_of port_in_row snapshot.ports)) rises.ports))
+        ap (map port_row) (entries_of (map port_in_row snapshot.ports) 1 (subst (AscendsFrom 1) (sym (map_map key_of port_in_row snapshot.ports)) ascends.ports))
         ∙ map_map port_row port_in_row snapshot.ports
         ∙ map_same_id (λ (p : LivePort). p) snapshot.ports (λ k d less. refl)
 

@@ -1,8 +1,8 @@
 //! A state of the machine as plain values: what an image holds and an inspector prints.
 #![tactic(auto)]
 
-mod rising;
+mod ascending;
 mod rows;
 
-pub use rising::{Numbered, rises};
+pub use ascending::{Numbered, ascends};
 pub use rows::{LivePort, NamedEntry, Snapshot, Space};

@@ -44,14 +44,14 @@ pub record SameBefore (old new : NameIndexes) : Type 0 where
   pub received : new.receivers.before ≡ old.receivers.before
   pub counted : new.counts.before ≡ old.counts.before
 
-pub record AreGivenUp (old new : NameIndexes) : Type 0 where
+pub record AreRolledBack (old new : NameIndexes) : Type 0 where
   pub held : new.sharers ≡ at_rest old.sharers.before
   pub requested : new.requesters ≡ at_rest old.requesters.before
   pub received : new.receivers ≡ at_rest old.receivers.before
   pub counted : new.counts ≡ at_rest old.counts.before
   pub noted : new.changed.items ≡ []
 
-pub record AreKept (old new : NameIndexes) : Type 0 where
+pub record AreCommitted (old new : NameIndexes) : Type 0 where
   pub held : new.sharers ≡ at_rest old.sharers.current
   pub requested : new.requesters ≡ at_rest old.requesters.current
   pub received : new.receivers ≡ at_rest old.receivers.current

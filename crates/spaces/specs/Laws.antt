@@ -7,7 +7,7 @@ use Rattle.ipc_laws.specs.MapSums.{key_is}
 use Rattle.ipc_model.specs.state.State.{Names}
 use Rattle.tracked_map.specs.Slots.{picked, get_picked}
 use Rattle.tracked_map.specs.Touched.{AreTouched, all_alike, exchanged, none_touched, put_touched, one_touched, last_is_touched}
-use Rattle.spaces.specs.Slots.{SpaceSlot, SpaceSlots, SpaceMap, TrackedSpaces, was, is, given_slot, slot_changed, slot_opened, names_changed}
+use Rattle.spaces.specs.Slots.{SpaceSlot, SpaceSlots, SpaceMap, TrackedSpaces, was, is, rolled_back_slot, slot_changed, slot_opened, names_changed}
 
 alike : (m n : SpaceMap) → ((q : ℕ) → get m q ≡ get n q) → m ≡ n
 alike m n each = same_map nat_cmp_total nat_cmp-IsAntisymmetric m n each
@@ -165,39 +165,39 @@ pub record Rest (slots : SpaceSlots) (touched : List ℕ) (spaces : SpaceMap) : 
   pub seen_was : picked was slots ≡ spaces
   pub seen_is : picked is slots ≡ spaces
 
-pub kept_rest : (slots : SpaceSlots) (touched : List ℕ) (spaces : SpaceMap) → touched ≡ [] → AreTouched was is slots [] → picked is slots ≡ spaces → Rest slots touched spaces
-kept_rest slots touched spaces none are seen = record {
+pub committed_rest : (slots : SpaceSlots) (touched : List ℕ) (spaces : SpaceMap) → touched ≡ [] → AreTouched was is slots [] → picked is slots ≡ spaces → Rest slots touched spaces
+committed_rest slots touched spaces none are seen = record {
   touched_none = subst (AreTouched was is slots) (sym none) are;
   seen_was = all_alike was is slots are ∙ seen;
   seen_is = seen;
 }
 
-pub given_rest : (slots : SpaceSlots) (touched : List ℕ) (spaces : SpaceMap) → touched ≡ [] → AreTouched is was slots [] → picked was slots ≡ spaces → Rest slots touched spaces
-given_rest slots touched spaces none are seen = record {
+pub rolled_back_rest : (slots : SpaceSlots) (touched : List ℕ) (spaces : SpaceMap) → touched ≡ [] → AreTouched is was slots [] → picked was slots ≡ spaces → Rest slots touched spaces
+rolled_back_rest slots touched spaces none are seen = record {
   touched_none = subst (AreTouched was is slots) (sym none) (exchanged is was slots [] are);
   seen_was = seen;
   seen_is = all_alike is was slots are ∙ seen;
 }
 
 pub new_rest : (slots : SpaceSlots) (touched : List ℕ) → touched ≡ [] → slots ≡ empty → Rest slots touched empty
-new_rest slots touched none new = kept_rest slots touched empty none (subst (λ (s : SpaceSlots). AreTouched was is s []) (sym new) (none_touched was is)) (ap (picked is) new ∙ nothing)
+new_rest slots touched none new = committed_rest slots touched empty none (subst (λ (s : SpaceSlots). AreTouched was is s []) (sym new) (none_touched was is)) (ap (picked is) new ∙ nothing)
   where
     nothing : picked is empty ≡ empty
     nothing = alike _ _ (λ q. get_picked is empty q ∙ ap (option_and_then is) (get-empty nat_cmp q) ∙ sym (get-empty nat_cmp q))
 
 -- a slot is rolled back, whether it is among those that may have changed or not
-pub given_touched : (slots : SpaceSlots) (touched : List ℕ) (key : ℕ) → AreTouched was is slots touched → AreTouched was is (slot_changed slots key given_slot) touched
-given_touched slots touched key are q slot at off = go (eq_by_cmp nat_cmp q key) refl (sym (get_changed slots key given_slot q (get slots key) refl) ∙ at)
+pub rolled_back_touched : (slots : SpaceSlots) (touched : List ℕ) (key : ℕ) → AreTouched was is slots touched → AreTouched was is (slot_changed slots key rolled_back_slot) touched
+rolled_back_touched slots touched key are q slot at off = go (eq_by_cmp nat_cmp q key) refl (sym (get_changed slots key rolled_back_slot q (get slots key) refl) ∙ at)
   where
-    there : (o : Option SpaceSlot) → get slots q ≡ o → option_map given_slot o ≡ Some slot → (was slot ≡ is slot) × (is_some (is slot) ≡ true)
+    there : (o : Option SpaceSlot) → get slots q ≡ o → option_map rolled_back_slot o ≡ Some slot → (was slot ≡ is slot) × (is_some (is slot) ≡ true)
     there None _ none = absurd (cc none)
     there (Some s) found same =
         let both = are q s found off in
-        let given : given_slot s ≡ slot = cc same in
+        let given : rolled_back_slot s ≡ slot = cc same in
         (ap was (sym given) ∙ ap is given, ap (λ (x : SpaceSlot). is_some (is x)) (sym given) ∙ ap is_some both.0 ∙ both.1)
 
-    go : (b : Bool) → eq_by_cmp nat_cmp q key ≡ b → cond b (option_map given_slot (get slots key)) (get slots q) ≡ Some slot → (was slot ≡ is slot) × (is_some (is slot) ≡ true)
-    go true same found = there (get slots q) refl (ap (λ (k : ℕ). option_map given_slot (get slots k)) (key_is q key same) ∙ found)
+    go : (b : Bool) → eq_by_cmp nat_cmp q key ≡ b → cond b (option_map rolled_back_slot (get slots key)) (get slots q) ≡ Some slot → (was slot ≡ is slot) × (is_some (is slot) ≡ true)
+    go true same found = there (get slots q) refl (ap (λ (k : ℕ). option_map rolled_back_slot (get slots k)) (key_is q key same) ∙ found)
     go false _ found = are q slot found off
 
 -- what is known of the spaces is known of their slots

@@ -44,11 +44,11 @@ was slot = slot.before
 abbrev pub is : SpaceSlot → Option Names
 is slot = slot.current
 
-abbrev pub kept_slot : SpaceSlot → SpaceSlot
-kept_slot slot = slot_at_rest slot.current
+abbrev pub committed_slot : SpaceSlot → SpaceSlot
+committed_slot slot = slot_at_rest slot.current
 
-abbrev pub given_slot : SpaceSlot → SpaceSlot
-given_slot slot = slot_at_rest slot.before
+abbrev pub rolled_back_slot : SpaceSlot → SpaceSlot
+rolled_back_slot slot = slot_at_rest slot.before
 
 abbrev pub SpaceSlots : Type 0
 SpaceSlots = map.FinMap {K = ℕ} nat_cmp SpaceSlot

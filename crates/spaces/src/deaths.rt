@@ -22,25 +22,25 @@ impl Spaces {
     /// are rolled back.
     pub fn bury(&mut self, port: u64, effects: &mut Effects) -> Result<(), AllocError>
         ensures ok { OnOk result (self.new ≡ record self.old { current = map_values (map_values (entry_after_death port)) self.old.current }) }
-        ensures told { OnOk result (effects.new ≡ effects.old ++ flat_map (λ s. flat_map (λ e. dead_name_of_entry port e.0 e.1) (map.entries s.1)) (map.entries self.old.current)) }
+        ensures notified { OnOk result (effects.new ≡ effects.old ++ flat_map (λ s. flat_map (λ e. dead_name_of_entry port e.0 e.1) (map.entries s.1)) (map.entries self.old.current)) }
         ensures err { OnErr result (self.new ≡ spaces_at_rest self.old.before) }
     {
-        self.are_small();
+        self.show_counts_small();
         let mut at: u64 = 0;
         while let Some(place) = self.next_mention(port, at) {
             self.bury_at(port, place, effects)?;
             let Some(next) = place.checked_add(1) else {
-                self.are_small();
+                self.show_counts_small();
                 return Ok(());
             };
             at = next;
         }
-        self.are_small();
+        self.show_counts_small();
         Ok(())
     }
 
     /// Shows that names and the numbers of spaces are words. It does nothing else.
-    pub fn are_small(&self)
+    pub fn show_counts_small(&self)
         ensures { AreSmall self.now.current }
     {
         let _ = &self.table;
@@ -64,7 +64,7 @@ impl Spaces {
     fn bury_at(&mut self, port: u64, number: u64, effects: &mut Effects) -> Result<(), AllocError>
         ensures ok { OnOk result (MatchOption (entry_in self.old.current (number / 2 ^ 32) (number % 2 ^ 32)) (self.new ≡ self.old)
             (λ entry. self.new ≡ record self.old { current = names_changed self.old.current (number / 2 ^ 32) (λ names. map.insert names (number % 2 ^ 32) (entry_after_death port entry)) })) }
-        ensures told { OnOk result (effects.new ≡ effects.old ++ notice_of port self.old.current number) }
+        ensures notified { OnOk result (effects.new ≡ effects.old ++ notice_of port self.old.current number) }
         ensures err { OnErr result (self.new ≡ spaces_at_rest self.old.before) }
     {
         let space = (number / (1 << 32)) as u32;
@@ -73,8 +73,8 @@ impl Spaces {
             return Ok(());
         };
         self.put_name(space, name, after_death(entry, port))?;
-        if tell_of(entry, port, name, effects).is_err() {
-            self.give_up();
+        if notify_of(entry, port, name, effects).is_err() {
+            self.roll_back();
             return Err(AllocError);
         }
         Ok(())
@@ -82,7 +82,7 @@ impl Spaces {
 }
 
 /// Adds the notice for the dead-name request of a name that stands for a right to a port, if it has one.
-fn tell_of(entry: Entry, port: u64, name: u32, effects: &mut Effects) -> Result<(), AllocError>
+fn notify_of(entry: Entry, port: u64, name: u32, effects: &mut Effects) -> Result<(), AllocError>
     ensures { OnOk result (effects.new ≡ effects.old ++ dead_name_of_entry port name entry) }
 {
     if !is_name_of(entry, port) {

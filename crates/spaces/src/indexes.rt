@@ -2,7 +2,7 @@
 ghost use Rattle.std.specs.Prelude.{◌≡◌, [], OnOk, option_and_then};
 ghost use Rattle.std.specs.FinMap as map;
 ghost use Rattle.ipc_model.specs.state.State.{received_port, request_of};
-ghost use Rattle.spaces.specs.Indexes.{IsMoved, SameBefore, AreGivenUp, AreKept};
+ghost use Rattle.spaces.specs.Indexes.{IsMoved, SameBefore, AreRolledBack, AreCommitted};
 ghost use Rattle.spaces.specs.Looking.{port_shared};
 ghost use Rattle.tracked_map.specs.Tracked.{at_rest};
 
@@ -66,24 +66,24 @@ impl NameIndexes {
     }
 
     /// Commits the changes. It takes no memory.
-    pub(crate) fn keep(&mut self)
-        ensures { AreKept self.old self.new }
+    pub(crate) fn commit(&mut self)
+        ensures { AreCommitted self.old self.new }
     {
-        self.sharers.keep();
-        self.requesters.keep();
-        self.receivers.keep();
-        self.counts.keep();
+        self.sharers.commit();
+        self.requesters.commit();
+        self.receivers.commit();
+        self.counts.commit();
         self.changed.clear();
     }
 
     /// Rolls the changes back. It takes no memory.
-    pub(crate) fn give_up(&mut self)
-        ensures { AreGivenUp self.old self.new }
+    pub(crate) fn roll_back(&mut self)
+        ensures { AreRolledBack self.old self.new }
     {
-        self.sharers.give_up();
-        self.requesters.give_up();
-        self.receivers.give_up();
-        self.counts.give_up();
+        self.sharers.roll_back();
+        self.requesters.roll_back();
+        self.receivers.roll_back();
+        self.counts.roll_back();
         self.changed.clear();
     }
 }

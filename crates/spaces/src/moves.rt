@@ -20,7 +20,7 @@ impl Spaces {
         ensures ok { OnOk result (self.new ≡ record self.old { current = names_changed self.old.current space (λ names. under_other_name names from to) }) }
         ensures err { OnErr result (self.new ≡ spaces_at_rest self.old.before) }
     {
-        self.are_few(space);
+        self.show_names_few(space);
         let former = self.remove_name(space, from)?;
         let Some(entry) = former else {
             return Ok(None);
@@ -30,11 +30,11 @@ impl Spaces {
     }
 
     /// Shows that a space has at most `MAX_NAMES` names. It does nothing else.
-    fn are_few(&self, space: u32)
+    fn show_names_few(&self, space: u32)
         ensures { map.len (names_of self.now.current space) ≤ MAX_NAMES }
     {
         if let Some(names) = self.table.names(space) {
-            names.are_few();
+            names.show_names_few();
         }
     }
 

@@ -126,18 +126,18 @@ impl Space {
     }
 
     /// Commits the changes. It takes no memory.
-    pub(crate) fn keep(&mut self)
+    pub(crate) fn commit(&mut self)
         ensures { self.new ≡ slot_at_rest self.old.current }
     {
-        self.names.keep();
+        self.names.commit();
         self.was_there = self.is_there;
     }
 
     /// Rolls the changes back. It takes no memory.
-    pub(crate) fn give_up(&mut self)
+    pub(crate) fn roll_back(&mut self)
         ensures { self.new ≡ slot_at_rest self.old.before }
     {
-        self.names.give_up();
+        self.names.roll_back();
         self.is_there = self.was_there;
     }
 }

@@ -4,7 +4,7 @@ ghost use Rattle.std.specs.FinMap as map;
 ghost use Rattle.codes.specs.declared.limits.TheConstants.{MAX_NAMES};
 ghost use Rattle.ipc_model.specs.state.State.{Names};
 ghost use Rattle.port_space.specs.References.{AreFewReferences};
-ghost use Rattle.spaces.specs.Slots.{SpaceSlot, slot_at_rest, was, is, kept_slot, given_slot, slot_changed, slot_opened, stood_at};
+ghost use Rattle.spaces.specs.Slots.{SpaceSlot, slot_at_rest, was, is, committed_slot, rolled_back_slot, slot_changed, slot_opened, stood_at};
 ghost use Rattle.tracked_map.specs.Slots.{picked};
 ghost use Rattle.tracked_map.specs.Touched.{AreTouched, turned};
 
@@ -82,52 +82,52 @@ pub(crate) fn remove_at(
 }
 
 /// Commits the changes of the slots with these keys.
-pub(crate) fn keep_slots(slots: &mut NumberTable<Space>, touched: &[u32])
+pub(crate) fn commit_slots(slots: &mut NumberTable<Space>, touched: &[u32])
     requires { AreTouched was is slots.old touched.now }
     ensures shown { picked is slots.new ≡ picked is slots.old }
     ensures rest { AreTouched was is slots.new [] }
 {
     let mut rest = touched;
     while let Some((key, before)) = rest.split_last() {
-        keep_slot(slots, *key);
+        commit_slot(slots, *key);
         rest = before;
     }
 }
 
-fn keep_slot(slots: &mut NumberTable<Space>, key: u32)
-    ensures { slots.new ≡ turned is kept_slot slots.old key }
+fn commit_slot(slots: &mut NumberTable<Space>, key: u32)
+    ensures { slots.new ≡ turned is committed_slot slots.old key }
 {
     let Some(slot) = slots.get_mut(key) else {
         return;
     };
     if slot.is_there() {
-        slot.keep();
+        slot.commit();
         return;
     }
     drop(slots.remove(key));
 }
 
 /// Rolls back the changes of the slots with these keys.
-pub(crate) fn give_slots_up(slots: &mut NumberTable<Space>, touched: &[u32])
+pub(crate) fn roll_slots_back(slots: &mut NumberTable<Space>, touched: &[u32])
     requires { AreTouched is was slots.old touched.now }
     ensures shown { picked was slots.new ≡ picked was slots.old }
     ensures rest { AreTouched is was slots.new [] }
 {
     let mut rest = touched;
     while let Some((key, before)) = rest.split_last() {
-        give_slot_up(slots, *key);
+        roll_slot_back(slots, *key);
         rest = before;
     }
 }
 
-fn give_slot_up(slots: &mut NumberTable<Space>, key: u32)
-    ensures { slots.new ≡ turned was given_slot slots.old key }
+fn roll_slot_back(slots: &mut NumberTable<Space>, key: u32)
+    ensures { slots.new ≡ turned was rolled_back_slot slots.old key }
 {
     let Some(slot) = slots.get_mut(key) else {
         return;
     };
     if slot.was_there() {
-        slot.give_up();
+        slot.roll_back();
         return;
     }
     drop(slots.remove(key));

@@ -106,8 +106,8 @@ impl Spaces {
         match put_in_both(&mut self.table, &mut self.indexes, space, name, entry) {
             Ok(former) => Ok(former),
             Err(error) => {
-                self.table.give_up();
-                self.indexes.give_up();
+                self.table.roll_back();
+                self.indexes.roll_back();
                 Err(error)
             }
         }
@@ -127,8 +127,8 @@ impl Spaces {
         match remove_from_both(&mut self.table, &mut self.indexes, space, name) {
             Ok(former) => Ok(former),
             Err(error) => {
-                self.table.give_up();
-                self.indexes.give_up();
+                self.table.roll_back();
+                self.indexes.roll_back();
                 Err(error)
             }
         }
@@ -145,7 +145,7 @@ impl Spaces {
         match self.table.add(space) {
             Ok(()) => Ok(()),
             Err(error) => {
-                self.indexes.give_up();
+                self.indexes.roll_back();
                 Err(error)
             }
         }
@@ -160,7 +160,7 @@ impl Spaces {
         match self.table.close(space) {
             Ok(()) => Ok(()),
             Err(error) => {
-                self.indexes.give_up();
+                self.indexes.roll_back();
                 Err(error)
             }
         }
@@ -220,19 +220,19 @@ impl Spaces {
     }
 
     /// Commits the changes. It takes no memory.
-    pub fn keep(&mut self)
+    pub fn commit(&mut self)
         ensures { self.new ≡ spaces_at_rest self.old.current }
     {
-        self.table.keep();
-        self.indexes.keep();
+        self.table.commit();
+        self.indexes.commit();
     }
 
     /// Rolls the changes back. It takes no memory.
-    pub fn give_up(&mut self)
+    pub fn roll_back(&mut self)
         ensures { self.new ≡ spaces_at_rest self.old.before }
     {
-        self.table.give_up();
-        self.indexes.give_up();
+        self.table.roll_back();
+        self.indexes.roll_back();
     }
 }
 

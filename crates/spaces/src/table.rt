@@ -9,7 +9,7 @@ ghost use Rattle.spaces.specs.Slots.{spaces_at_rest, names_changed};
 
 use crate::numbers::Numbers;
 use crate::slot::Space;
-use crate::slots::{close_at, give_slots_up, keep_slots, open_at, put_at, remove_at};
+use crate::slots::{close_at, commit_slots, open_at, put_at, remove_at, roll_slots_back};
 use ipc_model::Entry;
 use number_table::NumberTable;
 use port_space::PortSpace;
@@ -106,7 +106,7 @@ impl SpaceTable {
         ensures err { OnErr result (self.new ≡ spaces_at_rest self.old.before) }
     {
         if self.touched.reserve(1).is_err() {
-            self.give_up();
+            self.roll_back();
             return Err(AllocError);
         }
         match open_at(self.alloc, &mut self.slots, space) {
@@ -117,7 +117,7 @@ impl SpaceTable {
                 Ok(())
             }
             Err(error) => {
-                self.give_up();
+                self.roll_back();
                 Err(error)
             }
         }
@@ -133,7 +133,7 @@ impl SpaceTable {
         ensures err { OnErr result (self.new ≡ spaces_at_rest self.old.before) }
     {
         if self.touched.reserve(1).is_err() {
-            self.give_up();
+            self.roll_back();
             return Err(AllocError);
         }
         match put_at(&mut self.slots, space, name, entry) {
@@ -142,7 +142,7 @@ impl SpaceTable {
                 Ok(former)
             }
             Err(error) => {
-                give_slots_up(&mut self.slots, self.touched.as_slice());
+                roll_slots_back(&mut self.slots, self.touched.as_slice());
                 self.touched.clear();
                 self.count = self.count_before;
                 self.numbers = self.numbers_before;
@@ -160,7 +160,7 @@ impl SpaceTable {
         ensures err { OnErr result (self.new ≡ spaces_at_rest self.old.before) }
     {
         if self.touched.reserve(1).is_err() {
-            self.give_up();
+            self.roll_back();
             return Err(AllocError);
         }
         match remove_at(&mut self.slots, space, name) {
@@ -169,7 +169,7 @@ impl SpaceTable {
                 Ok(former)
             }
             Err(error) => {
-                give_slots_up(&mut self.slots, self.touched.as_slice());
+                roll_slots_back(&mut self.slots, self.touched.as_slice());
                 self.touched.clear();
                 self.count = self.count_before;
                 self.numbers = self.numbers_before;
@@ -185,7 +185,7 @@ impl SpaceTable {
         ensures err { OnErr result (self.new ≡ spaces_at_rest self.old.before) }
     {
         if self.touched.reserve(1).is_err() {
-            self.give_up();
+            self.roll_back();
             return Err(AllocError);
         }
         if self.contains(space) {
@@ -198,20 +198,20 @@ impl SpaceTable {
     }
 
     /// Commits the changes. It takes no memory.
-    pub fn keep(&mut self)
+    pub fn commit(&mut self)
         ensures { self.new ≡ spaces_at_rest self.old.current }
     {
-        keep_slots(&mut self.slots, self.touched.as_slice());
+        commit_slots(&mut self.slots, self.touched.as_slice());
         self.touched.clear();
         self.count_before = self.count;
         self.numbers_before = self.numbers;
     }
 
     /// Rolls the changes back. It takes no memory.
-    pub fn give_up(&mut self)
+    pub fn roll_back(&mut self)
         ensures { self.new ≡ spaces_at_rest self.old.before }
     {
-        give_slots_up(&mut self.slots, self.touched.as_slice());
+        roll_slots_back(&mut self.slots, self.touched.as_slice());
         self.touched.clear();
         self.count = self.count_before;
         self.numbers = self.numbers_before;

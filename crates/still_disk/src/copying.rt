@@ -90,7 +90,7 @@ fn copy_by<S: LiveSlots>(
 /// slot is read from its front to its end meanwhile, all batches are there whose gates were open when that began, and
 /// any further ones are whole. A slot is written over only once its front has changed, to another gate or another
 /// epoch, and epochs only grow. So if the fronts of all four are the same after the reading as before it, the copies
-/// stand for a state that the store had meanwhile (`beside::copies_stand`).
+/// stand for a state that the store had meanwhile (`live_reading::copies_stand`).
 ///
 /// `Device`: the device failed. `NoMemory`: out of memory. `Busy`: a front changed during each of a hundred tries.
 pub fn live_copy<S: LiveSlots>(alloc: Global, live: &mut S) -> Result<StillDisk, CopyFault>

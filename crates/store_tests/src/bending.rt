@@ -72,15 +72,15 @@ fn change(bytes: &mut Vec<u8>, how: Bend) -> Option<()> {
 }
 
 fn change_all(bytes: &mut Vec<u8>, slot: Slot, bends: &[(Slot, Bend)]) -> Option<()> {
-    for (bent, how) in bends {
-        if *bent == slot {
+    for (corrupted, how) in bends {
+        if *corrupted == slot {
             change(bytes, *how)?;
         }
     }
     Some(())
 }
 
-fn bent_slot(
+fn corrupted_slot(
     alloc: Global,
     slot: Slot,
     epoch: Option<u64>,
@@ -94,13 +94,13 @@ fn bent_slot(
     Some(bytes)
 }
 
-fn bent_slots(alloc: Global, epochs: Epochs, bends: &[(Slot, Bend)]) -> Option<[Vec<u8>; 4]> {
+fn corrupted_slots(alloc: Global, epochs: Epochs, bends: &[(Slot, Bend)]) -> Option<[Vec<u8>; 4]> {
     let [image0, image1, segment0, segment1] = epochs;
     Some([
-        bent_slot(alloc, Slot::Image0, image0, bends)?,
-        bent_slot(alloc, Slot::Image1, image1, bends)?,
-        bent_slot(alloc, Slot::Segment0, segment0, bends)?,
-        bent_slot(alloc, Slot::Segment1, segment1, bends)?,
+        corrupted_slot(alloc, Slot::Image0, image0, bends)?,
+        corrupted_slot(alloc, Slot::Image1, image1, bends)?,
+        corrupted_slot(alloc, Slot::Segment0, segment0, bends)?,
+        corrupted_slot(alloc, Slot::Segment1, segment1, bends)?,
     ])
 }
 
@@ -138,7 +138,7 @@ pub(crate) fn tried<S: Store + Drop>(
     epochs: Epochs,
     bends: &[(Slot, Bend)],
 ) -> Option<(Found, bool, Found)> {
-    let before = bent_slots(alloc, epochs, bends)?;
+    let before = corrupted_slots(alloc, epochs, bends)?;
     let disk: S = disk_of(alloc, &before)?;
     let (found, disk) = reopened(alloc, disk);
     let is_left = is_left(found, &disk, &before);

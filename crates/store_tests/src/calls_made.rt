@@ -71,7 +71,7 @@ fn answers_so<M: Machine>(machine: &mut M) -> bool {
 }
 
 /// Whether they get these answers in a state with one port.
-fn answers_beside_one_port<M: Machine + Drop>(alloc: Global) -> Option<bool> {
+fn answers_alongside_one_port<M: Machine + Drop>(alloc: Global) -> Option<bool> {
     let mut machine: M = after_allocated(alloc, 1, 0x100)?;
     let answers = answers_so(&mut machine);
     drop(machine);
@@ -80,7 +80,7 @@ fn answers_beside_one_port<M: Machine + Drop>(alloc: Global) -> Option<bool> {
 
 #[test]
 fn answers_what_has_no_record(rt: HostRuntime) {
-    let answered = answers_beside_one_port::<Kernel>(rt.alloc());
+    let answered = answers_alongside_one_port::<Kernel>(rt.alloc());
     same(&rt, answered, Some(true));
 }
 
@@ -145,7 +145,7 @@ fn there_are_16384_ports(rt: HostRuntime) {
 }
 
 /// The code of a receive.
-fn code_of_receipt<M: Machine>(machine: &mut M, name: u32, waited: bool) -> Option<u32> {
+fn code_of_receive<M: Machine>(machine: &mut M, name: u32, waited: bool) -> Option<u32> {
     let [code, ..] = ask(machine, 1, Asked::Receive(name, waited))?;
     Some(code)
 }
@@ -154,21 +154,21 @@ fn code_of_receipt<M: Machine>(machine: &mut M, name: u32, waited: bool) -> Opti
 /// wait: one that is in the set, and one that doesn't exist.
 type Receipts = (Option<()>, [Option<u32>; 4]);
 
-fn receipts_without_a_port<M: Machine + Drop>(alloc: Global) -> Option<Receipts> {
+fn receives_without_a_port<M: Machine + Drop>(alloc: Global) -> Option<Receipts> {
     let mut machine = M::opened(alloc)?;
     let made = ask_all(&mut machine, &PORTS_IN_A_SET);
     let codes = [
-        code_of_receipt(&mut machine, 0x100, false),
-        code_of_receipt(&mut machine, 0x100, true),
-        code_of_receipt(&mut machine, 0x1ff, false),
-        code_of_receipt(&mut machine, 0x1ff, true),
+        code_of_receive(&mut machine, 0x100, false),
+        code_of_receive(&mut machine, 0x100, true),
+        code_of_receive(&mut machine, 0x1ff, false),
+        code_of_receive(&mut machine, 0x1ff, true),
     ];
     Some((made, codes))
 }
 
 #[test]
 fn a_wait_changes_the_code(rt: HostRuntime) {
-    let codes = receipts_without_a_port::<Kernel>(rt.alloc());
+    let codes = receives_without_a_port::<Kernel>(rt.alloc());
     // IN_SET and PORT_CHANGED, INVALID_NAME and PORT_DIED.
     let wanted = [
         Some(0x1000_400a),

@@ -566,7 +566,7 @@ fn check(rt: &impl Abort, alloc: Global, rows: &[Row]) {
 }
 
 #[test]
-fn what_is_bent_is_passed_over_or_told(rt: HostRuntime) {
+fn what_is_corrupted_is_passed_over_or_reported(rt: HostRuntime) {
     let alloc = rt.alloc();
     check(&rt, alloc, &PASSED_OVER);
     check(&rt, alloc, &UNFINISHED);

@@ -52,23 +52,23 @@ fn counts<D: Disk>(disk: &D, slot: Slot) -> (u64, u64) {
 
 // One call that changes a disk.
 #[derive(Clone, Copy)]
-enum Step {
+enum DeviceStep {
     Write(Slot, u64, &'static [u8]),
     Cut(Slot, u64),
     Sync(Slot),
 }
 
 // Takes a step that succeeds.
-fn take_one<D: Disk>(disk: &mut D, step: Step) -> Option<()> {
+fn take_one<D: Disk>(disk: &mut D, step: DeviceStep) -> Option<()> {
     match step {
-        Step::Write(slot, at, bytes) => write(disk, slot, at, bytes)?.ok(),
-        Step::Cut(slot, length) => cut(disk, slot, length)?.ok(),
-        Step::Sync(slot) => sync(disk, slot).ok(),
+        DeviceStep::Write(slot, at, bytes) => write(disk, slot, at, bytes)?.ok(),
+        DeviceStep::Cut(slot, length) => cut(disk, slot, length)?.ok(),
+        DeviceStep::Sync(slot) => sync(disk, slot).ok(),
     }
 }
 
 // Takes steps that all succeed.
-fn take<D: Disk>(disk: &mut D, steps: &[Step]) -> Option<()> {
+fn take<D: Disk>(disk: &mut D, steps: &[DeviceStep]) -> Option<()> {
     for step in steps {
         take_one(disk, *step)?;
     }
@@ -76,21 +76,24 @@ fn take<D: Disk>(disk: &mut D, steps: &[Step]) -> Option<()> {
 }
 
 // The bytes "aBcdEFG" in the image 1, in several steps.
-static WRITTEN: [Step; 3] = [
-    Step::Write(Slot::Image1, 0, b"abcdef"),
-    Step::Write(Slot::Image1, 4, b"EFG"),
-    Step::Write(Slot::Image1, 1, b"B"),
+static WRITTEN: [DeviceStep; 3] = [
+    DeviceStep::Write(Slot::Image1, 0, b"abcdef"),
+    DeviceStep::Write(Slot::Image1, 4, b"EFG"),
+    DeviceStep::Write(Slot::Image1, 1, b"B"),
 ];
 
 // The bytes "aBc" of that.
-static SHORTENED: [Step; 2] = [Step::Cut(Slot::Image1, 3), Step::Sync(Slot::Image1)];
+static SHORTENED: [DeviceStep; 2] = [
+    DeviceStep::Cut(Slot::Image1, 3),
+    DeviceStep::Sync(Slot::Image1),
+];
 
 static WHOLE: Slots<'static> = [b"", b"aBcdEFG", b"", b""];
 
 // Whether steps were taken, and the counts of the image 1 then.
 type Taken = (Option<()>, (u64, u64));
 
-fn taken<D: Disk>(disk: &mut D, steps: &[Step]) -> Taken {
+fn taken<D: Disk>(disk: &mut D, steps: &[DeviceStep]) -> Taken {
     (take(disk, steps), counts(disk, Slot::Image1))
 }
 
@@ -132,12 +135,12 @@ fn a_read_ends_at_the_end(rt: HostRuntime) {
 }
 
 // A write of 4 bytes over 2 of 3, a truncation and a new write, and a synced write.
-static BEGUN: [Step; 5] = [
-    Step::Write(Slot::Image0, 1, b"WXYZ"),
-    Step::Cut(Slot::Image1, 2),
-    Step::Write(Slot::Image1, 2, b"W"),
-    Step::Write(Slot::Segment0, 0, b"pq"),
-    Step::Sync(Slot::Segment0),
+static BEGUN: [DeviceStep; 5] = [
+    DeviceStep::Write(Slot::Image0, 1, b"WXYZ"),
+    DeviceStep::Cut(Slot::Image1, 2),
+    DeviceStep::Write(Slot::Image1, 2, b"W"),
+    DeviceStep::Write(Slot::Segment0, 0, b"pq"),
+    DeviceStep::Sync(Slot::Segment0),
 ];
 
 // A disk with these, and a write that failed: its sixth call. That they were done shows in what it holds and counts
@@ -173,7 +176,7 @@ fn torn_by_a_stop<S: Store + Drop>(
 }
 
 #[test]
-fn a_stop_tears_what_was_not_synced(rt: HostRuntime) {
+fn a_crash_tears_what_was_not_synced(rt: HostRuntime) {
     for (torn, left) in &LEFT {
         let seen = torn_by_a_stop::<MemDisk>(rt.alloc(), *torn, left);
         same_in_row(&rt, torn, seen, Some(([true; 4], 1, [true; 4])));
@@ -193,7 +196,7 @@ fn left_at_rest<S: Store + Drop>(alloc: Global, torn: Torn, image0: &[u8]) -> Op
 
 // What a crash leaves has no plan, and nothing that a second crash could tear.
 #[test]
-fn a_stop_leaves_a_disk_at_rest(rt: HostRuntime) {
+fn a_crash_leaves_a_disk_at_rest(rt: HostRuntime) {
     for (torn, [image0, ..]) in &LEFT {
         let seen = left_at_rest::<MemDisk>(rt.alloc(), *torn, image0);
         let counts = (image0.len() as u64, 0);
@@ -201,9 +204,9 @@ fn a_stop_leaves_a_disk_at_rest(rt: HostRuntime) {
     }
 }
 
-static AB: [Step; 1] = [Step::Write(Slot::Image0, 0, b"ab")];
+static AB: [DeviceStep; 1] = [DeviceStep::Write(Slot::Image0, 0, b"ab")];
 
-static A: [Step; 1] = [Step::Write(Slot::Image0, 0, b"A")];
+static A: [DeviceStep; 1] = [DeviceStep::Write(Slot::Image0, 0, b"A")];
 
 // The answers of a sync, a truncation, a write and a read.
 type Answers = (
@@ -247,7 +250,7 @@ fn stopped_and_asked<S: Store + Drop>(alloc: Global) -> Option<(Stopped, bool)> 
 }
 
 #[test]
-fn a_plan_stops_all_later_calls(rt: HostRuntime) {
+fn a_plan_crashes_all_later_calls(rt: HostRuntime) {
     let seen = stopped_and_asked::<MemDisk>(rt.alloc());
     let answers = (Err(DiskFault), [Some(Err(DiskFault)); 2], Err(DiskFault));
     let asked = ([Some(()); 2], answers, (2, 4), true);
@@ -322,12 +325,12 @@ impl<'a> Folder for CountedFiles<'a> {
     }
 }
 
-static SEGMENT_STEPS: [Step; 5] = [
-    Step::Write(Slot::Segment0, 0, b"abcdef"),
-    Step::Write(Slot::Segment0, 2, b"CD"),
-    Step::Sync(Slot::Segment0),
-    Step::Cut(Slot::Segment0, 5),
-    Step::Sync(Slot::Segment0),
+static SEGMENT_STEPS: [DeviceStep; 5] = [
+    DeviceStep::Write(Slot::Segment0, 0, b"abcdef"),
+    DeviceStep::Write(Slot::Segment0, 2, b"CD"),
+    DeviceStep::Sync(Slot::Segment0),
+    DeviceStep::Cut(Slot::Segment0, 5),
+    DeviceStep::Sync(Slot::Segment0),
 ];
 
 // Writes to a folder's files, and returns the counts of the segment 0.
@@ -474,37 +477,40 @@ fn counted_at<'a>(files: &'a HostRuntime, folder: &'a str, syncs: &'a Syncs) -> 
 }
 
 // How many times files and their folder were synced after these steps.
-fn syncs_behind<D: Disk>(disk: &mut D, syncs: &Syncs, steps: &[Step]) -> Option<(u32, u32)> {
+fn syncs_after<D: Disk>(disk: &mut D, syncs: &Syncs, steps: &[DeviceStep]) -> Option<(u32, u32)> {
     take(disk, steps)?;
     Some(syncs.counts())
 }
 
-static UNSYNCED: [Step; 1] = [Step::Write(Slot::Segment0, 0, b"ab")];
+static UNSYNCED: [DeviceStep; 1] = [DeviceStep::Write(Slot::Segment0, 0, b"ab")];
 
-static UNCHANGED: [Step; 1] = [Step::Sync(Slot::Segment0)];
+static UNCHANGED: [DeviceStep; 1] = [DeviceStep::Sync(Slot::Segment0)];
 
-static FIRST: [Step; 2] = [
-    Step::Write(Slot::Segment0, 0, b"ab"),
-    Step::Sync(Slot::Segment0),
+static FIRST: [DeviceStep; 2] = [
+    DeviceStep::Write(Slot::Segment0, 0, b"ab"),
+    DeviceStep::Sync(Slot::Segment0),
 ];
 
-static SECOND: [Step; 2] = [
-    Step::Write(Slot::Segment0, 1, b"B"),
-    Step::Sync(Slot::Segment0),
+static SECOND: [DeviceStep; 2] = [
+    DeviceStep::Write(Slot::Segment0, 1, b"B"),
+    DeviceStep::Sync(Slot::Segment0),
 ];
 
-static CUT: [Step; 2] = [Step::Cut(Slot::Image0, 0), Step::Sync(Slot::Image0)];
+static CUT: [DeviceStep; 2] = [
+    DeviceStep::Cut(Slot::Image0, 0),
+    DeviceStep::Sync(Slot::Image0),
+];
 
 // The same after each sync of a slot: one without a file, a new one, one that was written again, one that wasn't, and
 // another new one.
 fn count_syncs<F: Folder>(folder: &F, syncs: &Syncs) -> Option<[Option<(u32, u32)>; 5]> {
     let mut disk = folder.files().ok()?;
     Some([
-        syncs_behind(&mut disk, syncs, &UNCHANGED),
-        syncs_behind(&mut disk, syncs, &FIRST),
-        syncs_behind(&mut disk, syncs, &SECOND),
-        syncs_behind(&mut disk, syncs, &UNCHANGED),
-        syncs_behind(&mut disk, syncs, &CUT),
+        syncs_after(&mut disk, syncs, &UNCHANGED),
+        syncs_after(&mut disk, syncs, &FIRST),
+        syncs_after(&mut disk, syncs, &SECOND),
+        syncs_after(&mut disk, syncs, &UNCHANGED),
+        syncs_after(&mut disk, syncs, &CUT),
     ])
 }
 

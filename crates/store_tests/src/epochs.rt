@@ -198,7 +198,7 @@ fn stopped<S: Store + Drop>(
 
 // Whatever a crash within the opening leaves, the next one returns the state with both records, in epoch 1.
 #[test]
-fn stops_while_a_checkpoint_is_finished(rt: HostRuntime) {
+fn crashes_while_a_checkpoint_is_finished(rt: HostRuntime) {
     for torn in &TORN {
         for stop_at in 1..CALLS + 2 {
             let fault = if stop_at <= CALLS {

@@ -1,7 +1,7 @@
 //! A stored record and the segment that stores it. The functions here have no contract, so that a test's proof doesn't
 //! carry it along.
 ghost use Rattle.std.specs.Prelude.{◌<◌, ◌^◌, length};
-ghost use Rattle.ipc_model.specs.texts.Texts.{call_text, reply_text};
+ghost use Rattle.ipc_model.specs.encodings.Encodings.{call_encoding, reply_encoding};
 
 use disk::Disk;
 use ipc_model::{Call, Record, Reply};
@@ -21,10 +21,10 @@ pub(crate) static SEGMENT: [u8; 70] = [
 pub(crate) static NEW_SEGMENT: [u8; 17] = [0x5a, 1, 0, 0, 0, 0, 0, 0, 0, 0, 0, 0, 0, 0, 0, 0, 0];
 
 /// The allocation of a name, done.
-#[tactic(auto, unfolding(ipc_model::specs::texts::Texts::call_text, ipc_model::specs::texts::Texts::reply_text))]
+#[tactic(auto, unfolding(ipc_model::specs::encodings::Texts::call_encoding, ipc_model::specs::encodings::Texts::reply_encoding))]
 fn allocation(name: u32) -> Record
-    ensures call { length (call_text result.call) < 2 ^ 32 }
-    ensures reply { length (reply_text result.reply) < 2 ^ 32 }
+    ensures call { length (call_encoding result.call) < 2 ^ 32 }
+    ensures reply { length (reply_encoding result.reply) < 2 ^ 32 }
 {
     Record {
         space: 1,
@@ -44,12 +44,12 @@ fn add_allocation(
         return Err(StoreFault::Full);
     }
     let [low, ..] = number.to_le_bytes();
-    let mut text = Vec::new(alloc);
+    let mut encoding = Vec::new(alloc);
     let record = allocation(0x100 + u32::from(first) + u32::from(low));
-    let pushed = push_record(alloc, &mut text, number, &record);
+    let pushed = push_record(alloc, &mut encoding, number, &record);
     drop(record);
     pushed?;
-    batch.add(&text)?;
+    batch.add(&encoding)?;
     Ok(())
 }
 

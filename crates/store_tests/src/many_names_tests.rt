@@ -11,7 +11,7 @@ const SPACES: u32 = 16;
 fn hand_out(spaces: &mut Spaces, space: u32) -> Option<u32> {
     let name = spaces.free_name(space);
     hold(spaces, space, name, 7, None)?;
-    spaces.keep();
+    spaces.commit();
     Some(name)
 }
 

@@ -9,7 +9,7 @@ fn fill(ports: &mut Ports) -> Option<u64> {
     for _port in 0..MAX_PORTS {
         add_port(ports)?;
     }
-    ports.keep();
+    ports.commit();
     Some(first)
 }
 
@@ -18,7 +18,7 @@ fn bury_all(ports: &mut Ports, first: u64) -> Option<()> {
     for port in 0..MAX_PORTS as u64 {
         ports.bury(first.wrapping_add(port)).ok()?;
     }
-    ports.keep();
+    ports.commit();
     Some(())
 }
 

@@ -9,7 +9,7 @@ fn count(counts: &mut PairCounts) -> Option<()> {
     for (first, second) in &COUNTED {
         counts.add(*first, *second).ok()?;
     }
-    counts.keep();
+    counts.commit();
     Some(())
 }
 
@@ -35,10 +35,10 @@ fn changed(counts: &mut PairCounts) -> ([Option<()>; 6], [OfFive; 5]) {
     let ([fewer_of_9, none_of_7], fewer) = count_fewer(counts);
     let none_of_9 = counts.subtract(5, 9).ok();
     let none = of_five(counts);
-    counts.give_up();
+    counts.roll_back();
     let again = of_five(counts);
     let ([fewer_again, none_again], _) = count_fewer(counts);
-    counts.keep();
+    counts.commit();
     (
         [
             counted,
@@ -53,7 +53,7 @@ fn changed(counts: &mut PairCounts) -> ([Option<()>; 6], [OfFive; 5]) {
 }
 
 #[test]
-fn counts_change_and_are_given_up(rt: HostRuntime) {
+fn counts_change_and_are_rolled_back(rt: HostRuntime) {
     let mut counts = PairCounts::new(rt.alloc());
     let seen = changed(&mut counts);
     drop(counts);

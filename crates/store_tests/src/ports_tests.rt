@@ -65,7 +65,7 @@ fn fill(alloc: Global, ports: &mut Ports) -> [Option<()>; 6] {
         send(alloc, ports, 2, RightKind::Receive, 3).ok(),
         request(ports),
     ];
-    ports.keep();
+    ports.commit();
     filled
 }
 
@@ -127,10 +127,10 @@ fn buried(alloc: Global, ports: &mut Ports) -> (Done, [Picture; 5]) {
     let without_1 = seen(ports);
     let second_died = ports.bury(2).ok();
     let without_2 = seen(ports);
-    ports.give_up();
+    ports.roll_back();
     let given_up = seen(ports);
     let died_again = ports.bury(1).ok();
-    ports.keep();
+    ports.commit();
     (
         (filled, [first_died, second_died, died_again]),
         [first, without_1, without_2, given_up, seen(ports)],
@@ -174,10 +174,10 @@ fn taken(alloc: Global, ports: &mut Ports) -> (Done, [Picture; 4]) {
     let without_first = seen(ports);
     let second_taken = ports.take(2).ok();
     let without_both = seen(ports);
-    ports.give_up();
+    ports.roll_back();
     let given_up = seen(ports);
     let taken_again = ports.take(2).ok();
-    ports.keep();
+    ports.commit();
     (
         (filled, [first_taken, second_taken, taken_again]),
         [without_first, without_both, given_up, seen(ports)],

@@ -8,7 +8,7 @@ fn fill(alloc: Global, queue: &mut Queue, ids: &[u32]) -> Option<()> {
     for id in ids {
         queue.push_forced(empty(alloc, *id)).ok()?;
     }
-    queue.keep();
+    queue.commit();
     Some(())
 }
 
@@ -61,15 +61,15 @@ fn changed(alloc: Global, queue: &mut Queue) -> ([Option<()>; 3], [Ids; 3]) {
     let filled = fill(alloc, queue, &[1, 2]);
     let pushed = take_and_push(alloc, queue);
     let now = ids(queue);
-    queue.give_up();
+    queue.roll_back();
     let given_up = ids(queue);
     let pushed_again = take_and_push(alloc, queue);
-    queue.keep();
+    queue.commit();
     ([filled, pushed, pushed_again], [now, given_up, ids(queue)])
 }
 
 #[test]
-fn changes_are_kept_or_given_up(rt: HostRuntime) {
+fn changes_are_committed_or_rolled_back(rt: HostRuntime) {
     let mut queue = Queue::new(rt.alloc());
     let seen = changed(rt.alloc(), &mut queue);
     drop(queue);

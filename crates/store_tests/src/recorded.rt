@@ -50,7 +50,7 @@ fn tried<M: Machine>(machine: &mut M, call: &Call) -> (bool, Option<Words>, u32)
 }
 
 /// The same for a call in a state with one port.
-fn tried_beside_one_port<M: Machine + Drop>(
+fn tried_alongside_one_port<M: Machine + Drop>(
     alloc: Global,
     asked: Asked,
 ) -> Option<(bool, Option<Words>, u32)> {
@@ -69,9 +69,9 @@ static RECORDED: [(Asked, Words); 2] = [
 ];
 
 #[test]
-fn a_step_without_its_record_is_given_up(rt: HostRuntime) {
+fn a_step_without_its_record_is_rolled_back(rt: HostRuntime) {
     for (asked, words) in &RECORDED {
-        let found = tried_beside_one_port::<Kernel>(rt.alloc(), *asked);
+        let found = tried_alongside_one_port::<Kernel>(rt.alloc(), *asked);
         same(&rt, found, Some((true, Some(*words), 1)));
     }
 }

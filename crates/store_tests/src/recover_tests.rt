@@ -78,7 +78,7 @@ fn a_new_store_is_made(rt: HostRuntime) {
 }
 
 // What opening a store returns if its image or segment has another byte at a place.
-fn bent<S: Store + Drop>(alloc: Global, is_image: bool, at: usize, byte: u8) -> Option<Found> {
+fn corrupted<S: Store + Drop>(alloc: Global, is_image: bool, at: usize, byte: u8) -> Option<Found> {
     let mut image0 = IMAGE;
     let mut segment0 = SEGMENT;
     let is_set = if is_image {
@@ -94,7 +94,7 @@ const DAMAGED: Found = Err(StoreFault::Damaged);
 
 const VERSION: Found = Err(StoreFault::Version);
 
-static BENT: [(bool, usize, u8, Found); 8] = [
+static CORRUPTED: [(bool, usize, u8, Found); 8] = [
     (true, 0, 0, DAMAGED),
     (true, 1, 9, VERSION),
     (true, 2, 1, DAMAGED),
@@ -106,9 +106,9 @@ static BENT: [(bool, usize, u8, Found); 8] = [
 ];
 
 #[test]
-fn bent_bytes(rt: HostRuntime) {
-    for (is_image, at, byte, found) in &BENT {
-        let seen = bent::<MemDisk>(rt.alloc(), *is_image, *at, *byte);
+fn corrupted_bytes(rt: HostRuntime) {
+    for (is_image, at, byte, found) in &CORRUPTED {
+        let seen = corrupted::<MemDisk>(rt.alloc(), *is_image, *at, *byte);
         same_in_row(&rt, (*byte, *at), seen, Some(*found));
     }
 }
@@ -176,7 +176,7 @@ static OTHER: [u8; 70] = [
 type Second = (usize, usize, bool, Found);
 
 // What opening a store with a stored record returns if the second slots have these.
-fn beside<S: Store + Drop>(alloc: Global, row: &Second) -> Option<Found> {
+fn alongside<S: Store + Drop>(alloc: Global, row: &Second) -> Option<Found> {
     let (image1, segment1, is_other, _) = *row;
     let segment = if is_other { &OTHER } else { &SEGMENT };
     let (image1, segment1) = (IMAGE.get(..image1)?, segment.get(..segment1)?);
@@ -195,7 +195,7 @@ static SECOND: [Second; 5] = [
 #[test]
 fn second_slots(rt: HostRuntime) {
     for row in &SECOND {
-        same_in_row(&rt, row, beside::<MemDisk>(rt.alloc(), row), Some(row.3));
+        same_in_row(&rt, row, alongside::<MemDisk>(rt.alloc(), row), Some(row.3));
     }
 }
 
@@ -217,7 +217,7 @@ static GATES: [(Torn, bool); 5] = [
 ];
 
 #[test]
-fn stops_within_an_append(rt: HostRuntime) {
+fn crashes_within_an_append(rt: HostRuntime) {
     for (torn, opens) in &GATES {
         for stop_at in 1..6u64 {
             let is_stored = stop_at == 5 || stop_at >= 3 && *opens;
@@ -282,9 +282,9 @@ fn batches_of(alloc: Global, batches: u8) -> Result<Vec<u8>, AllocError> {
 }
 
 fn disk_of<S: Store + Drop>(alloc: Global, store: &Described) -> Option<S> {
-    let (has_image, batches, length, _, _) = *store;
+    let (show_image, batches, length, _, _) = *store;
     let segment = batches_of(alloc, batches).ok()?;
-    let image: &[u8] = if has_image { &IMAGE } else { &[] };
+    let image: &[u8] = if show_image { &IMAGE } else { &[] };
     disk_with(alloc, image, segment.get(..length).unwrap_or(&segment))
 }
 
@@ -302,7 +302,7 @@ fn stopped_opening<S: Store + Drop>(
 }
 
 #[test]
-fn stops_within_an_opening(rt: HostRuntime) {
+fn crashes_within_an_opening(rt: HostRuntime) {
     for store in &STORES {
         for torn in &TORN {
             for stop_at in 1..store.3 + 2 {
@@ -325,7 +325,7 @@ fn is_promised(store: &Described, torn: Torn, found: Found) -> bool {
 }
 
 #[test]
-fn stops_within_the_opening_of_a_foreign_segment(rt: HostRuntime) {
+fn crashes_within_the_opening_of_a_foreign_segment(rt: HostRuntime) {
     for store in &FOREIGN {
         for torn in &TORN {
             for stop_at in 1..store.3 + 2 {

@@ -135,19 +135,19 @@ fn bytes_of(alloc: Global, bytes: &[u8]) -> Option<Sequence<u8>> {
 
 /// A send to a port of the set, 0x100 or the one after it, by a send right made for it, with id 7.
 fn send(alloc: Global, port: u8) -> Option<Call> {
-    let text = [
+    let encoding = [
         0x14, 0, 0, 0, 0, 0, 0, 0, port, 1, 0, 0, 0, 0, 0, 0, 0, 0, 0, 0, 7, 0, 0, 0,
     ];
-    let message = bytes_of(alloc, &text)?;
+    let message = bytes_of(alloc, &encoding)?;
     Some(Call::Send { message })
 }
 
 /// The record of a receive from the set that took that port's message.
 fn received(alloc: Global, port: u8) -> Option<Record> {
-    let text = [
+    let encoding = [
         0, 0x11, 0, 0, 24, 0, 0, 0, 0, 0, 0, 0, port, 1, 0, 0, 0, 0, 0, 0, 7, 0, 0, 0,
     ];
-    let message = bytes_of(alloc, &text)?;
+    let message = bytes_of(alloc, &encoding)?;
     Some(Record {
         space: 1,
         call: Asked::Receive(0x102, false).call(),
@@ -180,7 +180,7 @@ fn with_set<M: Machine + Drop>(alloc: Global) -> Option<M> {
 }
 
 /// The fault if the record of a receive from that port is replayed.
-fn fault_of_receipt<M: Machine + Drop>(alloc: Global, port: u8) -> Found {
+fn fault_of_receive<M: Machine + Drop>(alloc: Global, port: u8) -> Found {
     let record = received(alloc, port)?;
     let found = fault_of(with_set::<M>(alloc), &record);
     drop(record);
@@ -188,11 +188,11 @@ fn fault_of_receipt<M: Machine + Drop>(alloc: Global, port: u8) -> Found {
 }
 
 #[test]
-fn a_receipt_is_replayed_from_its_member(rt: HostRuntime) {
+fn a_receive_is_replayed_from_its_member(rt: HostRuntime) {
     let found = [
-        fault_of_receipt::<Kernel>(rt.alloc(), 0),
-        fault_of_receipt::<Kernel>(rt.alloc(), 1),
-        fault_of_receipt::<Kernel>(rt.alloc(), 2),
+        fault_of_receive::<Kernel>(rt.alloc(), 0),
+        fault_of_receive::<Kernel>(rt.alloc(), 1),
+        fault_of_receive::<Kernel>(rt.alloc(), 2),
     ];
     same(&rt, found, [DONE, DONE, MISMATCH]);
 }

@@ -15,7 +15,7 @@ fn fill(spaces: &mut Spaces) -> [Option<()>; 5] {
         hold_once(spaces, 2, 0x102, 7, Some(9)),
         hold(spaces, 1, 0x103, 7, Some(8)),
     ];
-    spaces.keep();
+    spaces.commit();
     filled
 }
 
@@ -59,10 +59,10 @@ fn renamed(alloc: Global, spaces: &mut Spaces) -> Renamed {
     let first = names(alloc, spaces);
     let changed = rename_and_remove(spaces);
     let now = names(alloc, spaces);
-    spaces.give_up();
+    spaces.roll_back();
     let given_up = names(alloc, spaces);
     let changed_again = rename_and_remove(spaces);
-    spaces.keep();
+    spaces.commit();
     (
         filled,
         [changed, changed_again],
@@ -155,7 +155,7 @@ fn buried(alloc: Global, spaces: &mut Spaces) -> ([Option<()>; 5], [Option<()>; 
     let without_7 = held(spaces);
     let removed = spaces.remove(2).ok();
     let without_space = held(spaces);
-    spaces.give_up();
+    spaces.roll_back();
     (
         filled,
         [first_died, second_died, removed],

@@ -112,7 +112,7 @@ impl Store for MemDisk {
     }
 
     fn stop(self) -> Option<MemDisk> {
-        self.after_stop().ok()
+        self.after_crash().ok()
     }
 
     fn bytes(&self, slot: Slot) -> &[u8] {

@@ -21,7 +21,7 @@ static IMAGE_TO_NAME: [u8; 28] = [
 ];
 
 // The same encoding after that byte.
-static IMAGE_BEHIND_NAME: [u8; 73] = [
+static IMAGE_AFTER_NAME: [u8; 73] = [
     1, 0, 0, // the rest of the name
     1, 1, 0, 0, 0, 0, 0, 0, 0, // rights to port 1:
     1, 0, 0, 0, 0, // the receive right, no send rights
@@ -42,7 +42,7 @@ static BATCH_TO_NAME: [u8; 37] = [
 ];
 
 // The same batch after that byte, and a closed gate.
-static BATCH_BEHIND_NAME: [u8; 16] = [
+static BATCH_AFTER_NAME: [u8; 16] = [
     1, 0, 0, // the rest of the name
     8, 0, 0, 0, 4, 0, 0, 0, 0, 0, 0, 0, // the reply: done
     0, // closed gate
@@ -69,7 +69,7 @@ pub(crate) fn image_of_none(alloc: Global, epoch: u64) -> Result<Vec<u8>, AllocE
 pub(crate) fn image_of_name(alloc: Global, epoch: u64, name: u8) -> Result<Vec<u8>, AllocError> {
     let mut slot = opened_slot(alloc, epoch, &IMAGE_TO_NAME)?;
     slot.push(name)?;
-    slot.extend_from_slice(&IMAGE_BEHIND_NAME)?;
+    slot.extend_from_slice(&IMAGE_AFTER_NAME)?;
     Ok(slot)
 }
 
@@ -77,6 +77,6 @@ pub(crate) fn image_of_name(alloc: Global, epoch: u64, name: u8) -> Result<Vec<u
 pub(crate) fn segment_of_name(alloc: Global, epoch: u64, name: u8) -> Result<Vec<u8>, AllocError> {
     let mut segment = opened_slot(alloc, epoch, &BATCH_TO_NAME)?;
     segment.push(name)?;
-    segment.extend_from_slice(&BATCH_BEHIND_NAME)?;
+    segment.extend_from_slice(&BATCH_AFTER_NAME)?;
     Ok(segment)
 }

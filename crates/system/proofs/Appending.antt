@@ -10,16 +10,16 @@ use Rattle.ipc_model.specs.state.State.{State}
 use Rattle.ipc_model.specs.store.Store.{IsMidAppend}
 use Rattle.ipc_model.specs.store.Faults as fault
 use Rattle.ipc_model.specs.world.World as world
-use Rattle.ipc_model.specs.world.World.{World, CanAppend, IsSegmentOpen, after_append, of_append, told}
+use Rattle.ipc_model.specs.world.World.{World, CanAppend, IsSegmentOpen, after_append, of_append, acknowledged}
 use Rattle.journal.specs.Batch.{Holds, content_of}
 use Rattle.journal.specs.declared.segment.Segment.{Segment}
-use Rattle.phases.specs.Batches.{IsReadyBatch, with_more}
-use Rattle.phases.specs.Phases.{Keeps}
-use Rattle.phases.proofs.Appends.{append_keeps, append_mid, kept_synced}
-use Rattle.phases.proofs.Passed.{run_join}
+use Rattle.checkpoint_phases.specs.Batches.{IsReadyBatch, with_more}
+use Rattle.checkpoint_phases.specs.Phases.{Keeps}
+use Rattle.checkpoint_phases.proofs.Appends.{append_keeps, append_mid, kept_synced}
+use Rattle.checkpoint_phases.proofs.Passed.{run_join}
 use Rattle.slot_steps.proofs.Moments.{passes_as}
 use Rattle.slot_steps.specs.Steps.{segment_slot}
-use Rattle.storing.specs.Values.{CheckpointValue, StoreValue}
+use Rattle.store_half.specs.Values.{CheckpointValue, StoreValue}
 use Rattle.system.specs.Changes.{CannotAppend, FailsToStore, FindsFull, Stores}
 use Rattle.system.specs.Core.{BatchBetween, Between, Checkpoints, HasPlace, IsBeforeEpoch, IsInEpoch, IsInUse, KeepsStored, StandsFor, StandsFrom, SystemValue, in_turn}
 use Rattle.system.specs.Halves.{TakenValue}
@@ -95,7 +95,7 @@ module _ {D : Type 0} (honest : Type 0) (view : D → View) (base : State) where
             receipt = found.1;
             is_out = found.2;
             holds = subst (λ (n : ℕ). Holds n records taken.batch) (sym now.0.counted) placed.2;
-            room = omega (arith, now.0.counted, placed.0, out.some, within, stands.counts.row_is, stands.counts.room (omega (arith, placed.0, out.some, within)));
+            room = omega (arith, now.0.counted, placed.0, out.some, within, stands.counts.log_is, stands.counts.room (omega (arith, placed.0, out.some, within)));
             within = within;
             can = can_of (open_of w w.checkpoint old.store.checkpoint old.finished old.core.is_cut taken.epoch stands.checkpoint (λ c is. inl (now.1 c is)));
             next = in_epoch_more w.epoch w.opened w.earlier (w.stored + out.size) stands.older (with_more segment out.size) old.store.checkpoint (record { epoch_is = now.0.epoch_is; whole = omega (arith, now.0.whole); counted = omega (arith, now.0.counted, now.0.whole) }) now.1;
@@ -116,7 +116,7 @@ module _ {D : Type 0} (honest : Type 0) (view : D → View) (base : State) where
               counted = omega (arith, was.2.counted);
               none_opened = was.2.none_opened;
               rolled = was.2.rolled;
-              row = was.2.row;
+              log = was.2.log;
             }));
           }
           | inr placed ↦ absurd (omega (arith, placed.1, in_use, was.2.epoch_is))
@@ -185,7 +185,7 @@ module _ {D : Type 0} (honest : Type 0) (view : D → View) (base : State) where
         counts = record {
           earlier_within = stands.counts.earlier_within;
           taken_within = stands.counts.taken_within;
-          row_is = stands.counts.row_is;
+          log_is = stands.counts.log_is;
           room = stands.counts.room;
           older_within = λ less. omega (arith, less, stands.counts.older_within (omega (arith, less)));
           older_room = λ less. stands.counts.older_room (omega (arith, less));
@@ -220,7 +220,7 @@ module _ {D : Type 0} (honest : Type 0) (view : D → View) (base : State) where
         stands = subst (StandsFor honest view base w2) (sym stores.rest) stands2;
         passes = λ is_honest.
             let kept = stands.kept is_honest unfailed in
-            passes_as (view old.store.disk) (view new.store.disk) _ (StandsFrom base (told w) w2) (stores.passes is_honest (synced w old kept)) (λ c mid. from_told honest view base w old stands c (during w old taken stands is kept c mid));
+            passes_as (view old.store.disk) (view new.store.disk) _ (StandsFrom base (acknowledged w) w2) (stores.passes is_honest (synced w old kept)) (λ c mid. from_told honest view base w old stands c (during w old taken stands is kept c mid));
       }
 
   pub shows_append_fails : (w : World) (old new : SystemValue D) → StandsFor honest view base w old → FailsToStore honest view old new → Shows honest view base w world.append (world.store fault.device) old new

@@ -6,24 +6,24 @@ use Rattle.ipc_laws.specs.StepsKeep.{one_run}
 use Rattle.ipc_model.specs.calls.Step.{Run}
 use Rattle.ipc_model.specs.declared.record.Record.{Record}
 use Rattle.ipc_model.specs.state.State.{State}
-use Rattle.ipc_model.specs.texts.Images.{image_text}
+use Rattle.ipc_model.specs.encodings.Images.{image_encoding}
 use Rattle.ipc_model.specs.store.Recovery.{Recovered}
 use Rattle.ipc_model.specs.store.Faults as fault
 use Rattle.ipc_model.specs.world.World as world
-use Rattle.ipc_model.specs.world.World.{World, After, after_cut, of_finish, one_imaged, one_rolled, pieces_of, told}
+use Rattle.ipc_model.specs.world.World.{World, After, after_cut, of_finish, one_imaged, one_rolled, pieces_of, acknowledged}
 use Rattle.journal.specs.Batch.{Holds}
 use Rattle.journal.specs.declared.segment.Segment.{Segment}
-use Rattle.phases.specs.Phases.{Keeps}
-use Rattle.phases.proofs.Appends.{begin_keeps}
-use Rattle.phases.proofs.Images.{finish_fails, finish_keeps, finish_passes, image_close_fails, image_close_keeps, image_close_passes, piece_fails, piece_keeps, piece_passes}
-use Rattle.phases.proofs.Rolls.{roll_close_fails, roll_close_keeps, roll_close_passes, roll_head_fails, roll_head_keeps, roll_head_passes, roll_open_fails, roll_open_keeps, roll_open_passes}
+use Rattle.checkpoint_phases.specs.Phases.{Keeps}
+use Rattle.checkpoint_phases.proofs.Appends.{begin_keeps}
+use Rattle.checkpoint_phases.proofs.Images.{finish_fails, finish_keeps, finish_passes, image_close_fails, image_close_keeps, image_close_passes, piece_fails, piece_keeps, piece_passes}
+use Rattle.checkpoint_phases.proofs.Rolls.{roll_close_fails, roll_close_keeps, roll_close_passes, roll_head_fails, roll_head_keeps, roll_head_passes, roll_open_fails, roll_open_keeps, roll_open_passes}
 use Rattle.slot_steps.proofs.Moments.{passes_as}
-use Rattle.standing.specs.Standing.{as_written}
-use Rattle.storing.specs.Changes.{CanFinish, CanOpen, ClosesImage, FailsToCloseImage, FailsToFinish, FailsToRollClose, FailsToRollHead, FailsToRollOpen, FailsToWritePiece, HasImaged, HasPieceLeft, IsNotNow, IsRolled, RollsClose, RollsHead, RollsOpen, WritesPiece}
-use Rattle.storing.specs.Values.{CheckpointValue, CutValue, StoreValue, begun}
+use Rattle.store_layout.specs.Standing.{as_written}
+use Rattle.store_half.specs.Changes.{CanFinish, CanOpen, ClosesImage, FailsToCloseImage, FailsToFinish, FailsToRollClose, FailsToRollHead, FailsToRollOpen, FailsToWritePiece, HasImaged, HasPieceLeft, IsNotNow, IsRolled, RollsClose, RollsHead, RollsOpen, WritesPiece}
+use Rattle.store_half.specs.Values.{CheckpointValue, CutValue, StoreValue, begun}
 use Rattle.system.specs.Changes.{BeginsEpoch, FinishesImage}
 use Rattle.system.specs.Core.{Checkpoints, HasPlace, IsBeforeEpoch, IsFinishedCheckpoint, IsInEpoch, IsInUse, IsSameCheckpoint, KeepsStored, StandsFor, StandsFrom, SystemValue, in_turn}
-use Rattle.system.specs.Halves.{CanCut, Cuts, KernelValue, next_row}
+use Rattle.system.specs.Halves.{CanCut, Cuts, KernelValue, next_log}
 use Rattle.system.proofs.Between.{between_with, handed_within, one_finished_more, some_is}
 use Rattle.system.proofs.Lists.{take_end, take_long}
 use Rattle.system.proofs.Rows.{drop_past, fit_take, holds_as, holds_none}
@@ -128,8 +128,8 @@ module _ {D : Type 0} (honest : Type 0) (view : D → View) (base : State) where
     });
     passes = λ is_honest.
         let kept = stands.kept is_honest unfailed in
-        subst (λ (s : SystemValue D). Passes (view old.store.disk) (view s.store.disk) (StandsFrom base (told w) (record w { checkpoint = Some written }))) (sym rest)
-        (passes_as (view old.store.disk) (view store.disk) (λ c. Recovered (as_written c) kept.state) (StandsFrom base (told w) w) (passes kept is_honest)
+        subst (λ (s : SystemValue D). Passes (view old.store.disk) (view s.store.disk) (StandsFrom base (acknowledged w) (record w { checkpoint = Some written }))) (sym rest)
+        (passes_as (view old.store.disk) (view store.disk) (λ c. Recovered (as_written c) kept.state) (StandsFrom base (acknowledged w) w) (passes kept is_honest)
         (λ c recovered. from_told honest view base w old stands c (from_stored honest view base w old stands kept c recovered)));
   }
 
@@ -158,9 +158,9 @@ module _ {D : Type 0} (honest : Type 0) (view : D → View) (base : State) where
   working w old stands unfailed = sym stands.failed ∙ unfailed
 
   -- the segment in use, if the store's checkpoint is as far as it was
-  in_use_as : (w : World) (old : SystemValue D) (c d : CheckpointValue) (stands : StandsFor honest view base w old) → old.store.checkpoint ≡ Some c → d.row ≡ c.row → ((c.rolled < 3 → d.rolled < 3) × (c.rolled ≡ 3 → d.rolled ≡ 3))
+  in_use_as : (w : World) (old : SystemValue D) (c d : CheckpointValue) (stands : StandsFor honest view base w old) → old.store.checkpoint ≡ Some c → d.log ≡ c.log → ((c.rolled < 3 → d.rolled < 3) × (c.rolled ≡ 3 → d.rolled ≡ 3))
       → IsInUse w.epoch w.opened w.earlier w.stored stands.older old.store.segment (Some d)
-  in_use_as w old c d stands there row rolled =
+  in_use_as w old c d stands there log rolled =
       elim (subst (IsInUse w.epoch w.opened w.earlier w.stored stands.older old.store.segment) there stands.in_use) as (λ _. IsInUse w.epoch w.opened w.earlier w.stored stands.older old.store.segment (Some d)) [
         | inl now ↦ inl (now.0, rolled.1 now.1)
         | inr was ↦ inr (record {
@@ -169,7 +169,7 @@ module _ {D : Type 0} (honest : Type 0) (view : D → View) (base : State) where
           counted = was.counted;
           none_opened = was.none_opened;
           rolled = rolled.0 was.rolled;
-          row = row ∙ was.row;
+          log = log ∙ was.log;
         })
       ]
 
@@ -256,7 +256,7 @@ module _ {D : Type 0} (honest : Type 0) (view : D → View) (base : State) where
   -- then the state of what is stored is the checkpoint's
   cut_state : (w : World) (old : SystemValue D) → StandsFor honest view base w old → (kept : KeepsStored view old.store base old.core.kernel w.stored w.earlier w.applied) → w.stored ≡ w.earlier → kept.state ≡ kept.mid
   cut_state w old stands kept same =
-      one_run base (take w.earlier w.applied) kept.state kept.mid (fit_take w.earlier w.applied stands.applied.fit) stands.applied.lawful stands.applied.grounded
+      one_run base (take w.earlier w.applied) kept.state kept.mid (fit_take w.earlier w.applied stands.applied.fit) stands.applied.lawful stands.applied.acyclic
       (subst (λ (n : ℕ). Run base (take n w.applied) kept.state) same kept.before) kept.cut
 
   pub shows_roll_open : (w : World) (old new : SystemValue D) → StandsFor honest view base w old → RollsOpen honest view old.store new.store → new ≡ record old { store = new.store } → Shows honest view base w world.roll_open world.done old new
@@ -265,7 +265,7 @@ module _ {D : Type 0} (honest : Type 0) (view : D → View) (base : State) where
       let d : CheckpointValue = record c { rolled = 3 } in
       let segment : Segment = record { epoch = c.epoch; records = 0 } in
       let was = before_open w old c stands rolls.under_way rolls.next in
-      let all : w.stored ≡ w.earlier = omega (arith, was.counted, was.within, was.row, rolls.whole) in
+      let all : w.stored ≡ w.earlier = omega (arith, was.counted, was.within, was.log, rolls.whole) in
       let found = under w old c stands rolls.under_way in
       step_done w world.roll_open old new c d segment roll stands rolls.under_way rolls.unfailed
       (λ v is same. (
@@ -372,7 +372,7 @@ module _ {D : Type 0} (honest : Type 0) (view : D → View) (base : State) where
         });
         passes = λ is_honest.
             let kept = stands.kept is_honest unfailed in
-            passes_as (view old.store.disk) (view new.store.disk) (λ c. Recovered (as_written c) kept.state) (StandsFrom base (told w) w2) (finish_passes honest view is_honest old.store new.store kept.mid kept.state kept.kept done)
+            passes_as (view old.store.disk) (view new.store.disk) (λ c. Recovered (as_written c) kept.state) (StandsFrom base (acknowledged w) w2) (finish_passes honest view is_honest old.store new.store kept.mid kept.state kept.kept done)
             (λ c recovered. from_told honest view base w old stands c (from_stored honest view base w old stands kept c recovered));
       }
 
@@ -399,7 +399,7 @@ module _ {D : Type 0} (honest : Type 0) (view : D → View) (base : State) where
       let found = under w old f.checkpoint stands f.under_way in
       let unfailed = working w old stands f.unfailed in
       let was = before_open w old f.checkpoint stands f.under_way f.next in
-      let all : w.stored ≡ w.earlier = omega (arith, was.counted, was.within, was.row, f.whole) in
+      let all : w.stored ≡ w.earlier = omega (arith, was.counted, was.within, was.log, f.whole) in
       fails w world.roll_open old new stands unfailed
       (unfailed_first w.failed unfailed, (subst (λ (o : Option world.Checkpoint). world.IsRolled o 2) (sym found.1) (sym found.2.rolled ∙ f.next), omega (arith, all)), (refl, refl)) (failed_rest old new rest f.rest)
       (λ kept is_honest. roll_open_fails honest view is_honest old.store new.store kept.mid kept.state kept.kept (cut_state w old stands kept all) f)
@@ -453,7 +453,7 @@ module _ {D : Type 0} (honest : Type 0) (view : D → View) (base : State) where
   can_open w old (Some c) stands is possible =
       let rolled : c.rolled ≡ 2 = rolled_back w.epoch w.checkpoint (Some c) old.finished old.core.is_cut 2 (omega arith) (subst (λ (c : Option CheckpointValue). Checkpoints w.epoch w.checkpoint c old.finished old.core.is_cut) is stands.checkpoint) possible.0 in
       let was = before_open w old c stands is rolled in
-      (rolled, omega (arith, was.counted, was.within, was.row, possible.1))
+      (rolled, omega (arith, was.counted, was.within, was.log, possible.1))
 
   pub shows_no_roll_open : (w : World) (old new : SystemValue D) → StandsFor honest view base w old → IsNotNow old.store (CanOpen old.store old.store.checkpoint) new.store → new ≡ record old { store = new.store } → Shows honest view base w world.roll_open world.not_now old new
   shows_no_roll_open w old new stands =
@@ -498,7 +498,7 @@ module _ {D : Type 0} (honest : Type 0) (view : D → View) (base : State) where
 
   -- a core that has begun the next epoch
   abbrev cut_core : KernelValue → KernelValue
-  cut_core core = record core { epoch = core.epoch + 1; older = core.row.waiting; row = next_row core.row; is_cut = true }
+  cut_core core = record core { epoch = core.epoch + 1; older = core.log.waiting; log = next_log core.log; is_cut = true }
 
   cut_stands : (w : World) (old : SystemValue D) (cut : CutValue) → StandsFor honest view base w old → Cuts old.core cut (cut_core old.core)
       → StandsFor honest view base (after_cut w old.core.kernel) (record old { core = cut_core old.core; store = record old.store { checkpoint = Some (begun cut) } })
@@ -507,50 +507,50 @@ module _ {D : Type 0} (honest : Type 0) (view : D → View) (base : State) where
       let now = in_epoch_now w old stands none.1 in
       let within = handed_within _ _ _ _ _ old.out old.receipt old.core.is_out stands.between in
       let n : ℕ = length w.applied in
-      let row : ℕ = old.core.row.length in
-      let row_is = stands.counts.row_is in
+      let log : ℕ = old.core.log.length in
+      let log_is = stands.counts.log_is in
       let last : max w.taken w.earlier ≡ w.taken = omega (arith, within.1, now.whole) in
       record {
         epoch = ap (λ (e : ℕ). e + 1) stands.epoch;
         applied = stands.applied;
         handed = stands.handed;
-        older = row;
+        older = log;
         counts = record {
           earlier_within = omega arith;
           taken_within = stands.counts.taken_within;
-          row_is = omega arith;
+          log_is = omega arith;
           room = λ some. absurd (omega (arith, some));
-          older_within = λ less. omega (arith, row_is, now.whole, stands.counts.earlier_within);
+          older_within = λ less. omega (arith, log_is, now.whole, stands.counts.earlier_within);
           older_room = λ less. stands.counts.room (omega (arith, less, now.whole));
         };
         waits = record {
-          before_is = holds_as (w.opened + (max w.taken w.earlier - w.earlier)) (row + w.taken - n) (drop (max w.taken w.earlier) w.applied) (drop w.taken (take n w.applied)) old.core.row.waiting
-              (omega (arith, row_is, now.whole, within.1, stands.counts.earlier_within, stands.counts.taken_within)) ((λ i. drop (last i) (sym (take_end w.applied) i))) stands.waits.row_is;
-          row_is = holds_none (0 + (max w.taken n - n)) (drop (max w.taken n) w.applied) (drop_past (max w.taken n) w.applied (omega arith));
+          before_is = holds_as (w.opened + (max w.taken w.earlier - w.earlier)) (log + w.taken - n) (drop (max w.taken w.earlier) w.applied) (drop w.taken (take n w.applied)) old.core.log.waiting
+              (omega (arith, log_is, now.whole, within.1, stands.counts.earlier_within, stands.counts.taken_within)) ((λ i. drop (last i) (sym (take_end w.applied) i))) stands.waits.log_is;
+          log_is = holds_none (0 + (max w.taken n - n)) (drop (max w.taken n) w.applied) (drop_past (max w.taken n) w.applied (omega arith));
         };
-        between = between_with _ _ _ _ _ (HasPlace (w.epoch + 1) 0 n w.stored row w.applied) (λ size out some until placed. elim placed as (λ _. HasPlace (w.epoch + 1) 0 n w.stored row w.applied size out) [
+        between = between_with _ _ _ _ _ (HasPlace (w.epoch + 1) 0 n w.stored log w.applied) (λ size out some until placed. elim placed as (λ _. HasPlace (w.epoch + 1) 0 n w.stored log w.applied size out) [
           | inl before ↦ absurd (omega (arith, before.0, now.whole, some))
           | inr mine ↦ inl (
             omega (arith, until, stands.counts.taken_within),
             ap (λ (e : ℕ). e + 1) mine.1,
-            subst (λ (k : ℕ). Holds k (take size (drop w.stored w.applied)) out.batch) (omega (arith, row_is, mine.0, stands.counts.earlier_within)) mine.2,
+            subst (λ (k : ℕ). Holds k (take size (drop w.stored w.applied)) out.batch) (omega (arith, log_is, mine.0, stands.counts.earlier_within)) mine.2,
           )
         ]) old.out old.receipt old.core.is_out stands.between;
         receipts = stands.receipts;
-        checkpoint = together (w.epoch + 1) (record { rolled = 0; imaged = 0; pieces = pieces_of (image_text old.core.kernel); finished = false }) (begun cut) old.finished true none.2 refl (record {
+        checkpoint = together (w.epoch + 1) (record { rolled = 0; imaged = 0; pieces = pieces_of (image_encoding old.core.kernel); finished = false }) (begun cut) old.finished true none.2 refl (record {
           epoch_is = cuts.epoch ∙ ap (λ (e : ℕ). e + 1) (sym stands.epoch);
           rolled = refl;
           imaged = refl;
-          pieces = ap pieces_of (sym cuts.image.text_is);
+          pieces = ap pieces_of (sym cuts.image.encoding_is);
           unfinished = refl;
         });
         in_use = inr (record {
           epoch_is = ap (λ (e : ℕ). e + 1) now.epoch_is;
           within = omega (arith, within.1, stands.counts.taken_within);
-          counted = omega (arith, now.counted, row_is, now.whole, stands.counts.earlier_within);
+          counted = omega (arith, now.counted, log_is, now.whole, stands.counts.earlier_within);
           none_opened = refl;
           rolled = omega arith;
-          row = cuts.row;
+          log = cuts.log;
         });
         tickets = stands.tickets;
         failed = stands.failed;

@@ -7,13 +7,13 @@ use Rattle.journal.specs.Batch.{empty_batch}
 use Rattle.journal.specs.declared.fault.StoreFault.{StoreFault}
 use Rattle.journal.specs.declared.fault.StoreFault.TheVariants.{Device, NoMemory}
 use Rattle.journal.specs.declared.segment.Segment.{Segment}
-use Rattle.phases.specs.Phases.{Keeps}
-use Rattle.phases.proofs.Appends.{begin_keeps}
-use Rattle.phases.proofs.Images.{finish_fails, finish_keeps, finish_passes, image_close_fails, image_close_keeps, image_close_passes, piece_fails, piece_keeps, piece_passes}
-use Rattle.phases.proofs.Rolls.{roll_close_fails, roll_close_keeps, roll_close_passes, roll_head_fails, roll_head_keeps, roll_head_passes, roll_open_fails, roll_open_keeps, roll_open_passes}
+use Rattle.checkpoint_phases.specs.Phases.{Keeps}
+use Rattle.checkpoint_phases.proofs.Appends.{begin_keeps}
+use Rattle.checkpoint_phases.proofs.Images.{finish_fails, finish_keeps, finish_passes, image_close_fails, image_close_keeps, image_close_passes, piece_fails, piece_keeps, piece_passes}
+use Rattle.checkpoint_phases.proofs.Rolls.{roll_close_fails, roll_close_keeps, roll_close_passes, roll_head_fails, roll_head_keeps, roll_head_passes, roll_open_fails, roll_open_keeps, roll_open_passes}
 use Rattle.slot_steps.proofs.Moments.{passes_then}
-use Rattle.storing.specs.Changes.{CanOpen, ClosesImage, FailsToCloseImage, FailsToFinish, FailsToRollClose, FailsToRollHead, FailsToRollOpen, FailsToWritePiece, Finishes, HasImaged, HasPieceLeft, IsFault, IsFaultOrShortage, IsNotNow, IsRolled, RollsClose, RollsHead, RollsOpen, WritesPiece}
-use Rattle.storing.specs.Values.{CheckpointValue, StoreValue, begun}
+use Rattle.store_half.specs.Changes.{CanOpen, ClosesImage, FailsToCloseImage, FailsToFinish, FailsToRollClose, FailsToRollHead, FailsToRollOpen, FailsToWritePiece, Finishes, HasImaged, HasPieceLeft, IsFault, IsFaultOrShortage, IsNotNow, IsRolled, RollsClose, RollsHead, RollsOpen, WritesPiece}
+use Rattle.store_half.specs.Values.{CheckpointValue, StoreValue, begun}
 use Rattle.system.specs.Calling.{IsResting}
 use Rattle.system.specs.Changes.{BeginsEpoch, FinishesImage, HandsIn}
 use Rattle.system.specs.Core.{SystemValue}
@@ -131,8 +131,8 @@ module _ {D : Type 0} (honest : Type 0) (view : D → View) where
   head_done false s0 s1 s2 closed none = absurd (none.1 (head_next s0 s1 closed))
 
   -- a checkpoint whose header is written is the one that was begun
-  row_of : (s0 s1 s2 : StoreValue D) (first : IsFirstStep s0) → RollsClose honest view s0 s1 → RollsHead honest view s1 s2 → (s2.checkpoint ≡ Some (record first.checkpoint { rolled = 2 })) × (s2.segment ≡ s0.segment) × (s2.failed ≡ false)
-  row_of s0 s1 s2 first closed headed =
+  log_of : (s0 s1 s2 : StoreValue D) (first : IsFirstStep s0) → RollsClose honest view s0 s1 → RollsHead honest view s1 s2 → (s2.checkpoint ≡ Some (record first.checkpoint { rolled = 2 })) × (s2.segment ≡ s0.segment) × (s2.failed ≡ false)
+  log_of s0 s1 s2 first closed headed =
       let c0 : closed.checkpoint ≡ first.checkpoint = some_is closed.checkpoint first.checkpoint (sym closed.under_way ∙ first.under_way) in
       let c1 : headed.checkpoint ≡ record closed.checkpoint { rolled = 1 } = some_is headed.checkpoint (record closed.checkpoint { rolled = 1 }) (sym headed.under_way ∙ ap (λ (s : StoreValue D). s.checkpoint) closed.rest) in (
         ap (λ (s : StoreValue D). s.checkpoint) headed.rest ∙ ap (λ (c : CheckpointValue). Some (record c { rolled = 2 })) (c1 ∙ ap (λ (c : CheckpointValue). record c { rolled = 1 }) c0),
@@ -142,7 +142,7 @@ module _ {D : Type 0} (honest : Type 0) (view : D → View) where
 
   open_next : (s0 s1 s2 : StoreValue D) → IsFirstStep s0 → RollsClose honest view s0 s1 → RollsHead honest view s1 s2 → CanOpen s2 s2.checkpoint
   open_next s0 s1 s2 first closed headed =
-      let known = row_of s0 s1 s2 first closed headed in
+      let known = log_of s0 s1 s2 first closed headed in
       subst (CanOpen s2) (sym known.0) (refl, ap (λ (g : Segment). g.records) known.1 ∙ first.whole)
 
   pub open_done : (b : Bool) (s0 s1 s2 s3 : StoreValue D) → IsFirstStep s0 → RollsClose honest view s0 s1 → RollsHead honest view s1 s2 → MatchBool b (RollsOpen honest view s2 s3) (IsNotNow s2 (CanOpen s2 s2.checkpoint) s3) → (b ≡ true) × RollsOpen honest view s2 s3
@@ -151,7 +151,7 @@ module _ {D : Type 0} (honest : Type 0) (view : D → View) where
 
   pub rolled_over : (s0 s1 s2 s3 : StoreValue D) (first : IsFirstStep s0) → RollsClose honest view s0 s1 → RollsHead honest view s1 s2 → RollsOpen honest view s2 s3 → IsRolledOver s0 s3
   rolled_over s0 s1 s2 s3 first closed headed opened =
-      let known = row_of s0 s1 s2 first closed headed in
+      let known = log_of s0 s1 s2 first closed headed in
       let c2 : opened.checkpoint ≡ record first.checkpoint { rolled = 2 } = some_is opened.checkpoint (record first.checkpoint { rolled = 2 }) (sym opened.under_way ∙ known.0) in
       record {
         checkpoint = first.checkpoint;
@@ -210,10 +210,10 @@ module _ {D : Type 0} (honest : Type 0) (view : D → View) where
                 receipt = ap (λ (s : SystemValue D). s.receipt) image.rest ∙ receipt;
                 finished = ap (λ (s : SystemValue D). s.finished) image.rest;
                 older = ap (λ (k : KernelValue). k.older) core ∙ rests.older;
-                waiting = ap (λ (k : KernelValue). k.row.waiting) core ∙ rests.waiting;
+                waiting = ap (λ (k : KernelValue). k.log.waiting) core ∙ rests.waiting;
                 epoch = ap (λ (g : Segment). g.epoch) segment ∙ rests.epoch ∙ sym (ap (λ (k : KernelValue). k.epoch) core);
-                length = ap (λ (k : KernelValue). k.row.length) core ∙ rests.length ∙ sym (ap (λ (g : Segment). g.records) segment);
-                handed = ap (λ (k : KernelValue). k.handed) core ∙ rests.handed ∙ sym (ap (λ (k : KernelValue). k.row.made) core);
+                length = ap (λ (k : KernelValue). k.log.length) core ∙ rests.length ∙ sym (ap (λ (g : Segment). g.records) segment);
+                handed = ap (λ (k : KernelValue). k.handed) core ∙ rests.handed ∙ sym (ap (λ (k : KernelValue). k.log.made) core);
                 is_cut = ap (λ (k : KernelValue). k.is_cut) core ∙ sym (ap (λ (s : StoreValue D). is_some s.checkpoint) (store ∙ done.rest));
                 unfailed = ap (λ (s : StoreValue D). s.failed) (store ∙ done.rest) ∙ rests.unfailed;
               },
@@ -234,13 +234,13 @@ module _ {D : Type 0} (honest : Type 0) (view : D → View) where
     checkpoint = begun begins.cut;
     under_way = refl;
     none_rolled = refl;
-    whole = sym rests.length ∙ sym begins.cuts.row;
+    whole = sym rests.length ∙ sym begins.cuts.log;
     unfailed = rests.unfailed;
   })
 
   pub begun_rests : (old between new : SystemValue D) → IsResting old → BeginsEpoch old between → new ≡ record between { store = new.store } → IsRolledOver between.store new.store → IsResting new × (new.core.kernel ≡ old.core.kernel)
   begun_rests old between new rests begins rest rolled =
-      let core : new.core ≡ record old.core { epoch = old.core.epoch + 1; older = old.core.row.waiting; row = record { length = 0; made = old.core.row.made; waiting = empty_batch }; is_cut = true } =
+      let core : new.core ≡ record old.core { epoch = old.core.epoch + 1; older = old.core.log.waiting; log = record { length = 0; made = old.core.log.made; waiting = empty_batch }; is_cut = true } =
       ap (λ (s : SystemValue D). s.core) rest ∙ begins.cuts.rest in
       let there : between.store.checkpoint ≡ Some (begun begins.cut) = ap (λ (s : SystemValue D). s.store.checkpoint) begins.rest in
       let is : rolled.checkpoint ≡ begun begins.cut = some_is rolled.checkpoint (begun begins.cut) (sym rolled.under_way ∙ there) in
@@ -251,10 +251,10 @@ module _ {D : Type 0} (honest : Type 0) (view : D → View) where
           receipt = ap (λ (s : SystemValue D). s.receipt) rest ∙ ap (λ (s : SystemValue D). s.receipt) begins.rest ∙ rests.receipt;
           finished = ap (λ (s : SystemValue D). s.finished) rest ∙ ap (λ (s : SystemValue D). s.finished) begins.rest ∙ rests.finished;
           older = ap (λ (k : KernelValue). k.older) core ∙ rests.waiting;
-          waiting = ap (λ (k : KernelValue). k.row.waiting) core;
+          waiting = ap (λ (k : KernelValue). k.log.waiting) core;
           epoch = ap (λ (g : Segment). g.epoch) segment ∙ begins.cuts.epoch ∙ sym (ap (λ (k : KernelValue). k.epoch) core);
-          length = ap (λ (k : KernelValue). k.row.length) core ∙ sym (ap (λ (g : Segment). g.records) segment);
-          handed = ap (λ (k : KernelValue). k.handed) core ∙ rests.handed ∙ sym (ap (λ (k : KernelValue). k.row.made) core);
+          length = ap (λ (k : KernelValue). k.log.length) core ∙ sym (ap (λ (g : Segment). g.records) segment);
+          handed = ap (λ (k : KernelValue). k.handed) core ∙ rests.handed ∙ sym (ap (λ (k : KernelValue). k.log.made) core);
           is_cut = ap (λ (k : KernelValue). k.is_cut) core ∙ sym rolled.still;
           unfailed = rolled.unfailed;
         },

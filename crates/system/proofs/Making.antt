@@ -7,17 +7,17 @@ use Rattle.std.proofs.lemmas.Bool.Decides.{leb_tells}
 use Rattle.ipc_model.specs.calls.Step.{has_record}
 use Rattle.ipc_model.specs.declared.call.Call.{Call}
 use Rattle.ipc_model.specs.declared.call.Reply.{Reply}
-use Rattle.ipc_model.specs.texts.Texts.{record_text}
+use Rattle.ipc_model.specs.encodings.Encodings.{record_encoding}
 use Rattle.journal.specs.Batch.{without_last}
-use Rattle.system.specs.Halves.{CanCut, KernelValue, RowValue, entry_of, row_after, with_record}
+use Rattle.system.specs.Halves.{CanCut, KernelValue, EpochLogValue, entry_of, log_after, with_record}
 use Rattle.system.specs.declared.kernel_half.SubmitFault.{SubmitFault}
 use Rattle.system.specs.declared.kernel_half.SubmitFault.TheVariants as fault
 
 -- the epoch log after a call, with a record or without
-module _ (old new : RowValue) (space : ℕ) (c : Call) (answer : Reply)
+module _ (old new : EpochLogValue) (space : ℕ) (c : Call) (answer : Reply)
     (with_one : has_record c answer ≡ true → new ≡ with_record old (entry_of space c answer)) (with_none : has_record c answer ≡ false → new ≡ old) where
-  pub row_is_after : new ≡ row_after old space c answer
-  row_is_after = by (has_record c answer) refl
+  pub log_is_after : new ≡ log_after old space c answer
+  log_is_after = by (has_record c answer) refl
     where
       by : (b : Bool) → has_record c answer ≡ b → new ≡ (if b then with_record old (entry_of space c answer) else old)
       by true is = with_one is
@@ -27,8 +27,8 @@ module _ (old new : RowValue) (space : ℕ) (c : Call) (answer : Reply)
   no_fewer handed few = by (has_record c answer) refl
     where
       by : (b : Bool) → has_record c answer ≡ b → handed ≤ new.made
-      by true is = subst (λ (r : RowValue). handed ≤ r.made) (sym (with_one is)) (omega (arith, few))
-      by false is = subst (λ (r : RowValue). handed ≤ r.made) (sym (with_none is)) few
+      by true is = subst (λ (r : EpochLogValue). handed ≤ r.made) (sym (with_one is)) (omega (arith, few))
+      by false is = subst (λ (r : EpochLogValue). handed ≤ r.made) (sym (with_none is)) few
 
 -- what holds at an exit with a fault
 pub with_fault : {T E : Type 0} (P : Type 0) (r : Result T E) → P → OnErr r P
@@ -37,8 +37,8 @@ with_fault P (Err f) holds = holds
 
 -- running out of memory isn't a full epoch log
 pub memory_no_full : {T : Type 0} (r : Result T SubmitFault) → r ≡ Err fault.NoMemory → IsErrOf r fault.EpochFull → ⊥
-memory_no_full (Ok v) is told = cc is
-memory_no_full (Err f) is told = cc (is, told)
+memory_no_full (Ok v) is acknowledged = cc is
+memory_no_full (Err f) is acknowledged = cc (is, acknowledged)
 
 -- a number is at most another, or isn't, by the test
 pub due_or_not : (a b seen handed : ℕ) → a ≡ seen → b ≡ handed → MatchBool (leb a b) (seen ≤ handed) (handed < seen)
@@ -56,10 +56,10 @@ one_less : (n : ℕ) → n + 1 - 1 ≡ n
 one_less n = omega arith
 
 -- a record that was written and taken out again
-pub record_out : (old with_one new : RowValue) (space : ℕ) (c : Call) (answer : Reply) (size : ℕ) → with_one ≡ with_record old (entry_of space c answer) → size ≡ length (record_text old.length (entry_of space c answer))
+pub record_out : (old with_one new : EpochLogValue) (space : ℕ) (c : Call) (answer : Reply) (size : ℕ) → with_one ≡ with_record old (entry_of space c answer) → size ≡ length (record_encoding old.length (entry_of space c answer))
     → new ≡ record { length = with_one.length - 1; made = with_one.made - 1; waiting = without_last with_one.waiting size } → new ≡ old
 record_out old with_one new space c answer size written long is =
-    let text : List ℕ = record_text old.length (entry_of space c answer) in
-    let less : length (old.waiting.body ++ text) - size ≡ length old.waiting.body = omega (arith, length-append old.waiting.body text, long) in
-    is ∙ ap (λ (r : RowValue). record { length = r.length - 1; made = r.made - 1; waiting = without_last r.waiting size }) written
-    ∙ (λ i. record { length = one_less old.length i; made = one_less old.made i; waiting = record { count = one_less old.waiting.count i; body = (ap (λ n. take n (old.waiting.body ++ text)) less ∙ take_at old.waiting.body text (length old.waiting.body) refl) i } })
+    let encoding : List ℕ = record_encoding old.length (entry_of space c answer) in
+    let less : length (old.waiting.body ++ encoding) - size ≡ length old.waiting.body = omega (arith, length-append old.waiting.body encoding, long) in
+    is ∙ ap (λ (r : EpochLogValue). record { length = r.length - 1; made = r.made - 1; waiting = without_last r.waiting size }) written
+    ∙ (λ i. record { length = one_less old.length i; made = one_less old.made i; waiting = record { count = one_less old.waiting.count i; body = (ap (λ n. take n (old.waiting.body ++ encoding)) less ∙ take_at old.waiting.body encoding (length old.waiting.body) refl) i } })

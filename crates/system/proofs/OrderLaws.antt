@@ -8,25 +8,25 @@ use Rattle.ipc_model.specs.declared.record.Record.{Record}
 use Rattle.ipc_model.specs.state.State.{State}
 use Rattle.journal.specs.Batch.{BatchValue}
 use Rattle.journal.specs.declared.segment.Segment.{Segment}
-use Rattle.storing.specs.Values.{CheckpointValue, CutValue, StoreValue, begun}
+use Rattle.store_half.specs.Values.{CheckpointValue, CutValue, StoreValue, begun}
 use Rattle.system.specs.Core.{SystemValue, TicketsValue, first_system}
-use Rattle.system.specs.Halves.{Cuts, Gives, KernelValue, RowValue, TakenValue, TakesBatch, TicketValue, entry_of, with_receipt, with_record}
+use Rattle.system.specs.Halves.{Cuts, Gives, KernelValue, EpochLogValue, TakenValue, TakesBatch, TicketValue, entry_of, with_receipt, with_record}
 use Rattle.system.specs.Order.{IsInOrder, IsOut, stored_out, taken_out}
 use Rattle.system.proofs.Between.{some_is}
 use Rattle.system.proofs.Tickets.{none_fresh}
 
 -- how many more records an epoch log has
-pub record IsGrown (old new : RowValue) : Type 0 where
+pub record IsGrown (old new : EpochLogValue) : Type 0 where
   pub grown : ℕ
   pub waiting : new.waiting.count ≡ old.waiting.count + grown
   pub made : new.made ≡ old.made + grown
 
-grown_by : (b : Bool) (row : RowValue) (entry : Record) → IsGrown row (if b then with_record row entry else row)
-grown_by true row entry = record { grown = 1; waiting = refl; made = refl }
-grown_by false row entry = record { grown = 0; waiting = omega arith; made = omega arith }
+grown_by : (b : Bool) (log : EpochLogValue) (entry : Record) → IsGrown log (if b then with_record log entry else log)
+grown_by true log entry = record { grown = 1; waiting = refl; made = refl }
+grown_by false log entry = record { grown = 0; waiting = omega arith; made = omega arith }
 
-pub row_grows : (old : KernelValue) (space : ℕ) (c : Call) (ticket : TicketValue) (new : KernelValue) → Gives old space c ticket new → IsGrown old.row new.row
-row_grows old space c ticket new gives = subst (IsGrown old.row) (sym gives.row) (grown_by (has_record c ticket.answer) old.row (entry_of space c ticket.answer))
+pub log_grows : (old : KernelValue) (space : ℕ) (c : Call) (ticket : TicketValue) (new : KernelValue) → Gives old space c ticket new → IsGrown old.log new.log
+log_grows old space c ticket new gives = subst (IsGrown old.log) (sym gives.log) (grown_by (has_record c ticket.answer) old.log (entry_of space c ticket.answer))
 
 -- by what is out
 
@@ -62,7 +62,7 @@ module _ {D : Type 0} where
   pub given_in_order : (old : SystemValue D) (space : ℕ) (c : Call) (ticket : TicketValue) (core : KernelValue) (tickets : TicketsValue) → IsInOrder old → Gives old.core space c ticket core
       → ((number : ℕ) → tickets.given ≤ number → finmap.get tickets.kept number ≡ None) → IsInOrder (record old { core = core; tickets = tickets })
   given_in_order old space c ticket core tickets is gives fresh =
-      let grows = row_grows old.core space c ticket core gives in
+      let grows = log_grows old.core space c ticket core gives in
       let rest = gives.rest in
       let epoch : core.epoch ≡ old.core.epoch = ap (λ (k : KernelValue). k.epoch) rest in
       let cut : core.is_cut ≡ old.core.is_cut = ap (λ (k : KernelValue). k.is_cut) rest in
@@ -79,8 +79,8 @@ module _ {D : Type 0} where
   pub taken_in_order : (old : SystemValue D) (taken : TakenValue) (core : KernelValue) → IsInOrder old → TakesBatch old.core taken core → IsInOrder (record old { core = core; out = Some taken })
   taken_in_order old taken core is takes =
       let none = nothing old.out old.receipt old.core.is_out takes.none_out is.out in
-      let counted : old.core.handed + 0 + 0 + old.core.older.count + old.core.row.waiting.count ≡ old.core.row.made = subst (λ (o : Option TakenValue). old.core.handed + taken_out o + 0 + old.core.older.count + old.core.row.waiting.count ≡ old.core.row.made) none.0
-      (subst (λ (r : Option ℕ). old.core.handed + taken_out old.out + stored_out r + old.core.older.count + old.core.row.waiting.count ≡ old.core.row.made) none.1 is.counted) in
+      let counted : old.core.handed + 0 + 0 + old.core.older.count + old.core.log.waiting.count ≡ old.core.log.made = subst (λ (o : Option TakenValue). old.core.handed + taken_out o + 0 + old.core.older.count + old.core.log.waiting.count ≡ old.core.log.made) none.0
+      (subst (λ (r : Option ℕ). old.core.handed + taken_out old.out + stored_out r + old.core.older.count + old.core.log.waiting.count ≡ old.core.log.made) none.1 is.counted) in
       let receipt : stored_out old.receipt ≡ 0 = ap stored_out none.1 in
       elim takes.which as (λ _. IsInOrder (record old { core = core; out = Some taken })) [
         | inl older ↦ subst (λ (k : KernelValue). IsInOrder (record old { core = k; out = Some taken })) (sym older.2) (record {
@@ -92,9 +92,9 @@ module _ {D : Type 0} where
           whole = is.whole;
           fresh = is.fresh;
         })
-        | inr row ↦ subst (λ (k : KernelValue). IsInOrder (record old { core = k; out = Some taken })) (sym row.3) (record {
+        | inr log ↦ subst (λ (k : KernelValue). IsInOrder (record old { core = k; out = Some taken })) (sym log.3) (record {
           out = subst (λ (r : Option ℕ). IsOut (Some taken) r true) (sym none.1) takes.some;
-          counted = omega (arith, counted, receipt, ap (λ (b : BatchValue). b.count) row.2);
+          counted = omega (arith, counted, receipt, ap (λ (b : BatchValue). b.count) log.2);
           epoch = is.epoch;
           next = is.next;
           over = is.over;
@@ -134,8 +134,8 @@ module _ {D : Type 0} where
   }
 
   -- a receipt counts no more than was made
-  pub receipt_within : (old : SystemValue D) (size : ℕ) → IsInOrder old → old.receipt ≡ Some size → old.core.handed + size ≤ old.core.row.made
-  receipt_within old size is there = omega (arith, is.counted, ap stored_out there)
+  pub receive_within : (old : SystemValue D) (size : ℕ) → IsInOrder old → old.receipt ≡ Some size → old.core.handed + size ≤ old.core.log.made
+  receive_within old size is there = omega (arith, is.counted, ap stored_out there)
 
   pub handed_in_order : (old : SystemValue D) (size : ℕ) → IsInOrder old → old.receipt ≡ Some size → IsInOrder (record old { core = with_receipt old.core size; receipt = None })
   handed_in_order old size is there = record {

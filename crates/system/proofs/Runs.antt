@@ -2,13 +2,13 @@
 use Rattle.std.proofs.Common.{◌≡◌, ℕ, ◌+◌, ◌≤◌, List, [], ◌∷◌, ◌++◌, refl, subst, ◌∙◌, arith}
 use Rattle.disk.specs.Moments.{View, MayLeave, Passes}
 use Rattle.disk.specs.Slots.{Slots}
-use Rattle.ipc_model.specs.state.Circular.{Grounded}
+use Rattle.ipc_model.specs.state.Circular.{Acyclic}
 use Rattle.ipc_model.specs.state.Lawful.{Lawful}
 use Rattle.ipc_model.specs.state.State.{State}
 use Rattle.ipc_model.specs.declared.call.Reply.{Reply}
-use Rattle.ipc_model.specs.world.World.{World, After, first_world, told}
+use Rattle.ipc_model.specs.world.World.{World, After, first_world, acknowledged}
 use Rattle.journal.specs.declared.segment.Segment.{Segment}
-use Rattle.phases.specs.Passed.{IsKept}
+use Rattle.checkpoint_phases.specs.Passed.{IsKept}
 use Rattle.system.specs.Core.{Runs, RunsThrough, StandsFor, StandsFrom, Steps, SystemValue, first_system}
 use Rattle.system.specs.Events.{event_of, outcome_of}
 use Rattle.system.specs.declared.event.Event.{Event}
@@ -17,22 +17,22 @@ use Rattle.system.proofs.Tickets.{none_fresh}
 
 module _ {D : Type 0} (honest : Type 0) (view : D → View) (base : State) where
   -- A core that continues from an opened store.
-  pub first_stands : (kernel : State) (disk : D) (segment : Segment) → kernel ≡ base → Lawful base → Grounded base → (honest → IsKept (view disk) segment kernel)
+  pub first_stands : (kernel : State) (disk : D) (segment : Segment) → kernel ≡ base → Lawful base → Acyclic base → (honest → IsKept (view disk) segment kernel)
       → StandsFor honest view base (first_world segment.epoch segment.records) (first_system kernel disk segment)
-  first_stands kernel disk segment is lawful grounded kept = record {
+  first_stands kernel disk segment is lawful acyclic kept = record {
     epoch = refl;
-    applied = record { run = is; fit = tt; records = tt; made_is = refl; lawful = lawful; grounded = grounded };
+    applied = record { run = is; fit = tt; records = tt; made_is = refl; lawful = lawful; acyclic = acyclic };
     handed = refl;
     older = 0;
     counts = record {
       earlier_within = omega arith;
       taken_within = omega arith;
-      row_is = omega arith;
+      log_is = omega arith;
       room = λ some. absurd (omega (arith, some));
       older_within = λ less. absurd (omega (arith, less));
       older_room = λ less. absurd (omega (arith, less));
     };
-    waits = record { before_is = record { counted = refl; text = refl }; row_is = record { counted = refl; text = refl } };
+    waits = record { before_is = record { counted = refl; encoding = refl }; log_is = record { counted = refl; encoding = refl } };
     between = record { batch_is = refl; taken_is = refl; handed_is = refl };
     receipts = refl;
     checkpoint = tt;
@@ -62,7 +62,7 @@ module _ (honest : Type 0) (base : State) where
       omega (arith, rest, (runs.4 is_honest).later)
 
   pub runs_push : (w : World) (events : List Event) (outcomes : List Outcome) (from : ℕ) (last later : View) (end next : World) (event : Event) (answered : Outcome) (kept : Reply) → Runs honest base w events outcomes from last end
-      → After base end (event_of event) (outcome_of answered kept) next → (honest → Passes last later (StandsFrom base (told end) next)) → (honest → (c : Slots) → MayLeave later c → StandsFrom base (told next) next c)
+      → After base end (event_of event) (outcome_of answered kept) next → (honest → Passes last later (StandsFrom base (acknowledged end) next)) → (honest → (c : Slots) → MayLeave later c → StandsFrom base (acknowledged next) next c)
       → Runs honest base w (events ++ event ∷ []) (outcomes ++ answered ∷ []) from later next
   runs_push w [] [] from last later end next event answered kept runs after passes left = (
     kept,
@@ -71,7 +71,7 @@ module _ (honest : Type 0) (base : State) where
     subst (λ (v : World). After base v (event_of event) (outcome_of answered kept) next) runs.0 after,
     λ is_honest. record {
       later = omega (arith, runs.1 is_honest, (passes is_honest).later);
-      during = λ k c after_from until left_at. subst (λ (v : World). StandsFrom base (told v) next c) runs.0 ((passes is_honest).since k c (omega (arith, runs.1 is_honest, after_from)) until left_at);
+      during = λ k c after_from until left_at. subst (λ (v : World). StandsFrom base (acknowledged v) next c) runs.0 ((passes is_honest).since k c (omega (arith, runs.1 is_honest, after_from)) until left_at);
       after = λ c left_at. left is_honest c left_at;
     },
     (refl, λ _. refl),

@@ -14,12 +14,12 @@ use Rattle.ipc_model.specs.state.State.{State}
 use Rattle.ipc_model.specs.store.Recovery.{Recovered}
 use Rattle.ipc_model.specs.store.Faults as fault
 use Rattle.ipc_model.specs.world.World as world
-use Rattle.ipc_model.specs.world.World.{World, Ticket, After, after_durable, after_submit, after_take, greatest_seen, of_append, of_finish, record_of, told, with_answered}
+use Rattle.ipc_model.specs.world.World.{World, Ticket, After, after_durable, after_submit, after_take, greatest_seen, of_append, of_finish, record_of, acknowledged, with_answered}
 use Rattle.journal.specs.Batch.{BatchValue, Holds, empty_batch}
-use Rattle.phases.proofs.Appends.{kept_recovered}
+use Rattle.checkpoint_phases.proofs.Appends.{kept_recovered}
 use Rattle.slot_steps.proofs.Moments.{left_now, passes_as}
-use Rattle.standing.specs.Standing.{as_written}
-use Rattle.storing.specs.Values.{CheckpointValue}
+use Rattle.store_layout.specs.Standing.{as_written}
+use Rattle.store_half.specs.Values.{CheckpointValue}
 use Rattle.system.specs.Changes.{Answers, HandsFinished, HandsReceipt, HandsIn, IsFullNow, IsNotDue, Submits, Takes}
 use Rattle.system.specs.Core.{AreTickets, Between, Checkpoints, HasPlace, IsApplied, KeepsStored, NothingBetween, StandsFor, StandsFrom, Steps, SystemValue, Wait, in_turn, kept_ticket, unanswered}
 use Rattle.system.specs.Events.{event_of, outcome_of}
@@ -52,7 +52,7 @@ unanswered_is t true ticket fresh is = absurd (cc is)
 unanswered_is t false ticket fresh is = (t, refl, fresh, sym (some_is _ ticket (some_is _ (Some ticket) is)))
 
 module _ {D : Type 0} (honest : Type 0) (view : D → View) (base : State) where
-  told_least : (w : World) (system : SystemValue D) → StandsFor honest view base w system → told w ≤ w.stored
+  told_least : (w : World) (system : SystemValue D) → StandsFor honest view base w system → acknowledged w ≤ w.stored
   told_least w system stands = less_equal w.stored (greatest_seen w.tickets) w.stored (omega arith) (omega (arith, stands.tickets.seen, (handed_within _ _ _ _ _ system.out system.receipt system.core.is_out stands.between).0))
 
   pub stored_within : (w : World) (system : SystemValue D) → StandsFor honest view base w system → w.stored ≤ length w.applied
@@ -66,8 +66,8 @@ module _ {D : Type 0} (honest : Type 0) (view : D → View) (base : State) where
   from_less : (w : World) (least less : ℕ) (c : Slots) → less ≤ least → StandsFrom base least w c → StandsFrom base less w c
   from_less w least less c le from = (from.0, omega (arith, le, from.1), from.2, from.3)
 
-  pub from_told : (w : World) (system : SystemValue D) → StandsFor honest view base w system → (c : Slots) → StandsFrom base w.stored w c → StandsFrom base (told w) w c
-  from_told w system stands c from = from_less w w.stored (told w) c (told_least w system stands) from
+  pub from_told : (w : World) (system : SystemValue D) → StandsFor honest view base w system → (c : Slots) → StandsFrom base w.stored w c → StandsFrom base (acknowledged w) w c
+  from_told w system stands c from = from_less w w.stored (acknowledged w) c (told_least w system stands) from
 
   -- a crash while nothing happens leaves no fewer records than were acknowledged
   pub left_stored : (w : World) (system : SystemValue D) → StandsFor honest view base w system → honest → (c : Slots) → MayLeave (view system.store.disk) c → StandsFrom base w.stored w c
@@ -78,7 +78,7 @@ module _ {D : Type 0} (honest : Type 0) (view : D → View) (base : State) where
         from_stored w system stands kept c (kept_recovered (view system.store.disk) system.store.segment system.store.checkpoint kept.mid kept.state kept.kept c may)
   ] refl
 
-  pub left_told : (w : World) (system : SystemValue D) → StandsFor honest view base w system → honest → (c : Slots) → MayLeave (view system.store.disk) c → StandsFrom base (told w) w c
+  pub left_told : (w : World) (system : SystemValue D) → StandsFor honest view base w system → honest → (c : Slots) → MayLeave (view system.store.disk) c → StandsFrom base (acknowledged w) w c
   left_told w system stands is_honest c may = from_told w system stands c (left_stored w system stands is_honest c may)
 
   -- What an event is shown to have done.
@@ -86,7 +86,7 @@ module _ {D : Type 0} (honest : Type 0) (view : D → View) (base : State) where
     pub next : World
     pub after : After base w event outcome next
     pub stands : StandsFor honest view base next new
-    pub passes : honest → Passes (view old.store.disk) (view new.store.disk) (StandsFrom base (told w) next)
+    pub passes : honest → Passes (view old.store.disk) (view new.store.disk) (StandsFrom base (acknowledged w) next)
 
   -- nothing changed
   pub unmoved : (w : World) (event : world.Event) (outcome : world.Outcome) (old new : SystemValue D) → StandsFor honest view base w old → new ≡ old → After base w event outcome w → Shows w event outcome old new
@@ -138,7 +138,7 @@ module _ {D : Type 0} (honest : Type 0) (view : D → View) (base : State) where
         handed = ap (λ (k : KernelValue). k.handed) rest ∙ stands.handed;
         older = stands.older;
         counts = grows.counts;
-        waits = subst (λ (b : BatchValue). Wait w.opened w.earlier w.taken applied stands.older b core.row.waiting) (sym (ap (λ (k : KernelValue). k.older) rest)) grows.waits;
+        waits = subst (λ (b : BatchValue). Wait w.opened w.earlier w.taken applied stands.older b core.log.waiting) (sym (ap (λ (k : KernelValue). k.older) rest)) grows.waits;
         between = subst (Between w.batch w.taken w.stored w.handed place old.out old.receipt) (sym (ap (λ (k : KernelValue). k.is_out) rest))
             (between_with _ _ _ _ _ place (λ size out some until placed.
             let same = grows.middle w.stored size (omega (arith, until, stands.counts.taken_within)) in
@@ -176,7 +176,7 @@ module _ {D : Type 0} (honest : Type 0) (view : D → View) (base : State) where
         (
           (
             (old.core.kernel, new.core.kernel, stands.applied.run, gives.step),
-            λ recorded. omega (arith, gives.room recorded, stands.counts.row_is),
+            λ recorded. omega (arith, gives.room recorded, stands.counts.log_is),
           ),
           refl,
         ),
@@ -187,7 +187,7 @@ module _ {D : Type 0} (honest : Type 0) (view : D → View) (base : State) where
       unmoved w (world.submit space c) world.epoch_full old new stands same (
         and_false w.failed,
         tt,
-        ((omega (arith, full.0, stands.counts.row_is), full.1.0, (old.core.kernel, full.1.1, stands.applied.run, full.1.2), full.1.3), refl),
+        ((omega (arith, full.0, stands.counts.log_is), full.1.0, (old.core.kernel, full.1.1, stands.applied.run, full.1.2), full.1.3), refl),
       )
 
   pub shows_no_memory : (w : World) (old new : SystemValue D) (space : ℕ) (c : Call) → StandsFor honest view base w old → new ≡ old → Shows w (world.submit space c) world.no_memory old new
@@ -200,19 +200,19 @@ module _ {D : Type 0} (honest : Type 0) (view : D → View) (base : State) where
   with_out w epoch size = record w { batch = Some (record { epoch = epoch; size = size; appended = false }); taken = w.taken + size }
 
   taken_stands : (w : World) (old : SystemValue D) (taken : TakenValue) (core : KernelValue) (size : ℕ) → (stands : StandsFor honest view base w old) → NothingBetween w.batch w.taken w.stored w.handed → old.receipt ≡ None → 0 < size
-      → core ≡ record old.core { older = core.older; row = record old.core.row { waiting = core.row.waiting }; is_out = true } → w.taken + size ≤ length w.applied
-      → HasPlace w.epoch w.opened w.earlier w.stored stands.older w.applied size taken → Wait w.opened w.earlier (w.taken + size) w.applied stands.older core.older core.row.waiting
+      → core ≡ record old.core { older = core.older; log = record old.core.log { waiting = core.log.waiting }; is_out = true } → w.taken + size ≤ length w.applied
+      → HasPlace w.epoch w.opened w.earlier w.stored stands.older w.applied size taken → Wait w.opened w.earlier (w.taken + size) w.applied stands.older core.older core.log.waiting
       → StandsFor honest view base (with_out w taken.epoch size) (record old { core = core; out = Some taken })
   taken_stands w old taken core size stands nothing receipt some rest within placed waits = record {
     epoch = stands.epoch ∙ sym (ap (λ (k : KernelValue). k.epoch) rest);
-    applied = subst (λ (k : KernelValue). IsApplied base w.applied k.kernel k.row.made) (sym rest) stands.applied;
+    applied = subst (λ (k : KernelValue). IsApplied base w.applied k.kernel k.log.made) (sym rest) stands.applied;
     handed = ap (λ (k : KernelValue). k.handed) rest ∙ stands.handed;
     older = stands.older;
     counts = record {
       earlier_within = stands.counts.earlier_within;
       taken_within = within;
-      row_is = ap (λ (k : KernelValue). k.row.length) rest ∙ stands.counts.row_is;
-      room = λ some. omega (arith, ap (λ (k : KernelValue). k.row.length) rest, stands.counts.room some);
+      log_is = ap (λ (k : KernelValue). k.log.length) rest ∙ stands.counts.log_is;
+      room = λ some. omega (arith, ap (λ (k : KernelValue). k.log.length) rest, stands.counts.room some);
       older_within = stands.counts.older_within;
       older_room = stands.counts.older_room;
     };
@@ -247,16 +247,16 @@ module _ {D : Type 0} (honest : Type 0) (view : D → View) (base : State) where
       let behind : w.taken < w.earlier = omega (arith, some, counted) in
       let sum : w.taken + size ≡ w.earlier = omega (arith, behind) in
       let number : taken.epoch ≡ w.epoch - 1 = omega (arith, epoch, stands.epoch) in
-      let is_behind_now : nat_lt w.taken w.earlier ≡ true = lt-ltb w.taken w.earlier behind in
+      let is_after_now : nat_lt w.taken w.earlier ≡ true = lt-ltb w.taken w.earlier behind in
       let next : after_take w ≡ with_out w taken.epoch size =
       ap (λ (b : Bool). let batch : world.Batch = (if b then record { epoch = w.epoch - 1; size = size; appended = false } else record { epoch = w.epoch; size = length w.applied - w.taken; appended = false }) in
-      record w { batch = Some batch; taken = w.taken + batch.size }) is_behind_now ∙ ap (λ (e : ℕ). with_out w e size) (sym number) in
+      record w { batch = Some batch; taken = w.taken + batch.size }) is_after_now ∙ ap (λ (e : ℕ). with_out w e size) (sym number) in
       let same : waiting ≡ take size (drop w.stored w.applied) = ap (λ (n : ℕ). drop w.taken (take n w.applied)) (sym sum) ∙ drop_take w.taken size w.applied ∙ ap (λ (n : ℕ). take size (drop n w.applied)) nothing.0.taken_is in
       let none_left : drop (w.taken + size) (take w.earlier w.applied) ≡ [] = drop_at_end (w.taken + size) (take w.earlier w.applied) (sum ∙ sym front) in
       let most : max (w.taken + size) w.earlier ≡ max w.taken w.earlier = omega (arith, sum, behind) in
       shown w (with_out w taken.epoch size) world.take_batch world.done old new (record old { core = new.core; out = Some taken })
       (and_false w.failed, (omega (arith, behind, stands.counts.earlier_within), nothing.0.batch_is), sym next) rest refl
-      (taken_stands w old taken new.core size stands nothing.0 nothing.2 (omega (arith, behind)) (core ∙ ap (λ (k : KernelValue). record old.core { older = k.older; row = record old.core.row { waiting = k.row.waiting }; is_out = true }) (sym core))
+      (taken_stands w old taken new.core size stands nothing.0 nothing.2 (omega (arith, behind)) (core ∙ ap (λ (k : KernelValue). record old.core { older = k.older; log = record old.core.log { waiting = k.log.waiting }; is_out = true }) (sym core))
       (omega (arith, sum, stands.counts.earlier_within))
       (inl (
         omega (arith, sum, nothing.0.taken_is),
@@ -264,35 +264,35 @@ module _ {D : Type 0} (honest : Type 0) (view : D → View) (base : State) where
         subst (λ (b : BatchValue). Holds (stands.older + w.stored - w.earlier) (take size (drop w.stored w.applied)) b) (sym batch)
             (holds_as (stands.older + w.taken - w.earlier) (stands.older + w.stored - w.earlier) waiting (take size (drop w.stored w.applied)) old.core.older (ap (λ (n : ℕ). stands.older + n - w.earlier) nothing.0.taken_is) same stands.waits.before_is),
       ))
-      (subst (λ (k : KernelValue). Wait w.opened w.earlier (w.taken + size) w.applied stands.older k.older k.row.waiting) (sym core) (record {
+      (subst (λ (k : KernelValue). Wait w.opened w.earlier (w.taken + size) w.applied stands.older k.older k.log.waiting) (sym core) (record {
         before_is = holds_none (stands.older + (w.taken + size) - w.earlier) (drop (w.taken + size) (take w.earlier w.applied)) none_left;
-        row_is = holds_as (w.opened + (max w.taken w.earlier - w.earlier)) (w.opened + (max (w.taken + size) w.earlier - w.earlier)) (drop (max w.taken w.earlier) w.applied) (drop (max (w.taken + size) w.earlier) w.applied) old.core.row.waiting
-            (ap (λ (n : ℕ). w.opened + (n - w.earlier)) (sym most)) (ap (λ (n : ℕ). drop n w.applied) (sym most)) stands.waits.row_is;
+        log_is = holds_as (w.opened + (max w.taken w.earlier - w.earlier)) (w.opened + (max (w.taken + size) w.earlier - w.earlier)) (drop (max w.taken w.earlier) w.applied) (drop (max (w.taken + size) w.earlier) w.applied) old.core.log.waiting
+            (ap (λ (n : ℕ). w.opened + (n - w.earlier)) (sym most)) (ap (λ (n : ℕ). drop n w.applied) (sym most)) stands.waits.log_is;
       })))
 
   -- none of the epoch before is left
-  none_behind : (w : World) (system : SystemValue D) → StandsFor honest view base w system → system.core.older.count ≡ 0 → w.earlier ≤ w.taken
-  none_behind w system stands none =
+  none_after : (w : World) (system : SystemValue D) → StandsFor honest view base w system → system.core.older.count ≡ 0 → w.earlier ≤ w.taken
+  none_after w system stands none =
       omega (arith, none, stands.waits.before_is.counted, drop_long w.taken (take w.earlier w.applied), take_long w.earlier w.applied stands.counts.earlier_within)
 
-  waits_of : (w : World) (system : SystemValue D) (stands : StandsFor honest view base w system) → w.earlier ≤ w.taken → system.core.row.waiting.count ≡ length w.applied - w.taken
+  waits_of : (w : World) (system : SystemValue D) (stands : StandsFor honest view base w system) → w.earlier ≤ w.taken → system.core.log.waiting.count ≡ length w.applied - w.taken
   waits_of w system stands past =
       let last : max w.taken w.earlier ≡ w.taken = omega (arith, past) in
-      stands.waits.row_is.counted ∙ ap (λ (n : ℕ). length (drop n w.applied)) last ∙ drop_long w.taken w.applied
+      stands.waits.log_is.counted ∙ ap (λ (n : ℕ). length (drop n w.applied)) last ∙ drop_long w.taken w.applied
 
   -- those of the epoch log
-  shows_take_row : (w : World) (old new : SystemValue D) (taken : TakenValue) → StandsFor honest view base w old → 0 < taken.batch.count → old.core.is_out ≡ false → old.core.older.count ≡ 0 → taken.epoch ≡ old.core.epoch → taken.batch ≡ old.core.row.waiting
-      → new.core ≡ record old.core { row = record old.core.row { waiting = empty_batch }; is_out = true } → new ≡ record old { core = new.core; out = Some taken } → Shows w world.take_batch world.done old new
-  shows_take_row w old new taken stands some none_out none_older epoch batch core rest =
+  shows_take_log : (w : World) (old new : SystemValue D) (taken : TakenValue) → StandsFor honest view base w old → 0 < taken.batch.count → old.core.is_out ≡ false → old.core.older.count ≡ 0 → taken.epoch ≡ old.core.epoch → taken.batch ≡ old.core.log.waiting
+      → new.core ≡ record old.core { log = record old.core.log { waiting = empty_batch }; is_out = true } → new ≡ record old { core = new.core; out = Some taken } → Shows w world.take_batch world.done old new
+  shows_take_log w old new taken stands some none_out none_older epoch batch core rest =
       let nothing = nothing_out _ _ _ _ _ old.out old.receipt old.core.is_out none_out stands.between in
-      let past : w.earlier ≤ w.taken = none_behind w old stands none_older in
+      let past : w.earlier ≤ w.taken = none_after w old stands none_older in
       let size : ℕ = length w.applied - w.taken in
       let counted : taken.batch.count ≡ size = ap (λ (b : BatchValue). b.count) batch ∙ waits_of w old stands past in
       let sum : w.taken + size ≡ length w.applied = omega (arith, stands.counts.taken_within) in
-      let is_behind_now : nat_lt w.taken w.earlier ≡ false = le-ltb w.taken w.earlier past in
+      let is_after_now : nat_lt w.taken w.earlier ≡ false = le-ltb w.taken w.earlier past in
       let next : after_take w ≡ with_out w taken.epoch size =
       ap (λ (b : Bool). let batch : world.Batch = (if b then record { epoch = w.epoch - 1; size = w.earlier - w.taken; appended = false } else record { epoch = w.epoch; size = size; appended = false }) in
-      record w { batch = Some batch; taken = w.taken + batch.size }) is_behind_now ∙ ap (λ (e : ℕ). with_out w e size) (stands.epoch ∙ sym epoch) in
+      record w { batch = Some batch; taken = w.taken + batch.size }) is_after_now ∙ ap (λ (e : ℕ). with_out w e size) (stands.epoch ∙ sym epoch) in
       let last : max w.taken w.earlier ≡ w.stored = omega (arith, past, nothing.0.taken_is) in
       let later : max (w.taken + size) w.earlier ≡ length w.applied = omega (arith, sum, past) in
       let all_out : drop (max (w.taken + size) w.earlier) w.applied ≡ [] = drop_at_end (max (w.taken + size) w.earlier) w.applied later in
@@ -302,25 +302,25 @@ module _ {D : Type 0} (honest : Type 0) (view : D → View) (base : State) where
       drop_past w.taken (take w.earlier w.applied) (omega (arith, past, take_long w.earlier w.applied stands.counts.earlier_within)) in
       shown w (with_out w taken.epoch size) world.take_batch world.done old new (record old { core = new.core; out = Some taken })
       (and_false w.failed, (omega (arith, some, counted), nothing.0.batch_is), sym next) rest refl
-      (taken_stands w old taken new.core size stands nothing.0 nothing.2 (omega (arith, some, counted)) (core ∙ ap (λ (k : KernelValue). record old.core { older = k.older; row = record old.core.row { waiting = k.row.waiting }; is_out = true }) (sym core))
+      (taken_stands w old taken new.core size stands nothing.0 nothing.2 (omega (arith, some, counted)) (core ∙ ap (λ (k : KernelValue). record old.core { older = k.older; log = record old.core.log { waiting = k.log.waiting }; is_out = true }) (sym core))
       (omega (arith, sum))
       (inr (
         omega (arith, past, nothing.0.taken_is),
         epoch ∙ sym stands.epoch,
         subst (λ (b : BatchValue). Holds (w.opened + (w.stored - w.earlier)) (take size (drop w.stored w.applied)) b) (sym batch)
-            (holds_as (w.opened + (max w.taken w.earlier - w.earlier)) (w.opened + (w.stored - w.earlier)) (drop (max w.taken w.earlier) w.applied) (take size (drop w.stored w.applied)) old.core.row.waiting
-            (ap (λ (n : ℕ). w.opened + (n - w.earlier)) last) (ap (λ (n : ℕ). drop n w.applied) last ∙ sym (take_rest w.stored size w.applied (omega (arith, sum, nothing.0.taken_is)))) stands.waits.row_is),
+            (holds_as (w.opened + (max w.taken w.earlier - w.earlier)) (w.opened + (w.stored - w.earlier)) (drop (max w.taken w.earlier) w.applied) (take size (drop w.stored w.applied)) old.core.log.waiting
+            (ap (λ (n : ℕ). w.opened + (n - w.earlier)) last) (ap (λ (n : ℕ). drop n w.applied) last ∙ sym (take_rest w.stored size w.applied (omega (arith, sum, nothing.0.taken_is)))) stands.waits.log_is),
       ))
-      (subst (λ (k : KernelValue). Wait w.opened w.earlier (w.taken + size) w.applied stands.older k.older k.row.waiting) (sym core) (record {
+      (subst (λ (k : KernelValue). Wait w.opened w.earlier (w.taken + size) w.applied stands.older k.older k.log.waiting) (sym core) (record {
         before_is = subst (λ (l : List Record). Holds (stands.older + (w.taken + size) - w.earlier) l old.core.older) (sym none_left) (empty_holds (stands.older + w.taken - w.earlier) (stands.older + (w.taken + size) - w.earlier) old.core.older
             (subst (λ (l : List Record). Holds (stands.older + w.taken - w.earlier) l old.core.older) none_before stands.waits.before_is));
-        row_is = holds_none (w.opened + (max (w.taken + size) w.earlier - w.earlier)) (drop (max (w.taken + size) w.earlier) w.applied) all_out;
+        log_is = holds_none (w.opened + (max (w.taken + size) w.earlier - w.earlier)) (drop (max (w.taken + size) w.earlier) w.applied) all_out;
       })))
 
   pub shows_take : (w : World) (old new : SystemValue D) → StandsFor honest view base w old → Takes old new → Shows w world.take_batch world.done old new
   shows_take w old new stands takes = let t = takes.takes in elim t.which as (λ _. Shows w world.take_batch world.done old new) [
     | inl older ↦ shows_take_older w old new takes.taken stands t.some t.none_out older.0 older.1 older.2 takes.rest
-    | inr row ↦ shows_take_row w old new takes.taken stands t.some t.none_out row.0 row.1 row.2 row.3 takes.rest
+    | inr log ↦ shows_take_log w old new takes.taken stands t.some t.none_out log.0 log.1 log.2 log.3 takes.rest
   ]
 
   pub shows_no_take : (w : World) (old new : SystemValue D) → StandsFor honest view base w old → CannotTake old.core → new ≡ old → Shows w world.take_batch world.not_now old new
@@ -329,7 +329,7 @@ module _ {D : Type 0} (honest : Type 0) (view : D → View) (base : State) where
         and_false w.failed,
         λ possible. elim none [
           | inl empty ↦
-              let past = none_behind w old stands empty.0 in
+              let past = none_after w old stands empty.0 in
               omega (arith, possible.0, empty.1, waits_of w old stands past)
           | inr is_out ↦ some_batch _ _ _ _ _ old.out old.receipt (subst (Between w.batch w.taken w.stored w.handed (HasPlace w.epoch w.opened w.earlier w.stored stands.older w.applied) old.out old.receipt) is_out stands.between) possible.1
         ],
@@ -491,7 +491,7 @@ module _ {D : Type 0} (honest : Type 0) (view : D → View) (base : State) where
         | inr since ↦ since
       ];
     });
-    passes = λ is_honest. passes_as (view old.store.disk) (view new.store.disk) (StandsFrom base w.stored w) (StandsFrom base (told w) w) (time is_honest) (λ c from. from_told w old stands c from);
+    passes = λ is_honest. passes_as (view old.store.disk) (view new.store.disk) (StandsFrom base w.stored w) (StandsFrom base (acknowledged w) w) (time is_honest) (λ c from. from_told w old stands c from);
   }
 
   -- the device failed in an earlier event, and the event answers that

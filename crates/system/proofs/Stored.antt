@@ -7,8 +7,8 @@ use Rattle.journal.specs.declared.fault.StoreFault.{StoreFault}
 use Rattle.journal.specs.declared.fault.StoreFault.TheVariants.{Device, Failed, Full}
 use Rattle.journal.specs.declared.segment.Segment.{Segment}
 use Rattle.slot_steps.specs.Steps.{segment_slot}
-use Rattle.storing.specs.Changes.{IsAppended, PassesAppend}
-use Rattle.storing.specs.Values.{StoreValue}
+use Rattle.store_half.specs.Changes.{IsAppended, PassesAppend}
+use Rattle.store_half.specs.Values.{StoreValue}
 use Rattle.system.specs.Changes.{FailsToStore, FindsFull, Stores}
 use Rattle.system.specs.Core.{SystemValue}
 use Rattle.system.specs.Halves.{TakenValue}
@@ -52,7 +52,7 @@ module _ {D : Type 0} (honest : Type 0) (view : D → View) (old : SystemValue D
         ⊎ (((fault ≡ Device) × FailsToStore honest view old (record old { store = store; out = left })) ⊎ ((fault ≡ Full) × FindsFull old (record old { store = store; out = left })))
     fails failed full = elim faults [
       | inl is ↦
-          let told = device is in
+          let acknowledged = device is in
           inr (inl (
             is,
             record {
@@ -60,7 +60,7 @@ module _ {D : Type 0} (honest : Type 0) (view : D → View) (old : SystemValue D
               out = out;
               in_use = in_use;
               unfailed = unfailed;
-              rest = λ i. record old { store = record { disk = store.disk; segment = told.1 i; failed = told.0 i; checkpoint = under_way i }; out = is_out i };
+              rest = λ i. record old { store = record { disk = store.disk; segment = acknowledged.1 i; failed = acknowledged.0 i; checkpoint = under_way i }; out = is_out i };
               passes = passes;
             },
           ))
@@ -76,7 +76,7 @@ module _ {D : Type 0} (honest : Type 0) (view : D → View) (old : SystemValue D
     pub fails_in_order : IsInOrder old → IsInOrder (record old { store = store; out = left })
     fails_in_order order = record {
       out = subst (λ (o : Option TakenValue). IsOut o old.receipt old.core.is_out) (sym is_out) order.out;
-      counted = subst (λ (o : Option TakenValue). old.core.handed + taken_out o + stored_out old.receipt + old.core.older.count + old.core.row.waiting.count ≡ old.core.row.made) (sym is_out) order.counted;
+      counted = subst (λ (o : Option TakenValue). old.core.handed + taken_out o + stored_out old.receipt + old.core.older.count + old.core.log.waiting.count ≡ old.core.log.made) (sym is_out) order.counted;
       epoch = λ none. ap (λ (s : Segment). s.epoch) segment_same ∙ order.epoch (sym under_way ∙ none);
       next = λ checkpoint is. order.next checkpoint (sym under_way ∙ is);
       over = λ none. (under_way ∙ (order.over none).0, (order.over none).1);

@@ -5,10 +5,10 @@ use Rattle.disk.specs.Moments.{View, IsSynced}
 use Rattle.ipc_model.specs.calls.Step.{Step, has_record}
 use Rattle.ipc_model.specs.declared.call.Call.{Call}
 use Rattle.ipc_model.specs.declared.call.Reply.{Reply}
-use Rattle.ipc_model.specs.texts.Texts.{kept_record, FitsCall, IsRecord}
+use Rattle.ipc_model.specs.encodings.Encodings.{canonical_record, FitsCall, IsRecord}
 use Rattle.journal.specs.Batch.{BatchValue, Holds, empty_batch}
 use Rattle.slot_steps.specs.Steps.{segment_slot}
-use Rattle.storing.specs.Changes.{IsAppended, PassesAppend}
+use Rattle.store_half.specs.Changes.{IsAppended, PassesAppend}
 use Rattle.system.specs.Changes.{FailsToStore, HandsIn, Stores, Takes}
 use Rattle.system.specs.Core.{SystemValue}
 use Rattle.system.specs.Halves.{entry_of}
@@ -21,10 +21,10 @@ pub record IsResting {D : Type 0} (system : SystemValue D) : Type 0 where
   pub receipt : system.receipt ≡ None
   pub finished : system.finished ≡ None
   pub older : system.core.older ≡ empty_batch
-  pub waiting : system.core.row.waiting ≡ empty_batch
+  pub waiting : system.core.log.waiting ≡ empty_batch
   pub epoch : system.store.segment.epoch ≡ system.core.epoch
-  pub length : system.core.row.length ≡ system.store.segment.records
-  pub handed : system.core.handed ≡ system.core.row.made
+  pub length : system.core.log.length ≡ system.store.segment.records
+  pub handed : system.core.handed ≡ system.core.log.made
   pub is_cut : system.core.is_cut ≡ is_some system.store.checkpoint
   pub unfailed : system.store.failed ≡ false
 
@@ -47,7 +47,7 @@ module _ {D : Type 0} (honest : Type 0) (view : D → View) where
   pub record IsAlone (old : SystemValue D) (space : ℕ) (c : Call) (answer : Reply) (batch : BatchValue) : Type 0 where
     pub room : old.store.segment.records < MAX_RECORDS
     pub fits : FitsCall c
-    pub kept : IsRecord (kept_record (entry_of space c answer))
+    pub kept : IsRecord (canonical_record (entry_of space c answer))
     pub holds : Holds old.store.segment.records (entry_of space c answer ∷ []) batch
 
   -- the record of a call is stored

@@ -6,8 +6,8 @@ use Rattle.disk.specs.Moments.{View, IsSynced}
 use Rattle.ipc_model.specs.declared.call.Call.{Call}
 use Rattle.ipc_model.specs.declared.call.Reply.{Reply}
 use Rattle.slot_steps.specs.Steps.{segment_slot}
-use Rattle.storing.specs.Changes.{Finishes, IsAppended, PassesAppend}
-use Rattle.storing.specs.Values.{CutValue, begun}
+use Rattle.store_half.specs.Changes.{Finishes, IsAppended, PassesAppend}
+use Rattle.store_half.specs.Values.{CutValue, begun}
 use Rattle.system.specs.Core.{SystemValue}
 use Rattle.system.specs.Halves.{Cuts, Gives, IsFullFor, TakenValue, TakesBatch, TicketValue, with_receipt}
 

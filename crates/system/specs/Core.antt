@@ -8,20 +8,20 @@ use Rattle.disk.specs.Slots.{Slots}
 use Rattle.ipc_model.specs.calls.Step.{Run}
 use Rattle.ipc_model.specs.declared.record.Record.{Record}
 use Rattle.ipc_model.specs.declared.call.Reply.{Reply}
-use Rattle.ipc_model.specs.state.Circular.{Grounded}
+use Rattle.ipc_model.specs.state.Circular.{Acyclic}
 use Rattle.ipc_model.specs.state.Lawful.{Lawful}
 use Rattle.ipc_model.specs.state.State.{State}
-use Rattle.ipc_model.specs.texts.Texts.{kept_record}
+use Rattle.ipc_model.specs.encodings.Encodings.{canonical_record}
 use Rattle.ipc_model.specs.store.Recovery.{Recovered}
 use Rattle.ipc_model.specs.store.Store.{AreRecords}
-use Rattle.ipc_model.specs.world.World.{World, Ticket, Receipt, After, greatest_seen, of_append, of_finish, pieces_of, told}
+use Rattle.ipc_model.specs.world.World.{World, Ticket, Receipt, After, greatest_seen, of_append, of_finish, pieces_of, acknowledged}
 use Rattle.ipc_model.specs.world.World as world
 use Rattle.ipc_laws.specs.StepsKeep.{FitCalls}
 use Rattle.journal.specs.Batch.{BatchValue, Holds}
 use Rattle.journal.specs.declared.segment.Segment.{Segment}
-use Rattle.phases.specs.Phases.{Keeps}
-use Rattle.standing.specs.Standing.{as_written}
-use Rattle.storing.specs.Values.{CheckpointValue, StoreValue}
+use Rattle.checkpoint_phases.specs.Phases.{Keeps}
+use Rattle.store_layout.specs.Standing.{as_written}
+use Rattle.store_half.specs.Values.{CheckpointValue, StoreValue}
 use Rattle.system.specs.Events.{event_of, outcome_of}
 use Rattle.system.specs.Halves.{KernelValue, TakenValue, TicketValue, first_half}
 use Rattle.system.specs.declared.event.Event.{Event}
@@ -61,26 +61,26 @@ first_system kernel disk segment = record {
 pub record IsApplied (base : State) (applied : List Record) (kernel : State) (made : ℕ) : Type 0 where
   pub run : Run base applied kernel
   pub fit : FitCalls applied
-  pub records : AreRecords (map kept_record applied)
+  pub records : AreRecords (map canonical_record applied)
   pub made_is : made ≡ length applied
   pub lawful : Lawful base
-  pub grounded : Grounded base
+  pub acyclic : Acyclic base
 
 -- How many records there are: `all` were applied since the opening; of these `earlier` before this epoch, whose log
 -- began with `opened` records. The log of the epoch before has `older` records, of which the last is the last of the
 -- earlier ones.
-pub record Counts (opened earlier taken stored all older row : ℕ) : Type 0 where
+pub record Counts (opened earlier taken stored all older log : ℕ) : Type 0 where
   pub earlier_within : earlier ≤ all
   pub taken_within : taken ≤ all
-  pub row_is : row ≡ opened + (all - earlier)
-  pub room : earlier < all → row ≤ MAX_RECORDS
+  pub log_is : log ≡ opened + (all - earlier)
+  pub room : earlier < all → log ≤ MAX_RECORDS
   pub older_within : stored < earlier → earlier ≤ older + stored
   pub older_room : stored < earlier → older ≤ MAX_RECORDS
 
 -- The records that wait: those of the epoch before that aren't taken, and those of the epoch log.
-pub record Wait (opened earlier taken : ℕ) (applied : List Record) (older : ℕ) (before row : BatchValue) : Type 0 where
+pub record Wait (opened earlier taken : ℕ) (applied : List Record) (older : ℕ) (before log : BatchValue) : Type 0 where
   pub before_is : Holds (older + taken - earlier) (drop taken (take earlier applied)) before
-  pub row_is : Holds (opened + (max taken earlier - earlier)) (drop (max taken earlier) applied) row
+  pub log_is : Holds (opened + (max taken earlier - earlier)) (drop (max taken earlier) applied) log
 
 -- a batch of this many records that follow the stored ones: of the epoch before, or of the epoch log
 abbrev pub HasPlace : ℕ → ℕ → ℕ → ℕ → ℕ → List Record → ℕ → TakenValue → Type 0
@@ -129,7 +129,7 @@ pub record IsSameCheckpoint (epoch : ℕ) (written : world.Checkpoint) (checkpoi
   pub epoch_is : checkpoint.epoch ≡ epoch
   pub rolled : checkpoint.rolled ≡ written.rolled
   pub imaged : checkpoint.imaged ≡ written.imaged
-  pub pieces : written.pieces ≡ pieces_of checkpoint.text
+  pub pieces : written.pieces ≡ pieces_of checkpoint.encoding
   pub unfinished : written.finished ≡ false
 
 pub record IsFinishedCheckpoint (written : world.Checkpoint) : Type 0 where
@@ -156,7 +156,7 @@ pub record IsBeforeEpoch (epoch opened earlier stored older : ℕ) (segment : Se
   pub counted : segment.records + earlier ≡ older + stored
   pub none_opened : opened ≡ 0
   pub rolled : checkpoint.rolled < 3
-  pub row : checkpoint.row ≡ older
+  pub log : checkpoint.log ≡ older
 
 abbrev pub IsInUse : ℕ → ℕ → ℕ → ℕ → ℕ → Segment → Option CheckpointValue → Type 0
 IsInUse epoch opened earlier stored older segment None = IsInEpoch epoch opened earlier stored segment
@@ -200,12 +200,12 @@ pub record KeepsStored {D : Type 0} (view : D → View) (store : StoreValue D) (
 -- that was applied, and its store is kept with what is stored.
 pub record StandsFor {D : Type 0} (honest : Type 0) (view : D → View) (base : State) (world : World) (system : SystemValue D) : Type 0 where
   pub epoch : world.epoch ≡ system.core.epoch
-  pub applied : IsApplied base world.applied system.core.kernel system.core.row.made
+  pub applied : IsApplied base world.applied system.core.kernel system.core.log.made
   pub handed : system.core.handed ≡ world.handed
   -- how many records the log of the epoch before has
   pub older : ℕ
-  pub counts : Counts world.opened world.earlier world.taken world.stored (length world.applied) older system.core.row.length
-  pub waits : Wait world.opened world.earlier world.taken world.applied older system.core.older system.core.row.waiting
+  pub counts : Counts world.opened world.earlier world.taken world.stored (length world.applied) older system.core.log.length
+  pub waits : Wait world.opened world.earlier world.taken world.applied older system.core.older system.core.log.waiting
   pub between : Between world.batch world.taken world.stored world.handed (HasPlace world.epoch world.opened world.earlier world.stored older world.applied) system.out system.receipt system.core.is_out
   pub receipts : world.receipts ≡ in_turn system.receipt system.finished system.finished_first
   pub checkpoint : Checkpoints world.epoch world.checkpoint system.store.checkpoint system.finished system.core.is_cut
@@ -224,8 +224,8 @@ pub record Steps {D : Type 0} (honest : Type 0) (view : D → View) (base : Stat
   pub next : World
   pub after : After base world (event_of event) (outcome_of answered kept) next
   pub stands : StandsFor honest view base next new
-  pub passes : honest → Passes (view old.store.disk) (view new.store.disk) (StandsFrom base (told world) next)
-  pub left : honest → (c : Slots) → MayLeave (view new.store.disk) c → StandsFrom base (told next) next c
+  pub passes : honest → Passes (view old.store.disk) (view new.store.disk) (StandsFrom base (acknowledged world) next)
+  pub left : honest → (c : Slots) → MayLeave (view new.store.disk) c → StandsFrom base (acknowledged next) next c
 
 -- An event of a core, whatever world it stands for.
 abbrev pub Simulates : {D : Type 0} → Type 0 → (D → View) → Event → Outcome → SystemValue D → SystemValue D → Type 0
@@ -250,7 +250,7 @@ abbrev pub Runs : Type 0 → State → World → List Event → List Outcome →
 Runs honest base world [] [] from last end = (end ≡ world) × (honest → from ≡ last.moment)
 Runs honest base world (event ∷ events) (answered ∷ outcomes) from last end =
     (kept : Reply) × (next : World) × (until : ℕ) × After base world (event_of event) (outcome_of answered kept) next
-    × (honest → AreBounded base (told world) (told next) next from until last) × Runs honest base next events outcomes until last end
+    × (honest → AreBounded base (acknowledged world) (acknowledged next) next from until last) × Runs honest base next events outcomes until last end
 Runs honest base world _ _ from last end = ⊥
 
 -- A list of events of a core that stands for a world.

@@ -5,7 +5,7 @@ use Rattle.system.specs.declared.event.Outcome.{Outcome}
 use Rattle.system.specs.declared.event.Outcome.TheVariants as outcome
 use Rattle.system.specs.declared.system.CallFault.{CallFault}
 use Rattle.system.specs.declared.system.CallFault.TheVariants.{Submit, Store}
-pub use Rattle.storing.specs.Counting.{counted, counted_fault}
+pub use Rattle.store_half.specs.Counting.{counted, counted_fault}
 
 -- the count after a call with this result
 abbrev pub counted_call : {T : Type 0} → Result T CallFault → ℕ → ℕ

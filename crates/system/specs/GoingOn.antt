@@ -4,10 +4,10 @@ use Rattle.disk.specs.Moments.{View}
 use Rattle.disk.specs.Slots.{Slots}
 use Rattle.ipc_model.specs.state.State.{State}
 use Rattle.ipc_model.specs.store.Recovery.{IsImageOf, Recovered}
-use Rattle.phases.specs.Phases.{Keeps}
-use Rattle.standing.specs.Standing.{as_written}
-use Rattle.storing.specs.Changes.{CanFinish, ClosesImage, Finishes, HasImaged, HasPieceLeft, RollsClose, RollsHead, RollsOpen, WritesPiece}
-use Rattle.storing.specs.Values.{CheckpointValue, CutValue, StoreValue, begun}
+use Rattle.checkpoint_phases.specs.Phases.{Keeps}
+use Rattle.store_layout.specs.Standing.{as_written}
+use Rattle.store_half.specs.Changes.{CanFinish, ClosesImage, Finishes, HasImaged, HasPieceLeft, RollsClose, RollsHead, RollsOpen, WritesPiece}
+use Rattle.store_half.specs.Values.{CheckpointValue, CutValue, StoreValue, begun}
 
 -- slots from which this state is recovered
 abbrev pub Recovers : State → Slots → Type 0
@@ -22,7 +22,7 @@ pub record IsFirstStep {D : Type 0} (store : StoreValue D) : Type 0 where
   pub checkpoint : CheckpointValue
   pub under_way : store.checkpoint ≡ Some checkpoint
   pub none_rolled : checkpoint.rolled ≡ 0
-  pub whole : store.segment.records ≡ checkpoint.row
+  pub whole : store.segment.records ≡ checkpoint.log
   pub unfailed : store.failed ≡ false
 
 -- The next segment is in use, without a record.
@@ -46,8 +46,8 @@ module _ {D : Type 0} (honest : Type 0) (view : D → View) where
   pub record BeginsNext (state : State) (old new : StoreValue D) : Type 0 where
     pub cut : CutValue
     pub epoch : cut.epoch ≡ old.segment.epoch + 1
-    pub row : cut.row ≡ old.segment.records
-    pub image : IsImageOf cut.text state
+    pub log : cut.log ≡ old.segment.records
+    pub image : IsImageOf cut.encoding state
     pub rolls : RollsOver (record old { checkpoint = Some (begun cut) }) new
 
   -- What is done where no checkpoint is under way: the next epoch begins, if the segment in use has this many records

@@ -11,39 +11,39 @@ use Rattle.ipc_model.specs.declared.record.Record.{Record}
 use Rattle.ipc_model.specs.state.State.{State}
 use Rattle.ipc_model.specs.state.StateCode.{state_code}
 use Rattle.ipc_model.specs.store.Recovery.{IsImageOf}
-use Rattle.ipc_model.specs.texts.Texts.{kept_record, record_text, FitsCall, IsRecord}
-use Rattle.journal.specs.Batch.{BatchValue, batch_code, empty_batch, with_text}
-use Rattle.storing.specs.Values.{CutValue}
+use Rattle.ipc_model.specs.encodings.Encodings.{canonical_record, record_encoding, FitsCall, IsRecord}
+use Rattle.journal.specs.Batch.{BatchValue, batch_code, empty_batch, with_encoding}
+use Rattle.store_half.specs.Values.{CutValue}
 
 -- The log of an epoch: how many records it has, how many were made since the store was opened, in all epochs, and the
 -- ones that wait to be taken, the log's last.
-pub record RowValue : Type 0 where
+pub record EpochLogValue : Type 0 where
   pub length : ℕ
   pub made : ℕ
   pub waiting : BatchValue
 
-abbrev pub row_code : Coded RowValue
-row_code =
+abbrev pub log_code : Coded EpochLogValue
+log_code =
     code_by (ℕ × (ℕ × BatchValue)) (coded× coded_ℕ (coded× coded_ℕ batch_code)) (λ r. (r.length, (r.made, r.waiting))) (λ p. record { length = p.0; made = p.1.0; waiting = p.1.1 }) (λ _. refl)
 
 abbrev pub entry_of : ℕ → Call → Reply → Record
 entry_of space c answer = record { space = space; call = c; reply = answer }
 
 -- one more record, which has the next number
-abbrev pub with_record : RowValue → Record → RowValue
-with_record row entry = record { length = row.length + 1; made = row.made + 1; waiting = with_text row.waiting (record_text row.length entry) }
+abbrev pub with_record : EpochLogValue → Record → EpochLogValue
+with_record log entry = record { length = log.length + 1; made = log.made + 1; waiting = with_encoding log.waiting (record_encoding log.length entry) }
 
 -- an epoch log after a call with this reply
-abbrev pub row_after : RowValue → ℕ → Call → Reply → RowValue
-row_after row space c answer = if has_record c answer then with_record row (entry_of space c answer) else row
+abbrev pub log_after : EpochLogValue → ℕ → Call → Reply → EpochLogValue
+log_after log space c answer = if has_record c answer then with_record log (entry_of space c answer) else log
 
 -- A record was added to an epoch log, and what is kept of it is one that a segment may hold.
-abbrev pub Wrote : RowValue → ℕ → Call → Reply → RowValue → Type 0
-Wrote old space c answer new = (new ≡ with_record old (entry_of space c answer)) × IsRecord (kept_record (entry_of space c answer))
+abbrev pub Wrote : EpochLogValue → ℕ → Call → Reply → EpochLogValue → Type 0
+Wrote old space c answer new = (new ≡ with_record old (entry_of space c answer)) × IsRecord (canonical_record (entry_of space c answer))
 
 -- the log of the next epoch, which has no record
-abbrev pub next_row : RowValue → RowValue
-next_row row = record { length = 0; made = row.made; waiting = empty_batch }
+abbrev pub next_log : EpochLogValue → EpochLogValue
+next_log log = record { length = 0; made = log.made; waiting = empty_batch }
 
 -- A ticket: the reply that it keeps, and how many of the records that were made its call saw.
 pub record TicketValue : Type 0 where
@@ -70,16 +70,16 @@ pub record KernelValue : Type 0 where
   pub kernel : State
   pub epoch : ℕ
   pub older : BatchValue
-  pub row : RowValue
+  pub log : EpochLogValue
   pub handed : ℕ
   pub is_out : Bool
   pub is_cut : Bool
 
 abbrev pub kernel_code : Coded KernelValue
 kernel_code =
-    code_by (State × (ℕ × (BatchValue × (RowValue × (ℕ × (Bool × Bool)))))) (coded× state_code (coded× coded_ℕ (coded× batch_code (coded× row_code (coded× coded_ℕ (coded× coded_bool coded_bool))))))
-    (λ k. (k.kernel, (k.epoch, (k.older, (k.row, (k.handed, (k.is_out, k.is_cut)))))))
-    (λ p. record { kernel = p.0; epoch = p.1.0; older = p.1.1.0; row = p.1.1.1.0; handed = p.1.1.1.1.0; is_out = p.1.1.1.1.1.0; is_cut = p.1.1.1.1.1.1 }) (λ _. refl)
+    code_by (State × (ℕ × (BatchValue × (EpochLogValue × (ℕ × (Bool × Bool)))))) (coded× state_code (coded× coded_ℕ (coded× batch_code (coded× log_code (coded× coded_ℕ (coded× coded_bool coded_bool))))))
+    (λ k. (k.kernel, (k.epoch, (k.older, (k.log, (k.handed, (k.is_out, k.is_cut)))))))
+    (λ p. record { kernel = p.0; epoch = p.1.0; older = p.1.1.0; log = p.1.1.1.0; handed = p.1.1.1.1.0; is_out = p.1.1.1.1.1.0; is_cut = p.1.1.1.1.1.1 }) (λ _. refl)
 
 -- a half that continues from a state in an epoch, whose log has this many records, all of which are stored
 abbrev pub first_half : State → ℕ → ℕ → KernelValue
@@ -87,7 +87,7 @@ first_half kernel epoch records = record {
   kernel = kernel;
   epoch = epoch;
   older = empty_batch;
-  row = record { length = records; made = 0; waiting = empty_batch };
+  log = record { length = records; made = 0; waiting = empty_batch };
   handed = 0;
   is_out = false;
   is_cut = false;
@@ -97,17 +97,17 @@ first_half kernel epoch records = record {
 -- is one; and the ticket saw all records that were made.
 pub record Gives (old : KernelValue) (space : ℕ) (c : Call) (ticket : TicketValue) (new : KernelValue) : Type 0 where
   pub step : Step old.kernel space c ticket.answer new.kernel
-  pub row : new.row ≡ row_after old.row space c ticket.answer
-  pub seen : ticket.seen ≡ new.row.made
-  pub room : has_record c ticket.answer ≡ true → old.row.length < MAX_RECORDS
+  pub log : new.log ≡ log_after old.log space c ticket.answer
+  pub seen : ticket.seen ≡ new.log.made
+  pub room : has_record c ticket.answer ≡ true → old.log.length < MAX_RECORDS
   pub fits : FitsCall c
-  pub kept : has_record c ticket.answer ≡ true → IsRecord (kept_record (entry_of space c ticket.answer))
-  pub rest : new ≡ record old { kernel = new.kernel; row = new.row }
+  pub kept : has_record c ticket.answer ≡ true → IsRecord (canonical_record (entry_of space c ticket.answer))
+  pub rest : new ≡ record old { kernel = new.kernel; log = new.log }
 
 -- The epoch log takes no more records, and a step of the call has one.
 abbrev pub IsFullFor : KernelValue → ℕ → Call → Type 0
 IsFullFor half space c =
-    (MAX_RECORDS ≤ half.row.length) × ((answer : Reply) × (new : State) × Step half.kernel space c answer new × (has_record c answer ≡ true))
+    (MAX_RECORDS ≤ half.log.length) × ((answer : Reply) × (new : State) × Step half.kernel space c answer new × (has_record c answer ≡ true))
 
 -- Records that waited are out as a batch: those of the epoch before, and if none of these is left, those of the epoch
 -- log.
@@ -115,12 +115,12 @@ pub record TakesBatch (old : KernelValue) (taken : TakenValue) (new : KernelValu
   pub some : 0 < taken.batch.count
   pub none_out : old.is_out ≡ false
   pub which : ((taken.epoch + 1 ≡ old.epoch) × (taken.batch ≡ old.older) × (new ≡ record old { older = empty_batch; is_out = true }))
-      ⊎ ((old.older.count ≡ 0) × (taken.epoch ≡ old.epoch) × (taken.batch ≡ old.row.waiting)
-      × (new ≡ record old { row = record old.row { waiting = empty_batch }; is_out = true }))
+      ⊎ ((old.older.count ≡ 0) × (taken.epoch ≡ old.epoch) × (taken.batch ≡ old.log.waiting)
+      × (new ≡ record old { log = record old.log { waiting = empty_batch }; is_out = true }))
 
 -- no record waits, or a batch is out
 abbrev pub CannotTake : KernelValue → Type 0
-CannotTake half = ((half.older.count ≡ 0) × (half.row.waiting.count ≡ 0)) ⊎ (half.is_out ≡ true)
+CannotTake half = ((half.older.count ≡ 0) × (half.log.waiting.count ≡ 0)) ⊎ (half.is_out ≡ true)
 
 -- the receipt of this many records was handed in
 abbrev pub with_receipt : KernelValue → ℕ → KernelValue
@@ -136,6 +136,6 @@ pub record CanCut (half : KernelValue) : Type 0 where
 pub record Cuts (old : KernelValue) (cut : CutValue) (new : KernelValue) : Type 0 where
   pub can : CanCut old
   pub epoch : cut.epoch ≡ old.epoch + 1
-  pub row : cut.row ≡ old.row.length
-  pub image : IsImageOf cut.text old.kernel
-  pub rest : new ≡ record old { epoch = old.epoch + 1; older = old.row.waiting; row = next_row old.row; is_cut = true }
+  pub log : cut.log ≡ old.log.length
+  pub image : IsImageOf cut.encoding old.kernel
+  pub rest : new ≡ record old { epoch = old.epoch + 1; older = old.log.waiting; log = next_log old.log; is_cut = true }

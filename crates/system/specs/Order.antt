@@ -1,7 +1,7 @@
 -- What holds of a core at any time.
 use Rattle.std.specs.Prelude.{◌≡◌, ℕ, ◌+◌, ◌<◌, ◌≤◌, Bool, true, false, Option, None, Some}
 use Rattle.std.specs.FinMap as finmap
-use Rattle.storing.specs.Values.{CheckpointValue}
+use Rattle.store_half.specs.Values.{CheckpointValue}
 use Rattle.system.specs.Core.{SystemValue}
 use Rattle.system.specs.Halves.{TakenValue}
 
@@ -25,7 +25,7 @@ stored_out (Some size) = size
 pub record IsInOrder {D : Type 0} (system : SystemValue D) : Type 0 where
   pub out : IsOut system.out system.receipt system.core.is_out
   -- each record that was made was handed in, or is out, or waits
-  pub counted : system.core.handed + taken_out system.out + stored_out system.receipt + system.core.older.count + system.core.row.waiting.count ≡ system.core.row.made
+  pub counted : system.core.handed + taken_out system.out + stored_out system.receipt + system.core.older.count + system.core.log.waiting.count ≡ system.core.log.made
   -- the halves are in one epoch, or a checkpoint leads there
   pub epoch : system.store.checkpoint ≡ None → system.store.segment.epoch ≡ system.core.epoch
   pub next : (checkpoint : CheckpointValue) → system.store.checkpoint ≡ Some checkpoint → checkpoint.epoch ≡ system.core.epoch

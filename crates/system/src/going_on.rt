@@ -2,10 +2,10 @@
 ghost use Rattle.std.specs.Prelude.{◌≡◌, ◌⊎◌, ◌<◌, false, IfErr, OnOk};
 ghost use Rattle.disk.specs.Moments.{Passes};
 ghost use Rattle.ipc_model.specs.state.State.{State};
-ghost use Rattle.phases.specs.Phases.{Keeps};
+ghost use Rattle.checkpoint_phases.specs.Phases.{Keeps};
 ghost use Rattle.system.specs.Calling.{IsResting};
 ghost use Rattle.journal.specs.declared.fault.StoreFault.{StoreFault};
-ghost use Rattle.storing.specs.Changes.{HasImaged};
+ghost use Rattle.store_half.specs.Changes.{HasImaged};
 ghost use Rattle.system.specs.Counting.{counted};
 ghost use Rattle.system.specs.GoingOn.{GoesOn, GoesOnImage, GoesOnPieces, IsFirstStep, IsRolledOver, IsStanding, Recovers, RollsOver, TakesMemory};
 
@@ -25,7 +25,7 @@ impl<D: Disk> System<D> {
         ensures goes { OnOk result (GoesOn D.honest D.view records self.old.core.kernel self.old.store.checkpoint self.old.store self.new.store) }
         ensures rests { OnOk result (IsResting self.new) }
         ensures kernel { self.new.core.kernel ≡ self.old.core.kernel }
-        ensures tickets { (self.new.core.row.made ≡ self.old.core.row.made) × (self.new.tickets ≡ self.old.tickets) }
+        ensures tickets { (self.new.core.log.made ≡ self.old.core.log.made) × (self.new.tickets ≡ self.old.tickets) }
         ensures kept { D.honest → IsStanding D.view self.old.store self.old.core.kernel → OnOk result (IsStanding D.view self.new.store self.new.core.kernel) }
         ensures passes { D.honest → IsStanding D.view self.old.store self.old.core.kernel
             → Passes (D.view self.old.store.disk) (D.view self.new.store.disk) (Recovers self.old.core.kernel) }
@@ -36,7 +36,7 @@ impl<D: Disk> System<D> {
         if self.store.is_checkpointing() {
             return self.go_on_image();
         }
-        if self.core.row_length() < records {
+        if self.core.log_length() < records {
             return Ok(());
         }
         match self.cut() {
@@ -78,7 +78,7 @@ impl<D: Disk> System<D> {
         ensures goes { OnOk result (GoesOnImage D.honest D.view self.old.store self.new.store) }
         ensures rests { OnOk result (IsResting self.new) }
         ensures kernel { self.new.core.kernel ≡ self.old.core.kernel }
-        ensures tickets { (self.new.core.row.made ≡ self.old.core.row.made) × (self.new.tickets ≡ self.old.tickets) }
+        ensures tickets { (self.new.core.log.made ≡ self.old.core.log.made) × (self.new.tickets ≡ self.old.tickets) }
         ensures kept { D.honest → IsStanding D.view self.old.store self.old.core.kernel → OnOk result (IsStanding D.view self.new.store self.new.core.kernel) }
         ensures passes { D.honest → IsStanding D.view self.old.store self.old.core.kernel
             → Passes (D.view self.old.store.disk) (D.view self.new.store.disk) (Recovers self.old.core.kernel) }
@@ -98,7 +98,7 @@ impl<D: Disk> System<D> {
         ensures goes { OnOk result (GoesOnPieces D.honest D.view self.old.store self.new.store) }
         ensures rests { OnOk result (IsResting self.new) }
         ensures kernel { self.new.core.kernel ≡ self.old.core.kernel }
-        ensures tickets { (self.new.core.row.made ≡ self.old.core.row.made) × (self.new.tickets ≡ self.old.tickets) }
+        ensures tickets { (self.new.core.log.made ≡ self.old.core.log.made) × (self.new.tickets ≡ self.old.tickets) }
         ensures kept { D.honest → IsStanding D.view self.old.store self.old.core.kernel → OnOk result (IsStanding D.view self.new.store self.new.core.kernel) }
         ensures passes { D.honest → IsStanding D.view self.old.store self.old.core.kernel
             → Passes (D.view self.old.store.disk) (D.view self.new.store.disk) (Recovers self.old.core.kernel) }

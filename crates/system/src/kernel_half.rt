@@ -1,23 +1,23 @@
 ghost use Rattle.std.specs.Prelude.{◌≡◌, ◌+◌, ◌-◌, ◌^◌, ◌<◌, ◌≤◌, true, false, length, MatchBool, IfOk, IfErr, IfSome, IfNone, OnErr, IsErrOf};
 ghost use Rattle.codes.specs.declared.limits.TheConstants.{MAX_FRAME_CONTENT, MAX_RECORDS};
 ghost use Rattle.ipc_model.specs.calls.Step.{Step, has_record};
-ghost use Rattle.ipc_model.specs.texts.Texts.{reply_text};
+ghost use Rattle.ipc_model.specs.encodings.Encodings.{reply_encoding};
 ghost use Rattle.system.specs.Halves.{CanCut, CannotTake, Cuts, Gives, IsFullFor, TakesBatch, Wrote, first_half, with_receipt};
 ghost use Rattle.waiting.specs.Places.{names};
 ghost use Rattle.waiting.specs.Waiting.{Wakes};
 
 use crate::Ticket;
-use crate::row::Row;
+use crate::epoch_log::EpochLog;
 use crate::taken::Taken;
 use crate::witness::{Witness, Witnessed};
+use checkpoint_phases::Kernel;
 use codes::MAX_RECORDS;
 use image::image_is_of_state;
 use ipc_model::{Call, Reply, call_in_range};
 use journal::Batch;
-use phases::Kernel;
 use std::alloc::{AllocError, Global};
 use std::marker::Model;
-use storing::{Cut, Finished, Receipt};
+use store_half::{Cut, Finished, Receipt};
 use waiting::Places;
 
 /// Why a call wasn't made. Nothing changed.
@@ -47,7 +47,7 @@ pub struct KernelHalf {
 
     // The records of the previous epoch that wait to be taken.
     older: Batch,
-    row: Row,
+    log: EpochLog,
     handed: u64,
 
     // The batch that takes the place of the one that is taken next; `None` while a batch is out.
@@ -62,14 +62,14 @@ impl Drop for KernelHalf {
             kernel,
             epoch: _,
             older,
-            row,
+            log,
             handed: _,
             spare,
             is_cut: _,
         } = self;
         drop(kernel);
         drop(older);
-        drop(row);
+        drop(log);
         drop(spare);
     }
 }
@@ -83,10 +83,10 @@ impl Model for KernelHalf {
 
     ghost coded = { kernel_code };
 
-    ghost view = { λ k. record { kernel = k.kernel; epoch = k.epoch; older = k.older; row = k.row; handed = k.handed; is_out = is_none k.spare; is_cut = k.is_cut } };
+    ghost view = { λ k. record { kernel = k.kernel; epoch = k.epoch; older = k.older; log = k.log; handed = k.handed; is_out = is_none k.spare; is_cut = k.is_cut } };
 
     // If records of the previous epoch wait, this epoch isn't the first.
-    ghost invariant = { λ k. (k.handed ≤ k.row.made) × (k.row.made < 2 ^ 64) × IfSome k.spare (λ batch. batch ≡ empty_batch)
+    ghost invariant = { λ k. (k.handed ≤ k.log.made) × (k.log.made < 2 ^ 64) × IfSome k.spare (λ batch. batch ≡ empty_batch)
         × (0 < k.older.count → 0 < k.epoch) };
 }
 
@@ -99,7 +99,7 @@ impl KernelHalf {
             kernel,
             epoch,
             older: Batch::new(alloc),
-            row: Row::new(alloc, records),
+            log: EpochLog::new(alloc, records),
             handed: 0,
             spare: Some(Batch::new(alloc)),
             is_cut: false,
@@ -107,10 +107,10 @@ impl KernelHalf {
     }
 
     /// How many records the epoch log has.
-    pub fn row_length(&self) -> u64
-        ensures { result ≡ self.now.row.length }
+    pub fn log_length(&self) -> u64
+        ensures { result ≡ self.now.log.length }
     {
-        self.row.len()
+        self.log.len()
     }
 
     /// The epoch in which calls are made.
@@ -129,9 +129,9 @@ impl KernelHalf {
 
     /// How many records were made since it began, in all epochs.
     pub fn made(&self) -> u64
-        ensures { result ≡ self.now.row.made }
+        ensures { result ≡ self.now.log.made }
     {
-        self.row.made()
+        self.log.made()
     }
 
     /// Makes a call of a task of this space. Its record, if it has one, then waits to be taken.
@@ -142,14 +142,14 @@ impl KernelHalf {
     {
         call_in_range(call);
         // No machine makes this many records.
-        if self.row.made() == u64::MAX {
+        if self.log.made() == u64::MAX {
             return Err(SubmitFault::NoMemory);
         }
-        if self.row.len() >= MAX_RECORDS {
+        if self.log.len() >= MAX_RECORDS {
             return self.submit_without_room(space, call);
         }
-        let reply = self.kernel.apply_recorded(space, call, &mut self.row)?;
-        let seen = self.row.made();
+        let reply = self.kernel.apply_recorded(space, call, &mut self.log)?;
+        let seen = self.log.made();
         Ok(Ticket { reply, seen })
     }
 
@@ -157,7 +157,7 @@ impl KernelHalf {
     /// is committed. If the witness can't learn of it, the answer is out of memory, and nothing changed.
     ///
     /// It names the places at which the call may have given a waiting call something to do: no wake-up is lost.
-    pub fn submit_beside<W: Witness>(
+    pub fn submit_with_witness<W: Witness>(
         &mut self,
         space: u32,
         call: &Call,
@@ -173,10 +173,10 @@ impl KernelHalf {
     {
         places.clear();
         // No machine makes this many records.
-        if self.row.made() == u64::MAX {
+        if self.log.made() == u64::MAX {
             return (witness, Err(SubmitFault::NoMemory));
         }
-        let length = self.row.len();
+        let length = self.log.len();
         if length >= MAX_RECORDS {
             return (witness, self.submit_without_room(space, call));
         }
@@ -195,7 +195,7 @@ impl KernelHalf {
         witness: W,
         places: &mut Places,
     ) -> (W, Result<Ticket, AllocError>)
-        requires { (self.old.row.length < MAX_RECORDS) × (self.old.row.made < 2 ^ 64 - 1) }
+        requires { (self.old.log.length < MAX_RECORDS) × (self.old.log.made < 2 ^ 64 - 1) }
         ensures given { IfOk result.1 (λ ticket. Gives self.old space call.now ticket self.new) }
         ensures wakes { IfOk result.1 (λ ticket. Wakes self.old.kernel self.new.kernel (names places.new)) }
         ensures learned { IfOk result.1 (λ ticket. has_record call.now ticket.answer ≡ true → W.learned witness space call.now ticket.answer result.0) }
@@ -203,9 +203,9 @@ impl KernelHalf {
         ensures err { OnErr result.1 ((self.new ≡ self.old) × (result.0 ≡ witness)) }
     {
         call_in_range(call);
-        let (witness, made) = apply_beside(
+        let (witness, made) = apply_with_witness(
             &mut self.kernel,
-            &mut self.row,
+            &mut self.log,
             space,
             call,
             witness,
@@ -215,13 +215,13 @@ impl KernelHalf {
             Ok(reply) => reply,
             Err(refused) => return (witness, Err(refused)),
         };
-        let seen = self.row.made();
+        let seen = self.log.made();
         (witness, Ok(Ticket { reply, seen }))
     }
 
     /// Makes a call that has no record.
     fn submit_without_room(&mut self, space: u32, call: &Call) -> Result<Ticket, SubmitFault>
-        requires { MAX_RECORDS ≤ self.old.row.length }
+        requires { MAX_RECORDS ≤ self.old.log.length }
         ensures given { IfOk result (λ ticket. Gives self.old space call.now ticket self.new) }
         ensures same { self.new ≡ self.old }
         ensures full { IsErrOf result SubmitFault.EpochFull → IsFullFor self.old space call.now }
@@ -231,7 +231,7 @@ impl KernelHalf {
         let Some(reply) = answer else {
             return Err(SubmitFault::EpochFull);
         };
-        let seen = self.row.made();
+        let seen = self.log.made();
         Ok(Ticket { reply, seen })
     }
 
@@ -247,18 +247,18 @@ impl KernelHalf {
             let batch = std::mem::replace(&mut self.older, empty);
             return Some(Taken { epoch, batch });
         }
-        if self.row.waiting() == 0 {
+        if self.log.waiting() == 0 {
             return None;
         }
         let empty = self.spare.take()?;
         let epoch = self.epoch;
-        let batch = self.row.take(empty);
+        let batch = self.log.take(empty);
         Some(Taken { epoch, batch })
     }
 
     /// Learns that the records of the batch that was out are stored.
     pub fn durable(&mut self, receipt: Receipt)
-        requires { self.old.handed + receipt ≤ self.old.row.made }
+        requires { self.old.handed + receipt ≤ self.old.log.made }
         ensures { self.new ≡ with_receipt self.old receipt }
     {
         self.handed += u64::from(receipt.count());
@@ -277,12 +277,12 @@ impl KernelHalf {
         }
         let snapshot = self.kernel.copy(alloc)?;
         image_is_of_state();
-        self.kernel.has_image();
-        let row = self.row.len();
-        self.older = self.row.end();
+        self.kernel.show_image();
+        let log = self.log.len();
+        self.older = self.log.end();
         self.epoch += 1;
         self.is_cut = true;
-        Ok(Some(Cut::new(snapshot, self.epoch, row)))
+        Ok(Some(Cut::new(snapshot, self.epoch, log)))
     }
 
     /// Learns that the checkpoint is over.
@@ -303,7 +303,7 @@ impl KernelHalf {
     /// The reply that a ticket keeps, once all records that it saw are stored; else the ticket comes back.
     pub fn reply(&self, ticket: Ticket) -> Result<Reply, Ticket>
         ensures ok { IfOk result (λ reply. (ticket.seen ≤ self.now.handed) × (reply ≡ ticket.answer)) }
-        ensures frame { IfOk result (λ reply. length (reply_text reply) ≤ MAX_FRAME_CONTENT) }
+        ensures frame { IfOk result (λ reply. length (reply_encoding reply) ≤ MAX_FRAME_CONTENT) }
         ensures err { IfErr result (λ kept. (self.now.handed < ticket.seen) × (kept ≡ ticket)) }
     {
         ticket.redeem(self.handed)
@@ -312,29 +312,29 @@ impl KernelHalf {
 
 /// Makes a step of the machine. Its record, if it has one, is written into the epoch log, and the witness learns of it,
 /// before the step is committed.
-fn apply_beside<W: Witness>(
+fn apply_with_witness<W: Witness>(
     kernel: &mut Kernel,
-    row: &mut Row,
+    log: &mut EpochLog,
     space: u32,
     call: &Call,
     witness: W,
     places: &mut Places,
 ) -> (W, Result<Reply, AllocError>)
-    requires { (row.old.length < MAX_RECORDS) × (row.old.made < 2 ^ 64 - 1) }
+    requires { (log.old.length < MAX_RECORDS) × (log.old.made < 2 ^ 64 - 1) }
     ensures step { IfOk result.1 (λ reply. Step kernel.old space call.now reply kernel.new) }
     ensures wakes { IfOk result.1 (λ reply. Wakes kernel.old kernel.new (names places.new)) }
-    ensures recorded { IfOk result.1 (λ reply. has_record call.now reply ≡ true → Wrote row.old space call.now reply row.new × W.learned witness space call.now reply result.0) }
-    ensures unrecorded { IfOk result.1 (λ reply. has_record call.now reply ≡ false → (row.new ≡ row.old) × (result.0 ≡ witness)) }
-    ensures fits { IfOk result.1 (λ reply. length (reply_text reply) ≤ MAX_FRAME_CONTENT) }
-    ensures err { OnErr result.1 ((kernel.new ≡ kernel.old) × (row.new ≡ row.old) × (result.0 ≡ witness)) }
+    ensures recorded { IfOk result.1 (λ reply. has_record call.now reply ≡ true → Wrote log.old space call.now reply log.new × W.learned witness space call.now reply result.0) }
+    ensures unrecorded { IfOk result.1 (λ reply. has_record call.now reply ≡ false → (log.new ≡ log.old) × (result.0 ≡ witness)) }
+    ensures fits { IfOk result.1 (λ reply. length (reply_encoding reply) ≤ MAX_FRAME_CONTENT) }
+    ensures err { OnErr result.1 ((kernel.new ≡ kernel.old) × (log.new ≡ log.old) × (result.0 ≡ witness)) }
 {
-    let taken = row.take_out();
+    let taken = log.take_out();
     let mut both = Witnessed {
-        row: taken,
+        log: taken,
         witness,
     };
     let made = kernel.apply_naming(space, call, &mut both, places);
-    let Witnessed { row: left, witness } = both;
-    *row = left;
+    let Witnessed { log: left, witness } = both;
+    *log = left;
     (witness, made)
 }

@@ -2,19 +2,19 @@
 #![tactic(auto)]
 
 mod checkpointing;
+mod epoch_log;
 mod event;
 mod going_on;
 mod kernel_half;
-mod row;
 mod stepping;
 mod system;
 mod taken;
 mod ticket;
 mod witness;
 
+pub use checkpoint_phases::{Kernel, Opened, open};
 pub use event::{Event, Outcome};
 pub use kernel_half::{KernelHalf, SubmitFault};
-pub use phases::{Kernel, Opened, open};
 pub use system::{CallFault, System};
 pub use taken::Taken;
 pub use ticket::Ticket;

@@ -1,7 +1,7 @@
 ghost use Rattle.std.specs.Prelude.{◌≡◌, ◌⊎◌, ◌+◌, ◌-◌, ◌<◌, ◌≤◌, None, Some, true, false, length, MatchBool, IfOk, IfErr, IfSome, IfNone, OnErr, OnOk, IsErrOf};
 ghost use Rattle.std.specs.FinMap as map;
 ghost use Rattle.codes.specs.declared.limits.TheConstants.{MAX_FRAME_CONTENT, MAX_RECORDS};
-ghost use Rattle.ipc_model.specs.texts.Texts.{reply_text};
+ghost use Rattle.ipc_model.specs.encodings.Encodings.{reply_encoding};
 ghost use Rattle.ipc_model.specs.world.World.{first_world};
 ghost use Rattle.system.specs.Calling.{Calls, FailsToStoreAll, IsResting, StoresAll};
 ghost use Rattle.system.specs.Changes.{Answers, CannotAppend, FailsToStore, FindsFull, HandsIn, IsFullNow, IsNotDue, Stores, Submits, Takes};
@@ -13,13 +13,13 @@ ghost use Rattle.system.specs.Halves.{CannotTake, TicketValue};
 use crate::kernel_half::{KernelHalf, SubmitFault};
 use crate::taken::Taken;
 use crate::ticket::Tickets;
+use checkpoint_phases::Opened;
 use disk::Disk;
 use ipc_model::{Call, Reply};
 use journal::StoreFault;
-use phases::Opened;
 use std::alloc::Global;
 use std::marker::Model;
-use storing::{Finished, Receipt, StoreHalf};
+use store_half::{Finished, Receipt, StoreHalf};
 
 /// Why a call of a single caller wasn't answered.
 #[derive(Clone, Copy, Debug, PartialEq, Eq)]
@@ -118,7 +118,7 @@ impl<D: Disk> System<D> {
             disk,
             segment,
         } = opened;
-        kernel.has_image();
+        kernel.show_image();
         System {
             alloc,
             core: KernelHalf::new(alloc, kernel, segment.epoch, segment.records),
@@ -245,7 +245,7 @@ impl<D: Disk> System<D> {
     /// The reply that a ticket keeps, if all that it saw is stored; it is given once.
     pub fn reply(&mut self, number: u64) -> Option<Reply>
         ensures answered { IfSome result (λ answer. Answers self.old number answer self.new) }
-        ensures frame { IfSome result (λ answer. length (reply_text answer) ≤ MAX_FRAME_CONTENT) }
+        ensures frame { IfSome result (λ answer. length (reply_encoding answer) ≤ MAX_FRAME_CONTENT) }
         ensures none { IfNone result (IsNotDue self.old number × (self.new ≡ self.old)) }
     {
         if !self.is_due(number) {
@@ -263,7 +263,7 @@ impl<D: Disk> System<D> {
     pub fn call(&mut self, space: u32, call: &Call) -> Result<Reply, CallFault>
         requires { IsResting self.old }
         ensures answered { IfOk result (λ answer. Calls D.honest D.view self.old space call.now answer self.new) }
-        ensures frame { IfOk result (λ answer. length (reply_text answer) ≤ MAX_FRAME_CONTENT) }
+        ensures frame { IfOk result (λ answer. length (reply_encoding answer) ≤ MAX_FRAME_CONTENT) }
         ensures faults { IfErr result (λ fault. NotCalled D.honest D.view self.old space call.now fault self.new) }
         ensures full { IsErrOf result (CallFault.Submit SubmitFault.EpochFull) → IsFullNow self.old space call.now }
         ensures failures { D.failed_calls self.new.store.disk ≡ counted_call result (D.failed_calls self.old.store.disk) }
@@ -281,11 +281,11 @@ impl<D: Disk> System<D> {
         requires out { self.old.core.is_out ≡ false }
         requires none_older { self.old.core.older.count ≡ 0 }
         requires epoch { self.old.store.segment.epoch ≡ self.old.core.epoch }
-        requires room { 0 < self.old.core.row.waiting.count → self.old.store.segment.records + self.old.core.row.waiting.count ≤ MAX_RECORDS }
+        requires room { 0 < self.old.core.log.waiting.count → self.old.store.segment.records + self.old.core.log.waiting.count ≤ MAX_RECORDS }
         requires finished { self.old.finished ≡ None }
         requires unfailed { self.old.store.failed ≡ false }
-        ensures none { OnOk result (self.old.core.row.waiting.count ≡ 0 → self.new ≡ self.old) }
-        ensures stored { OnOk result (0 < self.old.core.row.waiting.count → StoresAll D.honest D.view self.old self.new) }
+        ensures none { OnOk result (self.old.core.log.waiting.count ≡ 0 → self.new ≡ self.old) }
+        ensures stored { OnOk result (0 < self.old.core.log.waiting.count → StoresAll D.honest D.view self.old self.new) }
         ensures faults { IfErr result (λ fault. (fault ≡ StoreFault.Device) × FailsToStoreAll D.honest D.view self.old self.new) }
         ensures failures { D.failed_calls self.new.store.disk ≡ counted result (D.failed_calls self.old.store.disk) }
     {

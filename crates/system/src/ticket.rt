@@ -3,7 +3,7 @@ ghost use Rattle.std.specs.FinMap as map;
 ghost use Rattle.codes.specs.declared.limits.TheConstants.{MAX_FRAME_CONTENT};
 ghost use Rattle.ipc_model.specs.calls.Step.{succeeded};
 ghost use Rattle.ipc_model.specs.declared.call.Call.{Call};
-ghost use Rattle.ipc_model.specs.texts.Texts.{reply_text};
+ghost use Rattle.ipc_model.specs.encodings.Encodings.{reply_encoding};
 ghost use Rattle.system.specs.Core.{TicketsValue};
 ghost use Rattle.system.specs.Halves.{TicketValue, message_code};
 
@@ -23,7 +23,7 @@ pub struct Ticket {
 impl Model for Ticket {
     ghost use Rattle.std.specs.Prelude.{◌≤◌, length};
     ghost use Rattle.codes.specs.declared.limits.TheConstants.{MAX_FRAME_CONTENT};
-    ghost use Rattle.ipc_model.specs.texts.Texts.{reply_text};
+    ghost use Rattle.ipc_model.specs.encodings.Encodings.{reply_encoding};
     ghost use Rattle.system.specs.Halves.{TicketValue};
     ghost use Rattle.system.specs.TicketCode.{ticket_code};
 
@@ -34,7 +34,7 @@ impl Model for Ticket {
     ghost view = { λ t. record { answer = t.reply; seen = t.seen } };
 
     // The reply fits in a frame.
-    ghost invariant = { λ t. length (reply_text t.reply) ≤ MAX_FRAME_CONTENT };
+    ghost invariant = { λ t. length (reply_encoding t.reply) ≤ MAX_FRAME_CONTENT };
 }
 
 impl Ticket {
@@ -65,7 +65,7 @@ impl Ticket {
     /// The reply that it keeps, where its call saw only records among the first `stored` ones that were made; else it comes back.
     pub fn redeem(self, stored: u64) -> Result<Reply, Ticket>
         ensures ok { IfOk result (λ reply. (self.seen ≤ stored) × (reply ≡ self.answer)) }
-        ensures frame { IfOk result (λ reply. length (reply_text reply) ≤ MAX_FRAME_CONTENT) }
+        ensures frame { IfOk result (λ reply. length (reply_encoding reply) ≤ MAX_FRAME_CONTENT) }
         ensures err { IfErr result (λ kept. (stored < self.seen) × (kept ≡ self)) }
     {
         if stored < self.seen {
@@ -77,7 +77,7 @@ impl Ticket {
     /// The reply that it keeps.
     pub(crate) fn into_reply(self) -> Reply
         ensures reply { result ≡ self.answer }
-        ensures frame { length (reply_text result) ≤ MAX_FRAME_CONTENT }
+        ensures frame { length (reply_encoding result) ≤ MAX_FRAME_CONTENT }
     {
         self.reply
     }

@@ -2,9 +2,9 @@ ghost use Rattle.std.specs.Prelude.{◌≡◌, ℕ, OnOk, OnErr};
 ghost use Rattle.ipc_model.specs.declared.call.Call.{Call};
 ghost use Rattle.ipc_model.specs.declared.call.Reply.{Reply};
 
-use crate::row::Row;
+use crate::epoch_log::EpochLog;
+use checkpoint_phases::Recorder;
 use ipc_model::{Call, Reply};
-use phases::Recorder;
 use std::alloc::AllocError;
 
 /// Learns of the record of a call before the call is committed.
@@ -21,7 +21,7 @@ pub trait Witness {
 /// An epoch log together with a witness: a record is written to both or to neither.
 #[derive(Drop)]
 pub(crate) struct Witnessed<W: Witness> {
-    pub(crate) row: Row,
+    pub(crate) log: EpochLog,
     pub(crate) witness: W,
 }
 
@@ -30,16 +30,16 @@ impl<W: Witness> Recorder for Witnessed<W> {
     ghost use Rattle.codes.specs.declared.limits.TheConstants.{MAX_RECORDS};
     ghost use Rattle.system.specs.Halves.{Wrote};
 
-    ghost has_room = { λ w. (w.row.length < MAX_RECORDS) × (w.row.made < 2 ^ 64 - 1) };
+    ghost has_room = { λ w. (w.log.length < MAX_RECORDS) × (w.log.made < 2 ^ 64 - 1) };
 
-    ghost wrote = { λ old space c answer new. Wrote old.row space c answer new.row × W.learned old.witness space c answer new.witness };
+    ghost wrote = { λ old space c answer new. Wrote old.log space c answer new.log × W.learned old.witness space c answer new.witness };
 
     fn write(&mut self, space: u32, call: &Call, reply: &Reply) -> Result<(), AllocError> {
-        let size = self.row.push(space, call, reply)?;
+        let size = self.log.push(space, call, reply)?;
         match self.witness.learn(space, call, reply) {
             Ok(()) => Ok(()),
             Err(refused) => {
-                self.row.remove_last(size);
+                self.log.remove_last(size);
                 Err(refused)
             }
         }

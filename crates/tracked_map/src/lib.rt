@@ -157,7 +157,7 @@ impl<V: Copy + Drop> TrackedMap<V> {
     }
 
     /// Commits the changes. It takes no memory.
-    pub fn keep(&mut self)
+    pub fn commit(&mut self)
         ensures { self.new ≡ at_rest self.old.current }
     {
         forget(
@@ -174,7 +174,7 @@ impl<V: Copy + Drop> TrackedMap<V> {
     }
 
     /// Rolls the changes back. It takes no memory.
-    pub fn give_up(&mut self)
+    pub fn roll_back(&mut self)
         ensures { self.new ≡ at_rest self.old.before }
     {
         put_back(&mut self.slots, &self.former);

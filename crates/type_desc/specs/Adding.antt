@@ -1,7 +1,7 @@
 -- Additions to the end of bytes, which keep them at the front.
 use Rattle.std.specs.Prelude.{◌≡◌, ℕ, ◌^◌, ◌<◌, ◌≤◌, Bool, false, List, ◌++◌, length, take, refl}
 use Rattle.std.proofs.Common.{sym, ◌∙◌, ap, arith, length-take, take_at, take-take}
-use Rattle.ipc_model.specs.messages.Items.{Item, descriptor_text}
+use Rattle.ipc_model.specs.messages.Items.{Item, descriptor_encoding}
 
 -- The new bytes begin with the old ones.
 pub record Keeps (old new : List ℕ) : Type 0 where
@@ -12,7 +12,7 @@ keeps_added old new added is = record { front = ap (take (length old)) is ∙ ta
 
 -- the descriptor of an item with another type
 abbrev pub descriptor_with : Item → ℕ → List ℕ
-descriptor_with item type_name = descriptor_text (record item { type_name = type_name }) item.is_long
+descriptor_with item type_name = descriptor_encoding (record item { type_name = type_name }) item.is_long
 
 -- a type that a short descriptor has room for
 abbrev pub FitsShort : Bool → ℕ → Type 0

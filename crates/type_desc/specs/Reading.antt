@@ -15,8 +15,8 @@ form_of bytes = is_long_form (little_number 4 bytes)
 abbrev pub front_item : List ℕ → Item
 front_item bytes = item_of bytes (form_of bytes)
 
-abbrev pub behind_item : List ℕ → List ℕ
-behind_item bytes = after_item bytes (form_of bytes)
+abbrev pub following_item : List ℕ → List ℕ
+following_item bytes = after_item bytes (form_of bytes)
 
 -- items that were read, with those that are read of the rest
 abbrev pub with_front : List Item → Result (List Item) KernReturn → Result (List Item) KernReturn
@@ -35,11 +35,11 @@ same_within (suc m) (suc n) [] few less = refl
 same_within zero n (b ∷ bytes) few less = absurd (omega (arith, few))
 same_within m zero (b ∷ bytes) few less = absurd (omega (arith, less))
 same_within (suc m) (suc n) (b ∷ bytes) few less =
-    let text : List ℕ = b ∷ bytes in
-    let long : Bool = form_of text in
-    let shorter : length (after_item text long) < length text = omega (arith, few, length-drop (descriptor_length long + data_length text long) text, at_least_four long) in
-    ap (λ (r : Result (List Item) KernReturn). unless_failing (tests_of_item text) (and_then r (λ items. Ok (item_of text long ∷ items))))
-    (same_within m n (after_item text long) (omega (arith, few, shorter)) (omega (arith, less, shorter)))
+    let encoding : List ℕ = b ∷ bytes in
+    let long : Bool = form_of encoding in
+    let shorter : length (after_item encoding long) < length encoding = omega (arith, few, length-drop (descriptor_length long + data_length encoding long) encoding, at_least_four long) in
+    ap (λ (r : Result (List Item) KernReturn). unless_failing (tests_of_item encoding) (and_then r (λ items. Ok (item_of encoding long ∷ items))))
+    (same_within m n (after_item encoding long) (omega (arith, few, shorter)) (omega (arith, less, shorter)))
 
 passes_on : {X : Type 0} (tests : Tests) (r : Result X KernReturn) → first_failing tests ≡ None → unless_failing tests r ≡ r
 passes_on [] r passes = refl
@@ -56,23 +56,23 @@ stops {X} (test ∷ tests) r code fails = elim test.0 as (λ (b : Bool). (if b t
 ] fails
 
 -- If the item at the front passes its tests, the items are this one and those after it.
-pub one_item : (bytes : List ℕ) → 0 < length bytes → first_failing (tests_of_item bytes) ≡ None → items_of bytes ≡ and_then (items_of (behind_item bytes)) (λ items. Ok (front_item bytes ∷ items))
+pub one_item : (bytes : List ℕ) → 0 < length bytes → first_failing (tests_of_item bytes) ≡ None → items_of bytes ≡ and_then (items_of (following_item bytes)) (λ items. Ok (front_item bytes ∷ items))
 unfolding items_of
 one_item [] some passes = absurd (omega (arith, some))
 one_item (b ∷ bytes) some passes =
-    let text : List ℕ = b ∷ bytes in
-    let behind : List ℕ = behind_item text in
-    let shorter : length behind < length text = omega (arith, length-drop (descriptor_length (form_of text) + data_length text (form_of text)) text, at_least_four (form_of text)) in
-    passes_on (tests_of_item text) (and_then (items_within (length bytes) behind) (λ items. Ok (front_item text ∷ items))) passes
-    ∙ ap (λ (r : Result (List Item) KernReturn). and_then r (λ items. Ok (front_item text ∷ items))) (same_within (length bytes) (length behind) behind (omega (arith, shorter)) (omega arith))
+    let encoding : List ℕ = b ∷ bytes in
+    let behind : List ℕ = following_item encoding in
+    let shorter : length behind < length encoding = omega (arith, length-drop (descriptor_length (form_of encoding) + data_length encoding (form_of encoding)) encoding, at_least_four (form_of encoding)) in
+    passes_on (tests_of_item encoding) (and_then (items_within (length bytes) behind) (λ items. Ok (front_item encoding ∷ items))) passes
+    ∙ ap (λ (r : Result (List Item) KernReturn). and_then r (λ items. Ok (front_item encoding ∷ items))) (same_within (length bytes) (length behind) behind (omega (arith, shorter)) (omega arith))
 
 -- If it fails one, there are none.
 pub no_item : (bytes : List ℕ) (code : KernReturn) → 0 < length bytes → first_failing (tests_of_item bytes) ≡ Some code → items_of bytes ≡ Err code
 unfolding items_of
 no_item [] code some fails = absurd (omega (arith, some))
 no_item (b ∷ bytes) code some fails =
-    let text : List ℕ = b ∷ bytes in
-    stops (tests_of_item text) (and_then (items_within (length bytes) (behind_item text)) (λ items. Ok (front_item text ∷ items))) code fails
+    let encoding : List ℕ = b ∷ bytes in
+    stops (tests_of_item encoding) (and_then (items_within (length bytes) (following_item encoding)) (λ items. Ok (front_item encoding ∷ items))) code fails
 
 pub items_of_none : items_of [] ≡ Ok []
 unfolding items_of
@@ -93,9 +93,9 @@ some_left (b ∷ bytes) is = omega arith
 
 -- What is left is one item and what follows it.
 pub one_more : (body bytes rest : List ℕ) (front : List Item) (item : Item) → items_of body ≡ with_front front (items_of bytes) → (length bytes == 0) ≡ false → first_failing (tests_of_item bytes) ≡ None
-    → item ≡ front_item bytes → rest ≡ behind_item bytes → items_of body ≡ with_front (front ++ item ∷ []) (items_of rest)
+    → item ≡ front_item bytes → rest ≡ following_item bytes → items_of body ≡ with_front (front ++ item ∷ []) (items_of rest)
 one_more body bytes rest front item before left passes is behind =
-    before ∙ ap (with_front front) (one_item bytes (some_left bytes left) passes) ∙ front_more front (front_item bytes) (items_of (behind_item bytes)) ∙ (λ i. with_front (front ++ sym is i ∷ []) (items_of (sym behind i)))
+    before ∙ ap (with_front front) (one_item bytes (some_left bytes left) passes) ∙ front_more front (front_item bytes) (items_of (following_item bytes)) ∙ (λ i. with_front (front ++ sym is i ∷ []) (items_of (sym behind i)))
 
 -- Nothing is left.
 pub all_read : (body bytes : List ℕ) (front : List Item) → items_of body ≡ with_front front (items_of bytes) → (length bytes == 0) ≡ true → items_of body ≡ Ok front

@@ -16,9 +16,9 @@ fn push_half(out: &mut Vec<u8>, value: u16) -> Result<(), AllocError>
     ensures ok { OnOk result (out.new.items ≡ out.old.items ++ little_bytes 2 value) }
     ensures err { OnErr result (out.new.items ≡ out.old.items) }
 {
-    let mut text = [0; 2];
-    LittleEndian::write_u16(&mut text, value);
-    out.extend_from_slice(&text)
+    let mut encoding = [0; 2];
+    LittleEndian::write_u16(&mut encoding, value);
+    out.extend_from_slice(&encoding)
 }
 
 #[tactic(auto, using(crate::specs::Adding::keeps_added))]
@@ -48,7 +48,7 @@ pub(crate) fn front_of(numbers: &[u32], count: u32) -> &[u32]
 }
 
 /// The numbers after the first `count`.
-pub(crate) fn behind_front(numbers: &[u32], count: u32) -> &[u32]
+pub(crate) fn after_front(numbers: &[u32], count: u32) -> &[u32]
     ensures { result.now ≡ drop count numbers.now }
 {
     let count = count as usize;

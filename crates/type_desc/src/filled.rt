@@ -1,20 +1,20 @@
 ghost use Rattle.std.specs.Prelude.{◌≡◌, ◌++◌, true, false, IfOk, OnOk, OnErr};
-ghost use Rattle.ipc_model.specs.messages.Items.{is_port_item, item_text, items_of, body_filled};
+ghost use Rattle.ipc_model.specs.messages.Items.{is_port_item, item_encoding, items_of, body_filled};
 ghost use Rattle.type_desc.specs.Adding.{Keeps};
 ghost use Rattle.type_desc.specs.Values.{item_value, filled_item, names_after};
 
-use crate::adding::{add_words, behind_front, front_of};
+use crate::adding::{add_words, after_front, front_of};
 use crate::first::first_item;
 use crate::item::Item;
 use std::alloc::AllocError;
 
 impl Item<'_> {
     /// The names that are left for the items after this one: those after its own ports'.
-    pub fn names_behind<'n>(&self, names: &'n [u32]) -> &'n [u32]
+    pub fn following_names<'n>(&self, names: &'n [u32]) -> &'n [u32]
         ensures { result.now ≡ names_after (item_value self.now) names.now }
     {
         if self.is_port() {
-            behind_front(names, self.number)
+            after_front(names, self.number)
         } else {
             names
         }
@@ -24,7 +24,7 @@ impl Item<'_> {
     /// Adds a port item with names in the places of its ports.
     fn add_filled_ports(&self, names: &[u32], out: &mut Vec<u8>) -> Result<(), AllocError>
         requires { is_port_item (item_value self.now) ≡ true }
-        ensures ok { OnOk result (out.new.items ≡ out.old.items ++ item_text (filled_item (item_value self.now) names.now)) }
+        ensures ok { OnOk result (out.new.items ≡ out.old.items ++ item_encoding (filled_item (item_value self.now) names.now)) }
         ensures part { OnErr result (Keeps out.old.items out.new.items) }
     {
         self.add_descriptor(self.type_name, out)?;
@@ -34,7 +34,7 @@ impl Item<'_> {
 
     /// Adds the item with names in the places of its ports.
     fn add_filled(&self, names: &[u32], out: &mut Vec<u8>) -> Result<(), AllocError>
-        ensures ok { OnOk result (out.new.items ≡ out.old.items ++ item_text (filled_item (item_value self.now) names.now)) }
+        ensures ok { OnOk result (out.new.items ≡ out.old.items ++ item_encoding (filled_item (item_value self.now) names.now)) }
         ensures part { OnErr result (Keeps out.old.items out.new.items) }
     {
         if self.is_port() {
@@ -49,7 +49,7 @@ impl Item<'_> {
     ///
     /// If an allocation fails, nothing changed.
     pub fn push_filled(&self, names: &[u32], out: &mut Vec<u8>) -> Result<(), AllocError>
-        ensures ok { OnOk result (out.new.items ≡ out.old.items ++ item_text (filled_item (item_value self.now) names.now)) }
+        ensures ok { OnOk result (out.new.items ≡ out.old.items ++ item_encoding (filled_item (item_value self.now) names.now)) }
         ensures err { OnErr result (out.new.items ≡ out.old.items) }
     {
         let before = out.len();
@@ -76,7 +76,7 @@ fn add_filled_items(body: &[u8], names: &[u32], out: &mut Vec<u8>) -> Result<boo
             return Ok(false);
         };
         item.push_filled(left, out)?;
-        left = item.names_behind(left);
+        left = item.following_names(left);
         rest = behind;
     }
     Ok(true)

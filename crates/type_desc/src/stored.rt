@@ -1,5 +1,5 @@
 ghost use Rattle.std.specs.Prelude.{◌≡◌, ◌++◌, true, map, OnOk, OnErr};
-ghost use Rattle.ipc_model.specs.messages.Items.{is_port_item, item_text, items_text, as_stored};
+ghost use Rattle.ipc_model.specs.messages.Items.{is_port_item, item_encoding, items_encoding, as_stored};
 ghost use Rattle.type_desc.specs.Adding.{Keeps};
 ghost use Rattle.type_desc.specs.Values.{item_value};
 
@@ -11,7 +11,7 @@ impl Item<'_> {
     /// Adds a port item as a queued message has it.
     fn add_stored_ports(&self, out: &mut Vec<u8>) -> Result<(), AllocError>
         requires { is_port_item (item_value self.now) ≡ true }
-        ensures ok { OnOk result (out.new.items ≡ out.old.items ++ item_text (as_stored (item_value self.now))) }
+        ensures ok { OnOk result (out.new.items ≡ out.old.items ++ item_encoding (as_stored (item_value self.now))) }
         ensures part { OnErr result (Keeps out.old.items out.new.items) }
     {
         self.add_descriptor(received_type(self.type_name), out)?;
@@ -21,7 +21,7 @@ impl Item<'_> {
 
     /// Adds the item as it is.
     pub(crate) fn add_plain(&self, out: &mut Vec<u8>) -> Result<(), AllocError>
-        ensures ok { OnOk result (out.new.items ≡ out.old.items ++ item_text (item_value self.now)) }
+        ensures ok { OnOk result (out.new.items ≡ out.old.items ++ item_encoding (item_value self.now)) }
         ensures part { OnErr result (Keeps out.old.items out.new.items) }
     {
         self.add_descriptor(self.type_name, out)?;
@@ -31,7 +31,7 @@ impl Item<'_> {
 
     /// Adds the item as a queued message has it.
     fn add_stored(&self, out: &mut Vec<u8>) -> Result<(), AllocError>
-        ensures ok { OnOk result (out.new.items ≡ out.old.items ++ item_text (as_stored (item_value self.now))) }
+        ensures ok { OnOk result (out.new.items ≡ out.old.items ++ item_encoding (as_stored (item_value self.now))) }
         ensures part { OnErr result (Keeps out.old.items out.new.items) }
     {
         if self.is_port() {
@@ -46,7 +46,7 @@ impl Item<'_> {
     ///
     /// If an allocation fails, nothing changed.
     pub fn push_stored(&self, out: &mut Vec<u8>) -> Result<(), AllocError>
-        ensures ok { OnOk result (out.new.items ≡ out.old.items ++ item_text (as_stored (item_value self.now))) }
+        ensures ok { OnOk result (out.new.items ≡ out.old.items ++ item_encoding (as_stored (item_value self.now))) }
         ensures err { OnErr result (out.new.items ≡ out.old.items) }
     {
         let before = out.len();
@@ -62,7 +62,7 @@ impl Item<'_> {
 
 /// Adds items as a queued message has them. If an allocation fails, some of them may have been added.
 fn add_stored_items(items: &[Item<'_>], out: &mut Vec<u8>) -> Result<(), AllocError>
-    ensures ok { OnOk result (out.new.items ≡ out.old.items ++ items_text (map as_stored (map item_value items.now))) }
+    ensures ok { OnOk result (out.new.items ≡ out.old.items ++ items_encoding (map as_stored (map item_value items.now))) }
     ensures part { OnErr result (Keeps out.old.items out.new.items) }
 {
     for item in items {
@@ -75,7 +75,7 @@ fn add_stored_items(items: &[Item<'_>], out: &mut Vec<u8>) -> Result<(), AllocEr
 ///
 /// If an allocation fails, nothing changed.
 pub fn push_stored_items(items: &[Item<'_>], out: &mut Vec<u8>) -> Result<(), AllocError>
-    ensures ok { OnOk result (out.new.items ≡ out.old.items ++ items_text (map as_stored (map item_value items.now))) }
+    ensures ok { OnOk result (out.new.items ≡ out.old.items ++ items_encoding (map as_stored (map item_value items.now))) }
     ensures err { OnErr result (out.new.items ≡ out.old.items) }
 {
     let before = out.len();

@@ -3,7 +3,7 @@ use Rattle.std.proofs.Common.{◌≡◌, ℕ, ◌<◌, ◌≤◌, true, false, e
 use Rattle.std.proofs.KnownBytes.{Consumes-trans}
 use Rattle.byteorder.specs.Endian.{little_number}
 use Rattle.byteorder.specs.Numbers.{little_number-reads_back}
-use Rattle.words.specs.Words.{word, frame_text}
+use Rattle.words.specs.Words.{word, frame_encoding}
 use Rattle.wire.specs.declared.fault.WireFault.{WireFault}
 use Rattle.wire.specs.declared.fault.WireFault.TheVariants.{Short, TooLong, Device, NoMemory}
 use Rattle.wire.specs.Frame.{FrameValue, whole, faulty, content_at, front_of, IsContentLength, IsWithinFrame, IsReadOf}
@@ -17,8 +17,8 @@ front_parts input n rest long number-is rest-is =
     rw (some, enough, number-is, rest-is) refl
 
 -- after a length word
-front_behind : (n : ℕ) (rest : List ℕ) → IsContentLength n → front_of (word n ++ rest) ≡ content_at n rest
-front_behind n rest fits =
+front_after : (n : ℕ) (rest : List ℕ) → IsContentLength n → front_of (word n ++ rest) ≡ content_at n rest
+front_after n rest fits =
     front_parts (word n ++ rest) n rest (omega (arith, length-append (word n) rest)) (little_number-reads_back 4 n rest (omega (arith, fits.greatest))) refl
 
 -- enough bytes after the length word, and too few
@@ -37,27 +37,27 @@ content_short n rest fits short =
     rw (least, greatest, few) refl
 
 -- the bytes of a frame are a whole frame, whatever follows them
-front_of_text : (content rest : List ℕ) → IsContentLength (length content) → front_of (frame_text content ++ rest) ≡ whole content rest
-front_of_text content rest fits =
-    let regrouped : frame_text content ++ rest ≡ word (length content) ++ (content ++ rest) = append_assoc (word (length content)) content rest in
+front_of_encoding : (content rest : List ℕ) → IsContentLength (length content) → front_of (frame_encoding content ++ rest) ≡ whole content rest
+front_of_encoding content rest fits =
+    let regrouped : frame_encoding content ++ rest ≡ word (length content) ++ (content ++ rest) = append_assoc (word (length content)) content rest in
     let long : length content ≤ length (content ++ rest) = omega (arith, length-append content rest) in
     let parts : whole (take (length content) (content ++ rest)) (drop (length content) (content ++ rest)) ≡ whole content rest = rw (take_at content rest (length content) refl, drop_at content rest (length content) refl) refl in
-    ap front_of regrouped ∙ front_behind (length content) (content ++ rest) fits ∙ content_whole (length content) (content ++ rest) fits long ∙ parts
+    ap front_of regrouped ∙ front_after (length content) (content ++ rest) fits ∙ content_whole (length content) (content ++ rest) fits long ∙ parts
 
 -- a length word and its content are a frame
-frame_text_of : (n : ℕ) (content rest : List ℕ) → length content ≡ n → word n ++ (content ++ rest) ≡ frame_text content ++ rest
-frame_text_of n content rest len =
+frame_encoding_of : (n : ℕ) (content rest : List ℕ) → length content ≡ n → word n ++ (content ++ rest) ≡ frame_encoding content ++ rest
+frame_encoding_of n content rest len =
     ap (λ (k : ℕ). word k ++ (content ++ rest)) (sym len) ∙ sym (append_assoc (word (length content)) content rest)
 
 -- the two steps of a frame that was read, and where it stood
 frame_found : (old mid new : Option (List ℕ)) (n : ℕ) (frame : FrameValue) → IfSome old (λ input. IsLengthOf input (Ok (Some n)) mid) → IfSome mid (λ input. IsContentOf n input (Ok frame) new)
-    → IfSome old (λ input. (rest : List ℕ) × (input ≡ frame_text frame.content ++ rest) × (new ≡ Some rest))
+    → IfSome old (λ input. (rest : List ℕ) × (input ≡ frame_encoding frame.content ++ rest) × (new ≡ Some rest))
 frame_found None mid new n frame first second = tt
 frame_found (Some xs) None new n frame first second = absurd cc
 frame_found (Some xs) (Some ys) new n frame first second =
     let same : ys ≡ first.0 = cc in
     let (rest, split, len, left) = second in
-    (rest, first.1 ∙ ap (λ (b : List ℕ). word n ++ b) (sym same ∙ split) ∙ frame_text_of n frame.content rest len, left)
+    (rest, first.1 ∙ ap (λ (b : List ℕ). word n ++ b) (sym same ∙ split) ∙ frame_encoding_of n frame.content rest len, left)
 
 -- what the two steps of reading a frame answer together
 pub frame_read : (old mid new : Option (List ℕ)) (n : ℕ) (frame : FrameValue) → IsContentLength n → IfSome old (λ input. IsLengthOf input (Ok (Some n)) mid) → IfSome mid (λ input. IsContentOf n input (Ok frame) new)
@@ -65,30 +65,30 @@ pub frame_read : (old mid new : Option (List ℕ)) (n : ℕ) (frame : FrameValue
 frame_read None mid new n frame fits first second = tt
 frame_read (Some xs) None new n frame fits first second = absurd cc
 frame_read (Some xs) (Some ys) new n frame fits first second =
-    let (rest, text, left) = frame_found (Some xs) (Some ys) new n frame first second in
+    let (rest, encoding, left) = frame_found (Some xs) (Some ys) new n frame first second in
     let same_length : length frame.content ≡ n = second.2 in
-    (rest, ap front_of text ∙ front_of_text frame.content rest (subst IsContentLength (sym same_length) fits), left)
+    (rest, ap front_of encoding ∙ front_of_encoding frame.content rest (subst IsContentLength (sym same_length) fits), left)
 
 -- the number of a length word, whatever follows it
-number_behind : (n : ℕ) (rest : List ℕ) → IsContentLength n → little_number 4 (word n ++ rest) ≡ n
-number_behind n rest fits = little_number-reads_back 4 n rest (omega (arith, fits.greatest))
+number_after : (n : ℕ) (rest : List ℕ) → IsContentLength n → little_number 4 (word n ++ rest) ≡ n
+number_after n rest fits = little_number-reads_back 4 n rest (omega (arith, fits.greatest))
 
 -- what was read of the content, with the length word
 within_frame : (n : ℕ) (taken : List ℕ) → IsContentLength n → length taken ≤ n → IsWithinFrame (word n ++ taken)
 within_frame n taken fits few =
     λ (long : 4 < length (word n ++ taken)).
-    let number-is = number_behind n taken fits in
+    let number-is = number_after n taken fits in
     (subst IsContentLength (sym number-is) fits, omega (arith, number-is, length-append (word n) taken))
 
 -- a length word, and a fault in the content after it
-behind_length : (ys : List ℕ) (new : Option (List ℕ)) (n : ℕ) (fault : WireFault) → IsContentLength n → IsContentOf n ys (Err fault) new → IsReadOf (word n ++ ys) (Err fault) new
-behind_length ys new n Short fits second = ([], front_behind n ys fits ∙ content_short n ys fits second.0, second.1)
-behind_length ys new n TooLong fits second = absurd second
-behind_length ys new n Device fits second =
+after_length : (ys : List ℕ) (new : Option (List ℕ)) (n : ℕ) (fault : WireFault) → IsContentLength n → IsContentOf n ys (Err fault) new → IsReadOf (word n ++ ys) (Err fault) new
+after_length ys new n Short fits second = ([], front_after n ys fits ∙ content_short n ys fits second.0, second.1)
+after_length ys new n TooLong fits second = absurd second
+after_length ys new n Device fits second =
     let (taken, few, consumed) = second in
     (word n ++ taken, Consumes-trans (Some (word n ++ ys)) (Some ys) new (word n) taken refl consumed, within_frame n taken fits few)
-behind_length ys new n NoMemory fits second =
-    (omega (arith, length-append (word n) ys), subst IsContentLength (sym (number_behind n ys fits)) fits, second)
+after_length ys new n NoMemory fits second =
+    (omega (arith, length-append (word n) ys), subst IsContentLength (sym (number_after n ys fits)) fits, second)
 
 -- what the two steps answer if the second one fails
 pub content_failed : (old mid new : Option (List ℕ)) (n : ℕ) (fault : WireFault) → IsContentLength n → IfSome old (λ input. IsLengthOf input (Ok (Some n)) mid) → IfSome mid (λ input. IsContentOf n input (Err fault) new)
@@ -98,4 +98,4 @@ content_failed (Some xs) None new n fault fits first second = absurd cc
 content_failed (Some xs) (Some ys) new n fault fits first second =
     let same : ys ≡ first.0 = cc in
     let split : xs ≡ word n ++ ys = first.1 ∙ ap (λ (b : List ℕ). word n ++ b) (sym same) in
-    subst (λ (x : List ℕ). IsReadOf x (Err fault) new) (sym split) (behind_length ys new n fault fits second)
+    subst (λ (x : List ℕ). IsReadOf x (Err fault) new) (sym split) (after_length ys new n fault fits second)

@@ -2,7 +2,7 @@ ghost use Rattle.std.specs.Prelude.{◌≡◌, ◌<◌, ◌≤◌, ◌++◌, ℕ
 ghost use Rattle.std.specs.Io.{ReadsAtMost};
 ghost use Rattle.std.specs.Io.KnownBytes.{Consumes, IsAtEnd, Keeps};
 ghost use Rattle.byteorder.specs.Endian.{little_number};
-ghost use Rattle.words.specs.Words.{word, frame_text};
+ghost use Rattle.words.specs.Words.{word, frame_encoding};
 ghost use Rattle.wire.specs.Frame.{IsContentLength, IsReadOf, IsFrameRead};
 ghost use Rattle.wire.specs.Reading.{ConsumesPart, IsLengthOf, IsContentOf};
 
@@ -60,7 +60,7 @@ fn fill<R: Read>(reader: &mut R, buffer: &mut [u8]) -> Result<usize, WireFault>
 // The number of a length word.
 fn number_of(bytes: [u8; 4]) -> u32
     ensures value { result ≡ little_number 4 bytes }
-    ensures spelled { word result ≡ bytes }
+    ensures encoded { word result ≡ bytes }
 {
     u32::from_le_bytes(bytes)
 }
@@ -109,7 +109,7 @@ fn read_parts<R: Read>(alloc: Global, reader: &mut R) -> Result<Option<Frame>, W
         (λ input. IsReadOf input result (R.remaining reader.new)) }
     ensures found { IfSome (R.remaining reader.old)
         (λ input. IfOk result (λ r. IfSome r (λ frame. (rest : List ℕ)
-        × (input ≡ frame_text frame.content ++ rest) × (R.remaining reader.new ≡ Some rest)))) }
+        × (input ≡ frame_encoding frame.content ++ rest) × (R.remaining reader.new ≡ Some rest)))) }
 {
     match read_length(reader)? {
         None => Ok(None),
@@ -130,11 +130,11 @@ pub fn read_frame<R: Read>(alloc: Global, reader: &mut R) -> Result<Option<Frame
     // A frame that is read stood at the front of the input.
     ensures found { IfSome (R.remaining reader.old)
         (λ input. IfOk result (λ r. IfSome r (λ frame. (rest : List ℕ)
-        × (input ≡ frame_text frame.content ++ rest) × (R.remaining reader.new ≡ Some rest)))) }
+        × (input ≡ frame_encoding frame.content ++ rest) × (R.remaining reader.new ≡ Some rest)))) }
     // A frame that stands at the front of the input is read.
     ensures only { IfSome (R.remaining reader.old)
         (λ input. (content rest : List ℕ) → IsContentLength (length content)
-        → input ≡ frame_text content ++ rest → IsFrameRead content result) }
+        → input ≡ frame_encoding content ++ rest → IsFrameRead content result) }
 {
     read_parts(alloc, reader)
 }

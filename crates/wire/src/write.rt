@@ -1,7 +1,7 @@
 ghost use Rattle.std.specs.Prelude.{◌≡◌, length, take, IfOk, IfErr, OnOk, OnErr};
 ghost use Rattle.std.specs.Io.{WritesAtMost};
 ghost use Rattle.std.specs.Io.KnownBytes.{Appends, Keeps};
-ghost use Rattle.words.specs.Words.{frame_text};
+ghost use Rattle.words.specs.Words.{frame_encoding};
 ghost use Rattle.wire.specs.Writing.{AppendsPart};
 
 use crate::fault::WireFault;
@@ -52,9 +52,9 @@ pub fn write_bytes<W: Write>(writer: &mut W, bytes: &[u8]) -> Result<(), WireFau
 /// bytes. It may have written some of the frame's first bytes, and no others.
 pub fn write_frame<W: Write>(writer: &mut W, frame: &Frame) -> Result<(), WireFault>
     ensures ok { OnOk result
-        (Appends (W.contents writer.old) (W.contents writer.new) (frame_text frame.now.content)) }
+        (Appends (W.contents writer.old) (W.contents writer.new) (frame_encoding frame.now.content)) }
     ensures part { OnErr result (AppendsPart (W.contents writer.old) (W.contents writer.new)
-        (frame_text frame.now.content)) }
+        (frame_encoding frame.now.content)) }
     ensures err { IfErr result (λ fault. fault ≡ WireFault.Device) }
 {
     let content = frame.content();

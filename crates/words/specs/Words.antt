@@ -15,5 +15,5 @@ abbrev pub long_word : ℕ → List ℕ
 long_word n = little_bytes 8 n
 
 -- a frame: how many bytes its content has, and the content, which is a call's number and its arguments
-abbrev pub frame_text : List ℕ → List ℕ
-frame_text content = word (length content) ++ content
+abbrev pub frame_encoding : List ℕ → List ℕ
+frame_encoding content = word (length content) ++ content

@@ -38,9 +38,9 @@ pub fn push_word(out: &mut Vec<u8>, value: u32) -> Result<(), AllocError>
     ensures ok { OnOk result (out.new.items ≡ out.old.items ++ word value) }
     ensures err { OnErr result (out.new.items ≡ out.old.items) }
 {
-    let mut text = [0; 4];
-    LittleEndian::write_u32(&mut text, value);
-    out.extend_from_slice(&text)
+    let mut encoding = [0; 4];
+    LittleEndian::write_u32(&mut encoding, value);
+    out.extend_from_slice(&encoding)
 }
 
 /// Adds the eight bytes of a number. If an allocation fails, nothing changed.
@@ -48,7 +48,7 @@ pub fn push_long_word(out: &mut Vec<u8>, value: u64) -> Result<(), AllocError>
     ensures ok { OnOk result (out.new.items ≡ out.old.items ++ long_word value) }
     ensures err { OnErr result (out.new.items ≡ out.old.items) }
 {
-    let mut text = [0; 8];
-    LittleEndian::write_u64(&mut text, value);
-    out.extend_from_slice(&text)
+    let mut encoding = [0; 8];
+    LittleEndian::write_u64(&mut encoding, value);
+    out.extend_from_slice(&encoding)
 }

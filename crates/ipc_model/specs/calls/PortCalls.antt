@@ -19,7 +19,7 @@ use Rattle.ipc_model.specs.declared.message.RightKind.{RightKind}
 use Rattle.ipc_model.specs.declared.message.RightKind.TheVariants as kind
 use Rattle.ipc_model.specs.declared.port.PortState.{PortState}
 use Rattle.ipc_model.specs.rights.CopyIn.{Taken, copy_in}
-use Rattle.ipc_model.specs.rights.CopyOut.{names_wanted}
+use Rattle.ipc_model.specs.rights.CopyOut.{names_needed}
 use Rattle.ipc_model.specs.rights.Dispositions.{Disposition, MoveSendOnce, MakeSendOnce, disposition_of, number_of_disposition}
 use Rattle.ipc_model.specs.messages.Sending.{live_port}
 use Rattle.ipc_model.specs.state.State.{State, Names, is_null_or_dead, ports_are_used_up, port_held, received_port, request_of, is_number}
@@ -186,7 +186,7 @@ tests_of_insert space name taken serial =
 abbrev pub tests_of_extract : ℕ → Taken → ℕ → Tests
 tests_of_extract space taken serial =
     let names : Names = names_in taken.state space in
-    (nat_lt MAX_NAMES (finmap.len names + names_wanted names [] (taken.right ∷ [])), NoSpace) ∷ []
+    (nat_lt MAX_NAMES (finmap.len names + names_needed names [] (taken.right ∷ [])), NoSpace) ∷ []
 
 -- MACH_NOTIFY_PORT_DESTROYED, _NO_SENDERS and _DEAD_NAME can be asked for
 abbrev pub is_variant : ℕ → Bool

@@ -147,13 +147,13 @@ abbrev pub died : State → ℕ → PortState → Outcome
 died state serial port = (after_death state serial, effects_of_death state serial port)
 
 -- A send right was released. If none is left, a no-senders request is taken, and its notice goes out.
-abbrev pub told_no_senders : State → ℕ → PortState → Option ℕ → State
-told_no_senders state serial port None = state
-told_no_senders state serial port (Some target) =
+abbrev pub notified_no_senders : State → ℕ → PortState → Option ℕ → State
+notified_no_senders state serial port None = state
+notified_no_senders state serial port (Some target) =
     notified (with_port state serial (λ p. record p { no_senders_target = None })) target (notice.NoSenders port.make_send_count)
 
 abbrev pub send_released : State → ℕ → PortState → State
-send_released state serial port = if send_count state serial == 0 then told_no_senders state serial port port.no_senders_target else state
+send_released state serial port = if send_count state serial == 0 then notified_no_senders state serial port port.no_senders_target else state
 
 -- a receive right goes to the target of a port-destroyed request, in the notice; the port begins anew, in no set
 abbrev pub sent_to_target : State → ℕ → ℕ → State

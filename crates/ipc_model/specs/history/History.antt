@@ -19,7 +19,7 @@ use Rattle.ipc_model.specs.calls.Step.{Run, Answer, has_record, succeeded}
 pub record Session : Type 0 where
   pub space : ℕ
   pub seen : ℕ
-  pub told : ℕ
+  pub acknowledged : ℕ
   pub tickets : List ℕ
   pub places : List ℕ
 
@@ -73,7 +73,7 @@ redemption session seen = if has_ticket session seen then redeemed seen else red
 
 -- this many records, or more before, are then acknowledged to the session, and it has seen them
 abbrev pub IsTold : Session → ℕ → Session → Type 0
-IsTold old seen new = (seen ≤ new.seen) × (new ≡ record old { seen = new.seen; told = max old.told seen })
+IsTold old seen new = (seen ≤ new.seen) × (new ≡ record old { seen = new.seen; acknowledged = max old.acknowledged seen })
 
 -- what an operation makes of a session; no reply is redeemed that saw more than the session has then seen
 abbrev pub Leads : State → List Record → Session → Operation → Session → Type 0
@@ -97,7 +97,7 @@ AfterAll base history old (first ∷ operations) new = (mid : Session) × After 
 pub record IsNew (history : List Record) (session : Session) : Type 0 where
   pub space : session.space ≡ FIRST_SPACE
   pub within : session.seen ≤ length history
-  pub told : session.told ≡ 0
+  pub acknowledged : session.acknowledged ≡ 0
   pub tickets : session.tickets ≡ []
   pub places : session.places ≡ []
 

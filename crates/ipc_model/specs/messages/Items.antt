@@ -97,15 +97,15 @@ unfoldable pub items_of : List ℕ → Result (List Item) KernReturn
 items_of body = items_within (length body) body
 
 -- the bytes of an item
-abbrev pub descriptor_text : Item → Bool → List ℕ
-descriptor_text item false = word (item.type_name + item.bits * 2 ^ 8 + item.number * 2 ^ 16 + 2 ^ 28)
-descriptor_text item true = word (2 ^ 28 + 2 ^ 29) ++ (little_bytes 2 item.type_name ++ (little_bytes 2 item.bits ++ word item.number))
+abbrev pub descriptor_encoding : Item → Bool → List ℕ
+descriptor_encoding item false = word (item.type_name + item.bits * 2 ^ 8 + item.number * 2 ^ 16 + 2 ^ 28)
+descriptor_encoding item true = word (2 ^ 28 + 2 ^ 29) ++ (little_bytes 2 item.type_name ++ (little_bytes 2 item.bits ++ word item.number))
 
-abbrev pub item_text : Item → List ℕ
-item_text item = descriptor_text item item.is_long ++ item.content
+abbrev pub item_encoding : Item → List ℕ
+item_encoding item = descriptor_encoding item item.is_long ++ item.content
 
-abbrev pub items_text : List Item → List ℕ
-items_text items = flat_map item_text items
+abbrev pub items_encoding : List Item → List ℕ
+items_encoding items = flat_map item_encoding items
 
 abbrev pub is_port_item : Item → Bool
 is_port_item item = is_port_type item.type_name
@@ -135,7 +135,7 @@ AreItems (item ∷ items) = IsItem item × AreItems items
 
 -- These items, and no others between or after them, are the body.
 abbrev pub Tile : List Item → List ℕ → Type 0
-Tile items body = AreItems items × (items_text items ≡ body)
+Tile items body = AreItems items × (items_encoding items ≡ body)
 
 -- this many words from the front
 abbrev pub words_of : ℕ → List ℕ → List ℕ
@@ -161,5 +161,5 @@ filled (item ∷ items) names =
     if is_port_item item then record item { content = flat_map word (take item.number names) } ∷ filled items (drop item.number names) else item ∷ filled items names
 
 abbrev pub body_filled : Result (List Item) KernReturn → List ℕ → List ℕ → List ℕ
-body_filled (Ok items) body names = items_text (filled items names)
+body_filled (Ok items) body names = items_encoding (filled items names)
 body_filled (Err code) body names = body

@@ -17,5 +17,5 @@ masked (mask ∷ masks) [] = []
 masked (mask ∷ masks) (byte ∷ bytes) = bit_and byte mask ∷ masked masks bytes
 
 -- the message with 0 in place of what a send ignores; a message shorter than a header is masked as far as it goes
-unfoldable pub kept_message : List ℕ → List ℕ
-kept_message message = masked used_bits message
+unfoldable pub canonical_message : List ℕ → List ℕ
+canonical_message message = masked used_bits message

@@ -14,11 +14,11 @@ use Rattle.ipc_model.specs.declared.message.Message.{Message}
 use Rattle.ipc_model.specs.declared.message.RightKind.{RightKind}
 use Rattle.ipc_model.specs.declared.message.RightKind.TheVariants as kind
 use Rattle.ipc_model.specs.declared.port.PortState.{PortState}
-use Rattle.ipc_model.specs.rights.CopyOut.{Arrives, names_wanted}
+use Rattle.ipc_model.specs.rights.CopyOut.{Arrives, names_needed}
 use Rattle.ipc_model.specs.rights.Dispositions.{number_of_kind}
 use Rattle.ipc_model.specs.effects.Effects.{Effect, release, releases_of}
 use Rattle.ipc_model.specs.messages.Items.{items_of, body_filled}
-use Rattle.ipc_model.specs.messages.Messages.{header_length, complex_bit, message_text}
+use Rattle.ipc_model.specs.messages.Messages.{header_length, complex_bit, message_encoding}
 use Rattle.ipc_model.specs.state.State.{State, Names, next_count, members_of, received_port, with_port, with_names}
 
 -- the arguments of a receive
@@ -121,9 +121,9 @@ abbrev pub received_body : Message → List ℕ → List ℕ
 received_body message names = if message.complex then body_filled (items_of message.body) message.body names else message.body
 
 -- A message as received under its port's name `member`, where its rights got these names.
-abbrev pub received_text : Message → ℕ → ℕ → List ℕ → List ℕ
-received_text message member sequence_number given =
-    message_text (received_bits message) (reply_name message.reply given) member sequence_number message.id (received_body message (body_names message.reply given))
+abbrev pub received_encoding : Message → ℕ → ℕ → List ℕ → List ℕ
+received_encoding message member sequence_number given =
+    message_encoding (received_bits message) (reply_name message.reply given) member sequence_number message.id (received_body message (body_names message.reply given))
 
 -- the reply where no message is received: a code, and the size and the port's name of a message that it reports
 abbrev pub without_message : KernReturn → ℕ → ℕ → Reply
@@ -141,13 +141,13 @@ TooLarge old member serial message large answer new effects =
 abbrev pub Received : State → ℕ → Names → ℕ → ℕ → PortState → Message → Reply → State → List Effect → Type 0
 Received old space names member serial port message answer new effects =
     (given : List ℕ) × (after : Names) × Arrives names (arriving message) given after
-    × (answer ≡ reply.Message Success (message_size message) member (received_text message member port.sequence_number given))
+    × (answer ≡ reply.Message Success (message_size message) member (received_encoding message member port.sequence_number given))
     × (new ≡ with_names (without_oldest old serial) space after)
     × (effects ≡ destination_consumed message.destination serial)
 
 -- the message needs more new names than the space has left
 abbrev pub lacks_names : Names → Message → Bool
-lacks_names names message = nat_lt MAX_NAMES (finmap.len names + names_wanted names [] (arriving message))
+lacks_names names message = nat_lt MAX_NAMES (finmap.len names + names_needed names [] (arriving message))
 
 abbrev pub TakesOut : State → ℕ → Names → Receipt → ℕ → ℕ → PortState → Message → Reply → State → List Effect → Type 0
 TakesOut old space names receipt member serial port message answer new effects =

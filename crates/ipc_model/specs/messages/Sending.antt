@@ -16,7 +16,7 @@ use Rattle.ipc_model.specs.state.Circular.{is_circular}
 use Rattle.ipc_model.specs.rights.CopyIn.{Taken, copy_in}
 use Rattle.ipc_model.specs.rights.Dispositions.{Disposition, MoveReceive, MoveSend, MoveSendOnce, CopySend, MakeSend, MakeSendOnce, disposition_of, number_of_disposition, received_kind}
 use Rattle.ipc_model.specs.effects.Effects.{Effect, release, releases_of, queued, Outcome}
-use Rattle.ipc_model.specs.messages.Items.{Item, items_of, items_text, as_stored, is_port_item, names_of_item}
+use Rattle.ipc_model.specs.messages.Items.{Item, items_of, items_encoding, as_stored, is_port_item, names_of_item}
 use Rattle.ipc_model.specs.messages.Messages.{UsedParts, used_parts, header_length}
 use Rattle.ipc_model.specs.state.Placed.{same_kind}
 use Rattle.ipc_model.specs.state.State.{State, is_null_or_dead}
@@ -150,7 +150,7 @@ ready_message parts items header taken = record {
     id = parts.id;
     complex = list_any is_port_item items;
     rights = taken.rights;
-    body = if parts.complex then items_text (map as_stored items) else parts.body;
+    body = if parts.complex then items_encoding (map as_stored items) else parts.body;
   };
   port = header.port;
   state = taken.state;

@@ -76,7 +76,7 @@ named_with named kind.Send (in_message.Live serial) = serial ∷ named
 named_with named kind.Receive (in_message.Live serial) = serial ∷ named
 
 -- how many new names these rights need
-abbrev pub names_wanted : Names → List ℕ → List CarriedRight → ℕ
-names_wanted names named [] = 0
-names_wanted names named (right ∷ rights) =
-    (if wants_name names named right.kind right.port then 1 else 0) + names_wanted names (named_with named right.kind right.port) rights
+abbrev pub names_needed : Names → List ℕ → List CarriedRight → ℕ
+names_needed names named [] = 0
+names_needed names named (right ∷ rights) =
+    (if wants_name names named right.kind right.port then 1 else 0) + names_needed names (named_with named right.kind right.port) rights

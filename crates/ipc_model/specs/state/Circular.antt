@@ -46,5 +46,5 @@ Carries state outer inner = (port : PortState) × (finmap.get state.ports outer 
 
 -- Acyclic: no ports carry one another in a circle. They have ranks, by which a port ranks below the one that carries
 -- it.
-abbrev pub Grounded : State → Type 0
-Grounded state = (rank : ℕ → ℕ) × ((outer inner : ℕ) → Carries state outer inner → rank inner < rank outer)
+abbrev pub Acyclic : State → Type 0
+Acyclic state = (rank : ℕ → ℕ) × ((outer inner : ℕ) → Carries state outer inner → rank inner < rank outer)

@@ -83,8 +83,8 @@ pub record LawfulPort (port : PortState) : Type 0 where
   pub messages : All LawfulMessage port.messages
 
 -- The space that holds the port's receive right has a set of this name.
-abbrev pub IsHeldBesideSet : State → ℕ → ℕ → Type 0
-IsHeldBesideSet state serial set =
+abbrev pub IsHeldAlongsideSet : State → ℕ → ℕ → Type 0
+IsHeldAlongsideSet state serial set =
     (space : ℕ) × (names : Names) × (name : ℕ) × (entry : Entry) × (finmap.get state.spaces space ≡ Some names)
     × (finmap.get names name ≡ Some entry) × (received_port entry ≡ Some serial) × (finmap.get names set ≡ Some Set)
 
@@ -100,7 +100,7 @@ pub record Lawful (state : State) : Type 0 where
   -- each right names a live port: a port that isn't live has none
   pub live : (serial : ℕ) → lives state serial ≡ false → rights_count state serial ≡ 0
   -- a port is in a set of the space that holds its receive right
-  pub sets : (serial set : ℕ) (port : PortState) → finmap.get state.ports serial ≡ Some port → port.set ≡ Some set → IsHeldBesideSet state serial set
+  pub sets : (serial set : ℕ) (port : PortState) → finmap.get state.ports serial ≡ Some port → port.set ≡ Some set → IsHeldAlongsideSet state serial set
 
 -- No queue holds more messages than a word counts. This is not part of being lawful, since no call of the machine is
 -- refused for it: notices and messages by send-once rights are queued whatever the limit. A program keeps it by
@@ -156,4 +156,4 @@ pub record LawfulBut (state : State) (effects : List Effect) : Type 0 where
   -- each right that stands in a place names a live port: a port that isn't live has none
   pub live : (serial : ℕ) → lives state serial ≡ false → rights_count state serial ≡ 0
   pub waits : AllWaiting effects
-  pub sets : (serial set : ℕ) (port : PortState) → finmap.get state.ports serial ≡ Some port → port.set ≡ Some set → IsHeldBesideSet state serial set ⊎ IsReleased effects serial
+  pub sets : (serial set : ℕ) (port : PortState) → finmap.get state.ports serial ≡ Some port → port.set ≡ Some set → IsHeldAlongsideSet state serial set ⊎ IsReleased effects serial

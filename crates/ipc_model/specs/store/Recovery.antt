@@ -1,12 +1,12 @@
 -- What the four slots of a store encode, and what is recovered from them: one static reading, for every epoch.
 use Rattle.std.specs.Prelude.{◌≡◌, ◌≢◌, ◌⊎◌, ℕ, suc, ◌+◌, ◌%◌, ◌^◌, ◌<◌, ◌≤◌, ◌∷◌, [], ◌++◌, List, length, take, drop, slice_index}
 use Rattle.ipc_model.specs.declared.record.Record.{Record}
-use Rattle.ipc_model.specs.state.Circular.{Grounded}
-use Rattle.ipc_model.specs.texts.Images.{image_text}
+use Rattle.ipc_model.specs.state.Circular.{Acyclic}
+use Rattle.ipc_model.specs.encodings.Images.{image_encoding}
 use Rattle.ipc_model.specs.state.Lawful.{Lawful, ShortQueues}
 use Rattle.ipc_model.specs.state.State.{State, opening_state}
 use Rattle.ipc_model.specs.calls.Step.{Run}
-use Rattle.ipc_model.specs.store.Store.{SpellsSegment, IsClosed, open_gate, segment_header, image_content}
+use Rattle.ipc_model.specs.store.Store.{EncodesSegment, IsClosed, open_gate, segment_header, image_content}
 
 -- The bytes of a store's slots: two for images and two for segments, each by its number, 0 or 1. Epoch e uses the
 -- slots of number e % 2.
@@ -28,7 +28,7 @@ IsOpen header slot = (header ≤ length slot) × (take 1 slot ≡ open_gate ∷ 
 -- an open slot's header is of version 1 and of this epoch, which is one of the slot's number
 pub record IsOfEpoch (number epoch : ℕ) (slot : List ℕ) : Type 0 where
   pub rest : List ℕ
-  pub text : slot ≡ segment_header open_gate epoch ++ rest
+  pub encoding : slot ≡ segment_header open_gate epoch ++ rest
   pub fits : epoch < 2 ^ 64
   pub of_number : epoch % 2 ≡ number
 
@@ -47,20 +47,20 @@ pub record IsNew (slots : Slots) : Type 0 where
       → (epoch ≡ 0) × IsClosed (drop segment_header_length (slots.segment number))
 
 -- These bytes are the image of this state, which is lawful and acyclic, and whose queues are short.
-pub record IsImageOf (text : List ℕ) (state : State) : Type 0 where
-  pub text_is : text ≡ image_text state
+pub record IsImageOf (encoding : List ℕ) (state : State) : Type 0 where
+  pub encoding_is : encoding ≡ image_encoding state
   pub lawful : Lawful state
-  pub grounded : Grounded state
+  pub acyclic : Acyclic state
   pub short : ShortQueues state
 
 -- An open image of this epoch holds the encoding of this state, which is lawful and acyclic. Bytes past the encoding
 -- aren't read.
 pub record HoldsImage (epoch : ℕ) (slot : List ℕ) (state : State) : Type 0 where
   pub rest : List ℕ
-  pub text : slot ≡ (open_gate ∷ image_content epoch (image_text state)) ++ rest
-  pub fits : length (image_text state) < 2 ^ 64
+  pub encoding : slot ≡ (open_gate ∷ image_content epoch (image_encoding state)) ++ rest
+  pub fits : length (image_encoding state) < 2 ^ 64
   pub lawful : Lawful state
-  pub grounded : Grounded state
+  pub acyclic : Acyclic state
   pub short : ShortQueues state
 
 -- The other segment slot is closed, and adds nothing;
@@ -73,7 +73,7 @@ FormerAddsNothing epoch slot next = (before : ℕ) × (suc before ≡ epoch) × 
 
 -- or it is of the next epoch, and adds that epoch's records.
 abbrev pub NextAddsRecords : ℕ → List ℕ → List Record → Type 0
-NextAddsRecords epoch slot next = (epoch + 1 < 2 ^ 64) × SpellsSegment (epoch + 1) slot next
+NextAddsRecords epoch slot next = (epoch + 1 < 2 ^ 64) × EncodesSegment (epoch + 1) slot next
 
 -- What the other segment slot adds to the records of an epoch.
 abbrev pub Continues : ℕ → List ℕ → List Record → Type 0
@@ -88,12 +88,12 @@ pub record IsStored (slots : Slots) (base : State) (records : List Record) : Typ
   pub latest : (number other : ℕ) → number < 2 → IsOpen image_header (slots.image number) → IsOfEpoch number other (slots.image number) → other ≤ epoch
   pub first : List Record
   pub next : List Record
-  pub segment : SpellsSegment epoch (slots.segment (epoch % 2)) first
+  pub segment : EncodesSegment epoch (slots.segment (epoch % 2)) first
   pub other : Continues epoch (slots.segment ((epoch + 1) % 2)) next
   pub joined : records ≡ first ++ next
 
 -- What a disk encodes: the state that the records begin from, and the records.
-pub record Spells (slots : Slots) (base : State) (records : List Record) : Type 0 where
+pub record Encodes (slots : Slots) (base : State) (records : List Record) : Type 0 where
   pub headers : HeadersFit slots
   pub reading : (IsNew slots × (base ≡ opening_state) × (records ≡ [])) ⊎ IsStored slots base records
 
@@ -101,7 +101,7 @@ pub record Spells (slots : Slots) (base : State) (records : List Record) : Type 
 pub record Recovered (slots : Slots) (state : State) : Type 0 where
   pub base : State
   pub records : List Record
-  pub spelled : Spells slots base records
+  pub encoded : Encodes slots base records
   pub run : Run base records state
 
 -- a slot is open, and its version, the byte after the gate, isn't 1

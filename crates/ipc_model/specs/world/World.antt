@@ -5,7 +5,7 @@ use Rattle.codes.specs.declared.limits.TheConstants.{MAX_RECORDS}
 use Rattle.ipc_model.specs.declared.call.Call.{Call}
 use Rattle.ipc_model.specs.declared.call.Reply.{Reply}
 use Rattle.ipc_model.specs.declared.record.Record.{Record}
-use Rattle.ipc_model.specs.texts.Images.{image_text}
+use Rattle.ipc_model.specs.encodings.Images.{image_encoding}
 use Rattle.ipc_model.specs.state.State.{State}
 use Rattle.ipc_model.specs.store.Faults as fault
 use Rattle.ipc_model.specs.store.Faults.{StoreFault}
@@ -105,15 +105,15 @@ abbrev pub greatest_seen : List Ticket → ℕ
 greatest_seen [] = 0
 greatest_seen (ticket ∷ tickets) = if ticket.answered then max ticket.seen (greatest_seen tickets) else greatest_seen tickets
 
-abbrev pub told : World → ℕ
-told world = max world.stored (greatest_seen world.tickets)
+abbrev pub acknowledged : World → ℕ
+acknowledged world = max world.stored (greatest_seen world.tickets)
 
 -- how many records the log of this epoch has: those that the opening read, and those applied since it began
-abbrev pub row_length : World → ℕ
-row_length world = world.opened + (length world.applied - world.earlier)
+abbrev pub log_length : World → ℕ
+log_length world = world.opened + (length world.applied - world.earlier)
 
-abbrev pub IsRowFull : World → Type 0
-IsRowFull world = MAX_RECORDS ≤ row_length world
+abbrev pub IsLogFull : World → Type 0
+IsLogFull world = MAX_RECORDS ≤ log_length world
 
 -- how many bytes a piece of an image has
 abbrev pub piece_length : ℕ
@@ -121,15 +121,15 @@ piece_length = 4096
 
 -- how many pieces an encoding has
 abbrev pub pieces_of : List ℕ → ℕ
-pieces_of text = (length text + (piece_length - 1)) / piece_length
+pieces_of encoding = (length encoding + (piece_length - 1)) / piece_length
 
 -- the next batch takes the records of one epoch that are not yet taken, the older epoch's first
-abbrev pub is_behind : World → Bool
-is_behind world = nat_lt world.taken world.earlier
+abbrev pub is_after : World → Bool
+is_after world = nat_lt world.taken world.earlier
 
 abbrev pub next_batch : World → Batch
 next_batch world =
-    if is_behind world then record { epoch = world.epoch - 1; size = world.earlier - world.taken; appended = false }
+    if is_after world then record { epoch = world.epoch - 1; size = world.earlier - world.taken; appended = false }
     else record { epoch = world.epoch; size = length world.applied - world.taken; appended = false }
 
 -- whether a segment takes batches: an older epoch's does, and this epoch's does unless a checkpoint hasn't rotated to
@@ -217,7 +217,7 @@ after_cut world state = record world {
   epoch = world.epoch + 1;
   opened = 0;
   earlier = length world.applied;
-  checkpoint = Some (record { rolled = 0; imaged = 0; pieces = pieces_of (image_text state); finished = false });
+  checkpoint = Some (record { rolled = 0; imaged = 0; pieces = pieces_of (image_encoding state); finished = false });
 }
 
 abbrev pub with_checkpoint : World → (Checkpoint → Checkpoint) → Option Checkpoint → World
@@ -251,11 +251,11 @@ IsStep base world space call answer = (old : State) × (new : State) × Run base
 
 -- A ticket keeps such a reply; and a full epoch log takes no record.
 abbrev pub MayGive : State → World → ℕ → Call → Reply → Type 0
-MayGive base world space call answer = IsStep base world space call answer × ((has_record call answer ≡ true) → row_length world < MAX_RECORDS)
+MayGive base world space call answer = IsStep base world space call answer × ((has_record call answer ≡ true) → log_length world < MAX_RECORDS)
 
 -- The epoch is full for a call: its log is full, and a step of the call has a record.
 abbrev pub HasNoRoom : State → World → ℕ → Call → Type 0
-HasNoRoom base world space call = IsRowFull world × (answer : Reply) × IsStep base world space call answer × (has_record call answer ≡ true)
+HasNoRoom base world space call = IsLogFull world × (answer : Reply) × IsStep base world space call answer × (has_record call answer ≡ true)
 
 -- a ticket's reply is given once
 abbrev pub AfterReply : World → ℕ → Reply → World → Type 0

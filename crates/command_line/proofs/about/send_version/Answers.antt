@@ -1,6 +1,6 @@
 use Rattle.std.proofs.KnownBytes.{Appends-trans}
 use Rattle.std.proofs.lemmas.Result.{on_err_weaker}
-use Rattle.command_line.proofs.Parts.{at_any, on_ok, part_before, part_behind}
+use Rattle.command_line.proofs.Parts.{at_any, on_ok, part_before, part_after}
 use Rattle.command_line.specs.About.{version_lines}
 use Rattle.command_line.proofs.about.send_version.Goals as goal
 
@@ -15,4 +15,4 @@ returns-clause-ok g c =
 pub returns-clause-part : goal.returns-clause-part
 returns-clause-part g c =
     let first = rw c.as_bytes.ensures.value at c.in_ok-write_bytes.ensures.ok in
-    on_err_weaker _ (part_behind _ _ _ c.args.name.now version_lines first) c.send.ensures.part
+    on_err_weaker _ (part_after _ _ _ c.args.name.now version_lines first) c.send.ensures.part

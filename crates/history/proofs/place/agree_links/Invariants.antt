@@ -1,5 +1,5 @@
 use Rattle.std.proofs.Common.{◌≡◌, map, take}
-use Rattle.history.specs.Rows.{known_links}
+use Rattle.history.specs.Blocks.{known_links}
 use Rattle.history.proofs.place.agree_links.Given as goal
 
 abbrev pub invariant-loop-at : goal.invariant-loop-at

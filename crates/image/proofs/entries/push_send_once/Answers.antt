@@ -1,6 +1,6 @@
 use Rattle.std.proofs.Common.{[], ◌∷◌, ◌++◌}
 use Rattle.image.specs.Parts.{added}
-use Rattle.ipc_model.specs.texts.Images.{number_or_0}
+use Rattle.ipc_model.specs.encodings.Images.{number_or_0}
 use Rattle.words.specs.Words.{long_word}
 use Rattle.image.proofs.entries.push_send_once.Goals as goal
 

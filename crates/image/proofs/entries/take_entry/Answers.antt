@@ -1,6 +1,6 @@
 use Rattle.std.proofs.Common.{◌≡◌, List, ℕ, sym, ◌∙◌, ap}
 use Rattle.std.specs.Option.{IsSomeAnd}
-use Rattle.ipc_laws.specs.TextLaws.{word_once}
+use Rattle.ipc_laws.specs.EncodingLaws.{word_once}
 use Rattle.ipc_model.specs.declared.entry.Entry.{Entry}
 use Rattle.ipc_model.specs.declared.entry.Entry.TheVariants.{Dead}
 use Rattle.image.proofs.OneEntry.{rights_alone, send_once_alone, set_alone, dead_alone}

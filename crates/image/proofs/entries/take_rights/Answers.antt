@@ -1,7 +1,7 @@
 use Rattle.std.proofs.Common.{ap, drop, List, ℕ}
 use Rattle.image.specs.Parts.{target_fits}
 use Rattle.ipc_model.specs.declared.entry.Entry.TheVariants.{Port}
-use Rattle.ipc_model.specs.texts.Images.{number_or_0}
+use Rattle.ipc_model.specs.encodings.Images.{number_or_0}
 use Rattle.image.proofs.entries.take_rights.Goals as goal
 
 pub returns-in_err-port-clause-only : goal.returns-in_err-port-clause-only

@@ -1,6 +1,6 @@
 use Rattle.std.proofs.Common.{ap, drop, List, ℕ}
 use Rattle.image.specs.Parts.{target_fits}
-use Rattle.ipc_model.specs.texts.Images.{number_or_0}
+use Rattle.ipc_model.specs.encodings.Images.{number_or_0}
 use Rattle.image.proofs.entries.take_send_once.Goals as goal
 
 pub returns-in_err-port-clause-only : goal.returns-in_err-port-clause-only

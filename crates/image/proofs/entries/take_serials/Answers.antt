@@ -1,5 +1,5 @@
 use Rattle.std.proofs.Common.{◌++◌, ◌∙◌, sym}
-use Rattle.ipc_laws.specs.TextLaws.{long_word_once}
+use Rattle.ipc_laws.specs.EncodingLaws.{long_word_once}
 use Rattle.words.specs.Words.{long_word}
 use Rattle.image.proofs.OneEntry.{no_long_word}
 use Rattle.image.proofs.entries.take_serials.Goals as goal

@@ -1,6 +1,6 @@
 use Rattle.std.proofs.Common.{◌∙◌, ◌++◌, ap, flat_map, length, ℕ}
 use Rattle.image.specs.Parts.{port_added}
-use Rattle.ipc_model.specs.texts.Images.{message_image}
+use Rattle.ipc_model.specs.encodings.Images.{message_image}
 use Rattle.words.specs.Words.{word}
 use Rattle.image.proofs.ports.push_port.Goals as goal
 

@@ -1,5 +1,5 @@
 use Rattle.std.proofs.Common.{◌++◌, ◌∙◌, sym}
-use Rattle.ipc_laws.specs.TextLaws.{word_once}
+use Rattle.ipc_laws.specs.EncodingLaws.{word_once}
 use Rattle.words.specs.Words.{word}
 use Rattle.image.proofs.OneEntry.{no_word}
 use Rattle.image.proofs.ports.take_numbers.Goals as goal

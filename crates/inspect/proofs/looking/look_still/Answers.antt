@@ -6,7 +6,7 @@ use Rattle.ipc_model.specs.store.Recovery.{IsDamaged}
 use Rattle.journal.specs.declared.fault.StoreFault.{StoreFault}
 use Rattle.journal.specs.declared.fault.StoreFault.TheVariants as store
 use Rattle.recover.specs.Found.{Reads}
-use Rattle.standing.specs.Standing.{as_written}
+use Rattle.store_layout.specs.Standing.{as_written}
 use Rattle.inspect.proofs.looking.look_still.Goals as goal
 
 looking_damaged : (fault : StoreFault) → of_looking fault ≡ Store store.Damaged → fault ≡ store.Damaged
@@ -28,6 +28,6 @@ returns-in-Ok-clause-state g c =
     }
 
 pub returns-in-Err-clause-damaged : goal.returns-in-Err-clause-damaged
-returns-in-Err-clause-damaged g c = λ honest told.
-    let damaged : of_looking c.in-Err.fault ≡ Store store.Damaged = cc (c.fault_of_copy.ensures, told) in
+returns-in-Err-clause-damaged g c = λ honest reported.
+    let damaged : of_looking c.in-Err.fault ≡ Store store.Damaged = cc (c.fault_of_copy.ensures, reported) in
     subst (λ (s : Slots). IsDamaged (as_written s)) (c.in_ok-copy.ensures.slots honest) (c.in-Err.ensures.damaged (ap Err (looking_damaged c.in-Err.fault damaged)))

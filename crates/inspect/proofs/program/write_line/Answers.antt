@@ -1,5 +1,5 @@
 use Rattle.std.proofs.lemmas.Result.{on_err_weaker}
-use Rattle.inspect.proofs.Parts.{at_any, part_before, part_behind}
+use Rattle.inspect.proofs.Parts.{at_any, part_before, part_after}
 use Rattle.inspect.proofs.program.write_line.Goals as goal
 
 pub returns-in_err-write_bytes-clause-part : goal.returns-in_err-write_bytes-clause-part
@@ -9,4 +9,4 @@ pub returns-clause-part : goal.returns-clause-part
 returns-clause-part g c =
     let first = rw c.as_bytes.ensures.value at c.in_ok-write_bytes.ensures.ok in
     let second = rw c.as_bytes-2.ensures.value at c.write_bytes-2.ensures.part in
-    on_err_weaker _ (part_behind _ _ _ c.args.name.now c.args.words.now first) second
+    on_err_weaker _ (part_after _ _ _ c.args.name.now c.args.words.now first) second

@@ -2,7 +2,7 @@ use Rattle.std.proofs.Common.{◌≡◌, [], ◌∷◌, ◌++◌, take, OnOk, su
 use Rattle.disk.specs.declared.slot.Slot.{Slot}
 use Rattle.disk.specs.Moments.{Follows, IsSynced, Passes}
 use Rattle.disk.specs.Slots.{slot_of, with_slot}
-use Rattle.ipc_model.specs.store.Store.{closed_gate, epoch_text}
+use Rattle.ipc_model.specs.store.Store.{closed_gate, epoch_encoding}
 use Rattle.slot_steps.specs.Steps.{IsShut, IsStillClosed}
 use Rattle.journal.proofs.roll.roll_head.Goals as goal
 
@@ -12,7 +12,7 @@ pub returns-clause-header : goal.returns-clause-header
 returns-clause-header g c = λ honest.
     let old = g.D.Disk.view c.args.disk.now in
     let new = g.D.Disk.view c.write_header.new.disk in
-    subst (λ (s : Slot). OnOk c.write_header.result (new.seen ≡ with_slot old.seen s (take 1 (slot_of old.seen s) ++ (epoch_text c.args.epoch ++ closed_gate ∷ [])))) c.segment_slot.ensures (c.write_header.ensures.header honest)
+    subst (λ (s : Slot). OnOk c.write_header.result (new.seen ≡ with_slot old.seen s (take 1 (slot_of old.seen s) ++ (epoch_encoding c.args.epoch ++ closed_gate ∷ [])))) c.segment_slot.ensures (c.write_header.ensures.header honest)
 
 pub returns-clause-synced : goal.returns-clause-synced
 returns-clause-synced g c = λ honest.

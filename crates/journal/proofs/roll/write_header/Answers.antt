@@ -8,39 +8,39 @@ use Rattle.journal.proofs.roll.write_header.Goals as goal
 pub returns-clause-header : goal.returns-clause-header
 returns-clause-header g c = λ honest.
     let old = (g.D.Disk.view c.args.disk.now).seen in
-    let written = segment_written c.args.slot old (g.D.Disk.view c.cut_behind.new.disk).seen (g.D.Disk.view c.write_behind.new.disk).seen (g.D.Disk.view c.sync_behind.new.disk).seen c.segment_start.result (c.requires honest)
-    (c.in_ok-cut_behind.ensures.cut honest) (c.in_ok-write_behind.ensures.written honest) (c.sync_behind.ensures.seen honest) in
-    always c.sync_behind.result (written ∙ ap (λ (start : List ℕ). with_slot old c.args.slot (take 1 (slot_of old c.args.slot) ++ start)) c.segment_start.ensures)
+    let written = segment_written c.args.slot old (g.D.Disk.view c.cut_after.new.disk).seen (g.D.Disk.view c.write_after.new.disk).seen (g.D.Disk.view c.sync_after.new.disk).seen c.segment_start.result (c.requires honest)
+    (c.in_ok-cut_after.ensures.cut honest) (c.in_ok-write_after.ensures.written honest) (c.sync_after.ensures.seen honest) in
+    always c.sync_after.result (written ∙ ap (λ (start : List ℕ). with_slot old c.args.slot (take 1 (slot_of old c.args.slot) ++ start)) c.segment_start.ensures)
 
 pub returns-clause-any_moment : goal.returns-clause-any_moment
 returns-clause-any_moment g c = λ honest shut.
     let slot = c.args.slot in
     let old = g.D.Disk.view c.args.disk.now in
-    let cut = g.D.Disk.view c.cut_behind.new.disk in
-    let written = g.D.Disk.view c.write_behind.new.disk in
-    let shut_cut = c.in_ok-cut_behind.ensures.shut honest shut in
-    closed_then slot old written (g.D.Disk.view c.sync_behind.new.disk)
-    (closed_then slot old cut written (c.cut_behind.ensures.any_moment honest shut) (c.write_behind.ensures.any_moment honest shut_cut))
-    (c.sync_behind.ensures.any_moment honest (c.in_ok-write_behind.ensures.shut honest shut_cut))
+    let cut = g.D.Disk.view c.cut_after.new.disk in
+    let written = g.D.Disk.view c.write_after.new.disk in
+    let shut_cut = c.in_ok-cut_after.ensures.shut honest shut in
+    closed_then slot old written (g.D.Disk.view c.sync_after.new.disk)
+    (closed_then slot old cut written (c.cut_after.ensures.any_moment honest shut) (c.write_after.ensures.any_moment honest shut_cut))
+    (c.sync_after.ensures.any_moment honest (c.in_ok-write_after.ensures.shut honest shut_cut))
 
 pub returns-clause-synced : goal.returns-clause-synced
-returns-clause-synced g c = c.sync_behind.ensures.synced
+returns-clause-synced g c = c.sync_after.ensures.synced
 
-pub write_behind-requires-clause-inside : goal.write_behind-requires-clause-inside
-write_behind-requires-clause-inside g c = λ honest.
+pub write_after-requires-clause-inside : goal.write_after-requires-clause-inside
+write_after-requires-clause-inside g c = λ honest.
     let old = (g.D.Disk.view c.args.disk.now).seen in
     let gate = take 1 (slot_of old c.args.slot) in
-    omega (arith, ap length (own_of c.args.slot old (g.D.Disk.view c.cut_behind.new.disk).seen gate (c.in_ok-cut_behind.ensures.cut honest)), cut_length (slot_of old c.args.slot) 1 (c.requires honest))
+    omega (arith, ap length (own_of c.args.slot old (g.D.Disk.view c.cut_after.new.disk).seen gate (c.in_ok-cut_after.ensures.cut honest)), cut_length (slot_of old c.args.slot) 1 (c.requires honest))
 
-pub returns-in_err-cut_behind-clause-any_moment : goal.returns-in_err-cut_behind-clause-any_moment
-returns-in_err-cut_behind-clause-any_moment g c = c.cut_behind.ensures.any_moment
+pub returns-in_err-cut_after-clause-any_moment : goal.returns-in_err-cut_after-clause-any_moment
+returns-in_err-cut_after-clause-any_moment g c = c.cut_after.ensures.any_moment
 
-pub returns-in_err-write_behind-clause-any_moment : goal.returns-in_err-write_behind-clause-any_moment
-returns-in_err-write_behind-clause-any_moment g c = λ honest shut.
-    closed_then c.args.slot (g.D.Disk.view c.args.disk.now) (g.D.Disk.view c.cut_behind.new.disk) (g.D.Disk.view c.write_behind.new.disk)
-    (c.cut_behind.ensures.any_moment honest shut) (c.write_behind.ensures.any_moment honest (c.in_ok-cut_behind.ensures.shut honest shut))
+pub returns-in_err-write_after-clause-any_moment : goal.returns-in_err-write_after-clause-any_moment
+returns-in_err-write_after-clause-any_moment g c = λ honest shut.
+    closed_then c.args.slot (g.D.Disk.view c.args.disk.now) (g.D.Disk.view c.cut_after.new.disk) (g.D.Disk.view c.write_after.new.disk)
+    (c.cut_after.ensures.any_moment honest shut) (c.write_after.ensures.any_moment honest (c.in_ok-cut_after.ensures.shut honest shut))
 
 pub returns-clause-failures : goal.returns-clause-failures
 returns-clause-failures g c =
-    subst (λ (n : ℕ). CountsFailure n (g.D.Disk.failed_calls c.sync_behind.new.disk) c.sync_behind.result)
-    (c.in_ok-write_behind.ensures.failures.ok ∙ c.in_ok-cut_behind.ensures.failures.ok) c.sync_behind.ensures.failures
+    subst (λ (n : ℕ). CountsFailure n (g.D.Disk.failed_calls c.sync_after.new.disk) c.sync_after.result)
+    (c.in_ok-write_after.ensures.failures.ok ∙ c.in_ok-cut_after.ensures.failures.ok) c.sync_after.ensures.failures

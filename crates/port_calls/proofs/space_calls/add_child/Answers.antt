@@ -42,17 +42,17 @@ put_right-requires c = record {
 
 pub returns-clause-name : goal.returns-clause-name
 returns-clause-name c =
-    subst (λ (n : Names). MayArrive n c.args.right.kind c.args.right.port c.arrival_wanted-name.result)
-    (has_none c.args.state.now.current c.add_space.new.self.current c.space_number-number.result without refl (ap (λ (r : Running). r.current) c.in_ok-add_space.ensures.ok)) c.arrival_wanted-name.ensures.may
+    subst (λ (n : Names). MayArrive n c.args.right.kind c.args.right.port c.arrival_needed-name.result)
+    (has_none c.args.state.now.current c.add_space.new.self.current c.space_number-number.result without refl (ap (λ (r : Running). r.current) c.in_ok-add_space.ensures.ok)) c.arrival_needed-name.ensures.may
 
 pub returns-clause-state : goal.returns-clause-state
 returns-clause-state c =
     gets c.args.state.now.current c.add_space.new.self.current c.space_number-number.result without refl (ap (λ (r : Running). r.current) c.in_ok-add_space.ensures.ok) c.put_right.new.state.current
-    (names_after without c.args.right.kind c.args.right.port c.arrival_wanted-name.result)
+    (names_after without c.args.right.kind c.args.right.port c.arrival_needed-name.result)
     (c.in_ok-put_right.ensures.ok without (is_there c.args.state.now.current c.add_space.new.self.current c.space_number-number.result without refl (ap (λ (r : Running). r.current) c.in_ok-add_space.ensures.ok)))
 
 pub returns-clause-wanted : goal.returns-clause-wanted
 returns-clause-wanted c = λ number name is unused may.
     let here : names_in c.add_space.new.self.current c.space_number-number.result ≡ without = has_none c.args.state.now.current c.add_space.new.self.current c.space_number-number.result without refl (ap (λ (r : Running). r.current) c.in_ok-add_space.ensures.ok) in
     pair_same (c.space_number-number.ensures.wanted number (c.unzip-wanted_number.ensures.first ∙ ap (option_map (λ (p : ℕ × ℕ). p.0)) is) unused)
-    (c.arrival_wanted-name.ensures.wanted name (c.unzip-wanted_number.ensures.second ∙ ap (option_map (λ (p : ℕ × ℕ). p.1)) is) (subst (λ (n : Names). MayArrive n c.args.right.kind c.args.right.port name) (sym here) may))
+    (c.arrival_needed-name.ensures.wanted name (c.unzip-wanted_number.ensures.second ∙ ap (option_map (λ (p : ℕ × ℕ). p.1)) is) (subst (λ (n : Names). MayArrive n c.args.right.kind c.args.right.port name) (sym here) may))

@@ -1,6 +1,6 @@
 use Rattle.std.proofs.Common.{ℕ, Option, sym, ap, ◌∙◌}
 use Rattle.std.specs.FinMap as map
-use Rattle.port_space.specs.Beside.{with_port}
+use Rattle.port_space.specs.Alongside.{with_port}
 use Rattle.port_space.proofs.Staying.{stands}
 use Rattle.port_space.proofs.tables.stay_with_port.Goals as goal
 

@@ -5,7 +5,7 @@ use Rattle.codes.specs.declared.limits.TheConstants.{MAX_NAMES}
 use Rattle.ipc_model.specs.calls.PortCalls.{names_in}
 use Rattle.ipc_model.specs.declared.message.CarriedRight.{CarriedRight}
 use Rattle.ipc_model.specs.messages.Receiving.{arriving, message_size}
-use Rattle.ipc_model.specs.rights.CopyOut.{names_wanted}
+use Rattle.ipc_model.specs.rights.CopyOut.{names_needed}
 use Rattle.receiving.specs.Shows.{receipt_of}
 use Rattle.receiving.specs.TakingLaws.{large_told, lacking_told, names_lawful, oldest_lawful, was_lacking, was_large, was_received, whole_told}
 use Rattle.receiving.proofs.receiving.take_out.Goals as goal
@@ -30,7 +30,7 @@ returns-then-lacks_room-clause-acts c = λ port message later live first.
     let outline = c.in-Some.ensures.some port message later live first in
     let small : nat_lt c.args.asked.limit (message_size message) ≡ false = le-ltb c.args.asked.limit (message_size message) (omega (arith, outline.0, c.if-outline-asked.false)) in
     let rights : c.as_slice.result.now ≡ arriving message = c.as_slice.ensures.value ∙ c.in_ok-rights.ensures port message later live first in
-    let lacks = ap (λ (l : List CarriedRight). nat_lt MAX_NAMES (finmap.len names + names_wanted names [] l)) (sym rights) ∙ sym c.lacks_room.ensures ∙ c.if-lacks_room.true in
+    let lacks = ap (λ (l : List CarriedRight). nat_lt MAX_NAMES (finmap.len names + names_needed names [] l)) (sym rights) ∙ sym c.lacks_room.ensures ∙ c.if-lacks_room.true in
     was_lacking c.args.state.now.current c.args.space names (receipt_of c.args.asked) c.args.source.member c.args.source.port port message c.without_message-then-lacks_room.result c.args.state.now.current c.args.effects.now
     small lacks c.without_message-then-lacks_room.ensures refl c.requires.none
 
@@ -40,7 +40,7 @@ returns-then-lacks_room-clause-shown c = λ port message later live first other 
     let outline = c.in-Some.ensures.some port message later live first in
     let small : nat_lt c.args.asked.limit (message_size message) ≡ false = le-ltb c.args.asked.limit (message_size message) (omega (arith, outline.0, c.if-outline-asked.false)) in
     let rights : c.as_slice.result.now ≡ arriving message = c.as_slice.ensures.value ∙ c.in_ok-rights.ensures port message later live first in
-    let lacks = ap (λ (l : List CarriedRight). nat_lt MAX_NAMES (finmap.len names + names_wanted names [] l)) (sym rights) ∙ sym c.lacks_room.ensures ∙ c.if-lacks_room.true in
+    let lacks = ap (λ (l : List CarriedRight). nat_lt MAX_NAMES (finmap.len names + names_needed names [] l)) (sym rights) ∙ sym c.lacks_room.ensures ∙ c.if-lacks_room.true in
     lacking_told c.args.state.now.current c.args.space names (receipt_of c.args.asked) c.args.source.member c.args.source.port port message c.without_message-then-lacks_room.result other last others
     small lacks c.without_message-then-lacks_room.ensures may
 
@@ -53,7 +53,7 @@ returns-clause-acts c = λ port message later live first.
     let outline = c.in-Some.ensures.some port message later live first in
     let small : nat_lt c.args.asked.limit (message_size message) ≡ false = le-ltb c.args.asked.limit (message_size message) (omega (arith, outline.0, c.if-outline-asked.false)) in
     let rights : c.as_slice.result.now ≡ arriving message = c.as_slice.ensures.value ∙ c.in_ok-rights.ensures port message later live first in
-    let fits = ap (λ (l : List CarriedRight). nat_lt MAX_NAMES (finmap.len names + names_wanted names [] l)) (sym rights) ∙ sym c.lacks_room.ensures ∙ c.if-lacks_room.false in
+    let fits = ap (λ (l : List CarriedRight). nat_lt MAX_NAMES (finmap.len names + names_needed names [] l)) (sym rights) ∙ sym c.lacks_room.ensures ∙ c.if-lacks_room.false in
     was_received c.args.state.now.current c.args.space names (receipt_of c.args.asked) c.args.source.member c.args.source.port port message c.in_ok-reply-2.reply c.take_whole.new.state.current c.take_whole.new.effects
     small fits (c.in_ok-reply-2.ensures.received port message later live first)
 
@@ -64,7 +64,7 @@ returns-clause-shown c = λ port message later live first other last others show
     let outline = c.in-Some.ensures.some port message later live first in
     let small : nat_lt c.args.asked.limit (message_size message) ≡ false = le-ltb c.args.asked.limit (message_size message) (omega (arith, outline.0, c.if-outline-asked.false)) in
     let rights : c.as_slice.result.now ≡ arriving message = c.as_slice.ensures.value ∙ c.in_ok-rights.ensures port message later live first in
-    let fits = ap (λ (l : List CarriedRight). nat_lt MAX_NAMES (finmap.len names + names_wanted names [] l)) (sym rights) ∙ sym c.lacks_room.ensures ∙ c.if-lacks_room.false in
+    let fits = ap (λ (l : List CarriedRight). nat_lt MAX_NAMES (finmap.len names + names_needed names [] l)) (sym rights) ∙ sym c.lacks_room.ensures ∙ c.if-lacks_room.false in
     whole_told old c.args.space names (receipt_of c.args.asked) c.args.source.member c.args.source.port port message c.in_ok-reply-2.reply c.args.names.now other last others
     small fits (oldest_lawful old c.args.source.port port message later c.requires.lawful live first) (names_lawful old c.args.space c.requires.lawful c.requires.there)
     (c.in_ok-reply-2.ensures.wanted port message later live first) shows may

@@ -1,9 +1,9 @@
-use Rattle.ipc_laws.specs.KeptLaws.{kept_is_record}
+use Rattle.ipc_laws.specs.CanonicalLaws.{canonical_is_record}
 use Rattle.ipc_model.specs.declared.record.Record.{Record}
 use Rattle.record.proofs.ranges.in_range.Goals as goal
 
 pub returns : goal.returns
 returns c = λ whole number results recorded calls replies.
     let entry : Record = record { space = c.args.space; call = c.args.call.now; reply = c.args.reply.now } in
-    kept_is_record entry c.ranges.space.fits c.call_in_range.ensures whole
+    canonical_is_record entry c.ranges.space.fits c.call_in_range.ensures whole
     (record { fits = c.reply_in_range.ensures number recorded; of_one_call = number; results = results; recorded = recorded }) calls replies

@@ -3,7 +3,7 @@ use Rattle.std.proofs.lemmas.Result.{IfOk-weaker, err_from_is_err_and}
 use Rattle.disk.specs.Moments.{one_more}
 use Rattle.disk.specs.Slots.{Slots, slot_of}
 use Rattle.ipc_model.specs.store.Recovery.{HoldsImage, IsOfEpoch}
-use Rattle.ipc_model.specs.store.Store.{SpellsBatches}
+use Rattle.ipc_model.specs.store.Store.{EncodesBatches}
 use Rattle.recover.specs.Replayed.{ReplaysAll}
 use Rattle.slot_steps.specs.Steps.{image_slot, segment_slot}
 use Rattle.journal.specs.declared.fault.StoreFault.TheVariants as fault
@@ -25,9 +25,9 @@ returns-clause-damaged g c = λ honest told base state records image segment run
     let header = subst (λ slot. IsOfEpoch (e % 2) e (slot_of first slot)) (sym c.image_slot.ensures) (c.requires honest).image in
     let own = subst (λ slot. HoldsImage e (slot_of first slot) c.in_ok-base.base) c.image_slot.ensures (c.in_ok-base.ensures.image honest (e % 2) e header) in
     no_run e (slot_of first (image_slot e)) (slot_of first (segment_slot e)) c.in_ok-base.base base state records own image segment run
-    (λ rs s spelled. c.replay_segment.ensures.damaged honest told rs s
-    (subst (λ slot. SpellsBatches (drop 16 (slot_of (g.D.Disk.view c.load_image.new.disk).seen slot)) rs) (sym c.segment_slot.ensures)
-    (subst (λ (d : Slots). SpellsBatches (drop 16 (slot_of d (segment_slot e))) rs) (sym (c.in_ok-base.ensures.seen honest)) spelled)))
+    (λ rs s encoded. c.replay_segment.ensures.damaged honest told rs s
+    (subst (λ slot. EncodesBatches (drop 16 (slot_of (g.D.Disk.view c.load_image.new.disk).seen slot)) rs) (sym c.segment_slot.ensures)
+    (subst (λ (d : Slots). EncodesBatches (drop 16 (slot_of d (segment_slot e))) rs) (sym (c.in_ok-base.ensures.seen honest)) encoded)))
 
 pub returns-clause-read : goal.returns-clause-read
 returns-clause-read g c = λ honest.

@@ -2,22 +2,22 @@ use Rattle.std.proofs.Common.{ℕ, List, sym, subst}
 use Rattle.std.proofs.lemmas.Result.{err_from_is_err_and}
 use Rattle.disk.specs.Slots.{slot_of}
 use Rattle.ipc_model.specs.store.Recovery.{IsImageOf}
-use Rattle.ipc_model.specs.texts.Images.{image_text}
-use Rattle.recover.proofs.Texts.{image_behind, text_is_image, text_of_image}
+use Rattle.ipc_model.specs.encodings.Images.{image_encoding}
+use Rattle.recover.proofs.Texts.{image_after, encoding_is_image, encoding_of_image}
 use Rattle.recover.proofs.loading.load_image.Goals as goal
 
-pub returns-in_err-text-clause-damaged : goal.returns-in_err-text-clause-damaged
-returns-in_err-text-clause-damaged g c = λ honest told epoch state image.
+pub returns-in_err-encoding-clause-damaged : goal.returns-in_err-encoding-clause-damaged
+returns-in_err-encoding-clause-damaged g c = λ honest told epoch state image.
     let p = err_from_is_err_and c.from_residual.result c.from_residual.ensures.1 in
-    c.in_err-text.ensures.damaged honest (cc (p.1, p.2, told)) (image_text state) (image_behind epoch (slot_of (g.D.Disk.view c.args.disk.now).seen c.args.slot) state image)
+    c.in_err-encoding.ensures.damaged honest (cc (p.1, p.2, told)) (image_encoding state) (image_after epoch (slot_of (g.D.Disk.view c.args.disk.now).seen c.args.slot) state image)
 
 pub returns-in_err-kernel-clause-damaged : goal.returns-in_err-kernel-clause-damaged
 returns-in_err-kernel-clause-damaged g c = λ honest told epoch state image.
     let p = err_from_is_err_and c.from_residual-in_err-kernel.result c.from_residual-in_err-kernel.ensures.1 in
     c.in_err-kernel.ensures.damaged (cc (p.1, p.2, told)) state
-    (subst (λ (l : List ℕ). IsImageOf l state) (sym c.deref.ensures.value) (text_of_image epoch (slot_of (g.D.Disk.view c.args.disk.now).seen c.args.slot) c.in_ok-text.text.items state (c.in_ok-text.ensures.text honest) image))
+    (subst (λ (l : List ℕ). IsImageOf l state) (sym c.deref.ensures.value) (encoding_of_image epoch (slot_of (g.D.Disk.view c.args.disk.now).seen c.args.slot) c.in_ok-encoding.encoding.items state (c.in_ok-encoding.ensures.encoding honest) image))
 
 pub returns-clause-image : goal.returns-clause-image
 returns-clause-image g c = λ honest number epoch is.
-    text_is_image number epoch (slot_of (g.D.Disk.view c.args.disk.now).seen c.args.slot) c.in_ok-text.text.items c.in_ok-kernel.kernel is (c.in_ok-text.ensures.text honest)
+    encoding_is_image number epoch (slot_of (g.D.Disk.view c.args.disk.now).seen c.args.slot) c.in_ok-encoding.encoding.items c.in_ok-kernel.kernel is (c.in_ok-encoding.ensures.encoding honest)
     (subst (λ (l : List ℕ). IsImageOf l c.in_ok-kernel.kernel) c.deref.ensures.value c.in_ok-kernel.ensures.image)

@@ -5,7 +5,7 @@ use Rattle.ipc_model.specs.store.Recovery.{Recovered}
 use Rattle.recover.specs.Found.{Reads}
 use Rattle.recover.specs.Headers.{Says}
 use Rattle.recover.specs.Surveyed.{IsInUse as Uses, IsUnused, Surveys}
-use Rattle.standing.specs.Standing.{as_written}
+use Rattle.store_layout.specs.Standing.{as_written}
 use Rattle.recover.proofs.Faults.{none_at_error, none_in_error}
 use Rattle.recover.proofs.looking.find.Goals as goal
 
@@ -14,7 +14,7 @@ returns-in_err-survey_store-clause-damaged g c = λ honest told.
     let p = err_from_is_err_and c.from_residual-in_err-survey_store.result c.from_residual-in_err-survey_store.ensures.1 in
     let seen = (g.D.Disk.view c.args.disk.now).seen in
     let said = c.in_ok-headers.ensures.said honest in
-    (c.in_err-survey_store.ensures.no_other seen said (cc (p.1, p.2, told)), λ state found. c.in_err-survey_store.ensures.damaged seen said (cc (p.1, p.2, told)) found.base found.records found.spelled)
+    (c.in_err-survey_store.ensures.no_other seen said (cc (p.1, p.2, told)), λ state found. c.in_err-survey_store.ensures.damaged seen said (cc (p.1, p.2, told)) found.base found.records found.encoded)
 
 pub look_new-requires-clause-unused : goal.look_new-requires-clause-unused
 look_new-requires-clause-unused g c = λ honest.

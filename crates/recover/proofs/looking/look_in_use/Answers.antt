@@ -1,7 +1,7 @@
 use Rattle.std.proofs.Common.{◌+◌, ℕ, drop, sym, subst, arith, ◌∙◌}
 use Rattle.std.proofs.lemmas.Result.{err_from_is_err_and}
 use Rattle.disk.specs.Slots.{Slots, slot_of}
-use Rattle.ipc_model.specs.store.Store.{SpellsBatches}
+use Rattle.ipc_model.specs.store.Store.{EncodesBatches}
 use Rattle.recover.specs.Found.{Reads}
 use Rattle.recover.specs.Replayed.{ReplaysAll}
 use Rattle.recover.specs.Surveyed.{IsInUse as Uses}
@@ -26,9 +26,9 @@ returns-in_err-kernel-2-clause-damaged g c = λ honest told.
     let e = c.args.epoch in
     let seen = (g.D.Disk.view c.args.disk.now).seen in
     next_damaged seen e c.in_ok-kernel.kernel c.in_ok-kernel.first c.in_ok-kernel.field-0-2 (subst (Uses seen e) c.if-not-follows.false (c.requires.used honest)) (c.in_ok-kernel.ensures.read honest)
-    (λ rs s spelled. c.in_err-kernel-2.ensures.damaged honest (cc (p.1, p.2, told)) rs s
-    (subst (λ slot. SpellsBatches (drop 16 (slot_of (g.D.Disk.view c.read_epoch.new.disk).seen slot)) rs) (sym c.segment_slot.ensures)
-    (subst (λ (d : Slots). SpellsBatches (drop 16 (slot_of d (segment_slot (e + 1)))) rs) (sym (c.in_ok-kernel.ensures.seen honest)) spelled)))
+    (λ rs s encoded. c.in_err-kernel-2.ensures.damaged honest (cc (p.1, p.2, told)) rs s
+    (subst (λ slot. EncodesBatches (drop 16 (slot_of (g.D.Disk.view c.read_epoch.new.disk).seen slot)) rs) (sym c.segment_slot.ensures)
+    (subst (λ (d : Slots). EncodesBatches (drop 16 (slot_of d (segment_slot (e + 1)))) rs) (sym (c.in_ok-kernel.ensures.seen honest)) encoded)))
 
 pub returns-clause-reads : goal.returns-clause-reads
 returns-clause-reads g c = λ honest.

@@ -1,10 +1,10 @@
 use Rattle.std.proofs.Common.{◌≡◌, ℕ, List, [], ◌∷◌, ◌++◌, OnOk, take, drop, ap, subst, ◌∙◌}
 use Rattle.disk.specs.declared.slot.Slot.{Slot}
 use Rattle.disk.specs.Slots.{Slots, slot_of, with_slot}
-use Rattle.ipc_model.specs.store.Store.{closed_gate, epoch_text, open_gate}
+use Rattle.ipc_model.specs.store.Store.{closed_gate, epoch_encoding, open_gate}
 use Rattle.recover.specs.Making.{empty_segment}
 use Rattle.slot_steps.proofs.Following.{synced_shut}
-use Rattle.slot_steps.proofs.Gates.{behind_first, opening_then, remade_then}
+use Rattle.slot_steps.proofs.Gates.{after_first, opening_then, remade_then}
 use Rattle.slot_steps.proofs.Moments.{own_bytes, with_twice}
 use Rattle.slot_steps.specs.Steps.{segment_slot}
 use Rattle.std.proofs.lemmas.Result.{err_from_is_err_and}
@@ -17,10 +17,10 @@ returns-clause-any_moment g c = λ honest synced.
     let closed = g.D.Disk.view c.roll_close.new.disk in
     let headed = g.D.Disk.view c.roll_head.new.disk in
     let front : List ℕ = slot_of closed.seen slot in
-    let behind : List ℕ = epoch_text c.args.epoch ++ closed_gate ∷ [] in
+    let behind : List ℕ = epoch_encoding c.args.epoch ++ closed_gate ∷ [] in
     let shut = synced_shut slot closed (c.in_ok-roll_close.ensures.synced honest) (c.in_ok-roll_close.ensures.closed honest) in
     let is = ap (λ (s : Slots). drop 1 (slot_of s slot)) (c.in_ok-roll_head.ensures.header honest) ∙ ap (λ (l : List ℕ). drop 1 l) (own_bytes slot closed.seen (take 1 front ++ behind))
-    ∙ behind_first front behind (c.in_ok-roll_close.ensures.begun honest) in
+    ∙ after_first front behind (c.in_ok-roll_close.ensures.begun honest) in
     remade_then slot (g.D.Disk.view c.args.disk.now) closed (g.D.Disk.view c.roll_open.new.disk) 16 (empty_segment c.args.epoch) (c.roll_close.ensures.any_moment honest synced)
     (opening_then slot closed headed (g.D.Disk.view c.roll_open.new.disk) behind (c.in_ok-roll_head.ensures.synced honest) is (c.roll_head.ensures.any_moment honest shut) (c.roll_open.ensures.any_moment honest))
 
@@ -36,12 +36,12 @@ returns-clause-made g c = λ honest.
     let closed = (g.D.Disk.view c.roll_close.new.disk).seen in
     let headed = (g.D.Disk.view c.roll_head.new.disk).seen in
     let front : List ℕ = slot_of closed slot in
-    let behind : List ℕ = epoch_text c.args.epoch ++ closed_gate ∷ [] in
+    let behind : List ℕ = epoch_encoding c.args.epoch ++ closed_gate ∷ [] in
     let is = ap (λ (s : Slots). drop 1 (slot_of s slot)) (c.in_ok-roll_head.ensures.header honest) ∙ ap (λ (l : List ℕ). drop 1 l) (own_bytes slot closed (take 1 front ++ behind))
-    ∙ behind_first front behind (c.in_ok-roll_close.ensures.begun honest) in
-    let text = ap (λ (l : List ℕ). with_slot headed slot (open_gate ∷ l)) is in
+    ∙ after_first front behind (c.in_ok-roll_close.ensures.begun honest) in
+    let encoding = ap (λ (l : List ℕ). with_slot headed slot (open_gate ∷ l)) is in
     subst (λ (s : Slots). OnOk c.roll_open.result ((g.D.Disk.view c.roll_open.new.disk).seen ≡ s))
-    (text ∙ made_last slot old closed headed front (take 1 front ++ behind) (open_gate ∷ behind) (c.in_ok-roll_close.ensures.others honest) (c.in_ok-roll_head.ensures.header honest)) (c.roll_open.ensures.written honest)
+    (encoding ∙ made_last slot old closed headed front (take 1 front ++ behind) (open_gate ∷ behind) (c.in_ok-roll_close.ensures.others honest) (c.in_ok-roll_head.ensures.header honest)) (c.roll_open.ensures.written honest)
 
 pub returns-in_err-roll_close-clause-made : goal.returns-in_err-roll_close-clause-made
 returns-in_err-roll_close-clause-made g c = λ honest. let p = err_from_is_err_and c.from_residual.result c.from_residual.ensures.1 in none_at_error _ c.from_residual.result _ p.1

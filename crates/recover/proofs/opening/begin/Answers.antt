@@ -5,11 +5,11 @@ use Rattle.disk.specs.Moments.{one_more}
 use Rattle.disk.specs.Slots.{Slots}
 use Rattle.ipc_model.specs.state.State.{State}
 use Rattle.ipc_model.specs.store.Recovery.{HoldsImage, IsNew, Recovered}
-use Rattle.ipc_model.specs.texts.Images.{image_text}
+use Rattle.ipc_model.specs.encodings.Images.{image_encoding}
 use Rattle.recover.specs.Kept.{IsKept}
-use Rattle.recover.specs.Stopping.{HaveLastGates}
+use Rattle.recover.specs.Crashing.{HaveLastGates}
 use Rattle.recover.specs.Surveyed.{IsUnused}
-use Rattle.standing.specs.Standing.{as_written}
+use Rattle.store_layout.specs.Standing.{as_written}
 use Rattle.recover.proofs.Faults.{device_no_damage, memory_no_damage, memory_no_device, none_at_error, none_in_error, of_device, of_memory, right_err}
 use Rattle.recover.proofs.Joined.{device_err, still_then_same}
 use Rattle.recover.proofs.Stages.{fresh_recovered, unused_fresh}
@@ -168,10 +168,10 @@ pub write_first-requires-clause-new : goal.write_first-requires-clause-new
 write_first-requires-clause-new g c = λ honest. subst (λ (s : Slots). IsNew (as_written s)) (sym (c.in_ok-have_no_batch.ensures.seen honest)) (c.in_ok-have_no_batch.ensures.new honest)
 
 pub write_first-requires-clause-image : goal.write_first-requires-clause-image
-write_first-requires-clause-image g c = c.in_ok-kernel-2.ensures.image ∙ ap (λ (s : State). unwritten 0 (image_text s)) c.in_ok-kernel.ensures
+write_first-requires-clause-image g c = c.in_ok-kernel-2.ensures.image ∙ ap (λ (s : State). unwritten 0 (image_encoding s)) c.in_ok-kernel.ensures
 
 pub write_first-requires-clause-holds : goal.write_first-requires-clause-holds
-write_first-requires-clause-holds g c = subst (λ (s : State). HoldsImage 0 (open_image 0 (image_text s)) s) c.in_ok-kernel.ensures c.in_ok-kernel-2.ensures.holds
+write_first-requires-clause-holds g c = subst (λ (s : State). HoldsImage 0 (open_image 0 (image_encoding s)) s) c.in_ok-kernel.ensures c.in_ok-kernel-2.ensures.holds
 
 pub returns-in_err-kernel-3-clause-device : goal.returns-in_err-kernel-3-clause-device
 returns-in_err-kernel-3-clause-device g c = λ told. subst (λ (n : ℕ). g.D.Disk.failed_calls c.write_first.new.disk ≡ one_more n) c.in_ok-have_no_batch.ensures.quiet c.in_err-kernel-3.ensures.failures.err

@@ -3,7 +3,7 @@ use Rattle.std.proofs.lemmas.Result.{err_from_is_err_and}
 use Rattle.ipc_model.specs.state.State.{State}
 use Rattle.ipc_model.specs.store.Recovery.{Recovered}
 use Rattle.recover.specs.Kept.{IsKept}
-use Rattle.standing.specs.Standing.{as_written}
+use Rattle.store_layout.specs.Standing.{as_written}
 use Rattle.recover.proofs.Faults.{device_no_damage, none_at_error, none_in_error, of_device, right_err}
 use Rattle.recover.proofs.Joined.{device_err, go_on_kept, go_on_same}
 use Rattle.recover.proofs.Rest.{rest_kept}
@@ -32,8 +32,8 @@ pub returns-in_err-kernel-2-clause-any_moment : goal.returns-in_err-kernel-2-cla
 returns-in_err-kernel-2-clause-any_moment g c = λ honest gates.
     let old = g.D.Disk.view c.args.disk.now in
     let read = c.in_ok-kernel in
-    go_on_same old (g.D.Disk.view c.read_epoch.new.disk) (g.D.Disk.view c.end_behind.new.disk) c.args.epoch c.segment_slot.result read.kernel read.records read.end c.segment_slot.ensures (c.requires.rest honest) gates
-    (c.read_epoch.ensures.time honest) (read.ensures.seen honest) (one_parts old.seen c.args.epoch read.kernel read.records read.end (c.requires.used honest) (read.ensures.read honest)) (c.end_behind.ensures.any_moment honest)
+    go_on_same old (g.D.Disk.view c.read_epoch.new.disk) (g.D.Disk.view c.end_after.new.disk) c.args.epoch c.segment_slot.result read.kernel read.records read.end c.segment_slot.ensures (c.requires.rest honest) gates
+    (c.read_epoch.ensures.time honest) (read.ensures.seen honest) (one_parts old.seen c.args.epoch read.kernel read.records read.end (c.requires.used honest) (read.ensures.read honest)) (c.end_after.ensures.any_moment honest)
 
 pub returns-clause-state : goal.returns-clause-state
 returns-clause-state g c = λ honest.
@@ -46,8 +46,8 @@ returns-clause-kept g c = λ honest.
     let old = g.D.Disk.view c.args.disk.now in
     let mid = g.D.Disk.view c.read_epoch.new.disk in
     let read = c.in_ok-kernel in
-    subst (λ (k : State). IsKept (g.D.Disk.view c.end_behind.new.disk) (record { epoch = c.args.epoch; records = read.records }) k) (sym c.in_ok-kernel-2.ensures.value)
-    (go_on_kept old mid (g.D.Disk.view c.end_behind.new.disk) c.args.epoch c.segment_slot.result read.kernel read.records read.end c.segment_slot.ensures (read.ensures.seen honest)
+    subst (λ (k : State). IsKept (g.D.Disk.view c.end_after.new.disk) (record { epoch = c.args.epoch; records = read.records }) k) (sym c.in_ok-kernel-2.ensures.value)
+    (go_on_kept old mid (g.D.Disk.view c.end_after.new.disk) c.args.epoch c.segment_slot.result read.kernel read.records read.end c.segment_slot.ensures (read.ensures.seen honest)
     (one_parts old.seen c.args.epoch read.kernel read.records read.end (c.requires.used honest) (read.ensures.read honest))
     (c.in_ok-kernel-2.ensures.rest honest (rest_kept old mid (c.read_epoch.ensures.time honest) (read.ensures.seen honest) (c.requires.rest honest))) (c.in_ok-kernel-2.ensures.ended honest))
 
@@ -55,8 +55,8 @@ pub returns-clause-any_moment : goal.returns-clause-any_moment
 returns-clause-any_moment g c = λ honest gates.
     let old = g.D.Disk.view c.args.disk.now in
     let read = c.in_ok-kernel in
-    go_on_same old (g.D.Disk.view c.read_epoch.new.disk) (g.D.Disk.view c.end_behind.new.disk) c.args.epoch c.segment_slot.result read.kernel read.records read.end c.segment_slot.ensures (c.requires.rest honest) gates
-    (c.read_epoch.ensures.time honest) (read.ensures.seen honest) (one_parts old.seen c.args.epoch read.kernel read.records read.end (c.requires.used honest) (read.ensures.read honest)) (c.end_behind.ensures.any_moment honest)
+    go_on_same old (g.D.Disk.view c.read_epoch.new.disk) (g.D.Disk.view c.end_after.new.disk) c.args.epoch c.segment_slot.result read.kernel read.records read.end c.segment_slot.ensures (c.requires.rest honest) gates
+    (c.read_epoch.ensures.time honest) (read.ensures.seen honest) (one_parts old.seen c.args.epoch read.kernel read.records read.end (c.requires.used honest) (read.ensures.read honest)) (c.end_after.ensures.any_moment honest)
 
 pub returns-in_err-kernel-clause-unchanged : goal.returns-in_err-kernel-clause-unchanged
 returns-in_err-kernel-clause-unchanged g c = λ honest. right_err _ _ c.from_residual.result (c.read_epoch.ensures.seen honest)

@@ -2,13 +2,13 @@ use Rattle.std.proofs.Common.{◌+◌, ◌≤◌, Err, ap, drop, length, sym, su
 use Rattle.std.proofs.lemmas.Result.{err_from_is_err_and}
 use Rattle.checkpoint.specs.Images.{open_image}
 use Rattle.disk.specs.Slots.{Slots, slot_of}
-use Rattle.ipc_model.specs.store.Store.{SpellsBatches}
-use Rattle.ipc_model.specs.texts.Images.{image_text}
+use Rattle.ipc_model.specs.store.Store.{EncodesBatches}
+use Rattle.ipc_model.specs.encodings.Images.{image_encoding}
 use Rattle.ipc_model.specs.state.State.{State}
 use Rattle.ipc_model.specs.store.Recovery.{Recovered}
 use Rattle.recover.specs.Kept.{IsKept}
 use Rattle.recover.specs.Replayed.{ReplaysAll}
-use Rattle.standing.specs.Standing.{as_written}
+use Rattle.store_layout.specs.Standing.{as_written}
 use Rattle.slot_steps.proofs.Moments.{unchanged_then}
 use Rattle.slot_steps.specs.Steps.{segment_slot}
 use Rattle.recover.proofs.Apart.{stays_inside}
@@ -37,9 +37,9 @@ returns-in_err-kernel-clause-damaged g c = λ honest told.
     let seen = (g.D.Disk.view c.args.disk.now).seen in
     let read = c.in_ok-base in
     next_damaged seen e read.base read.field-0-1 read.field-0-2 (c.requires.used honest) (read.ensures.read honest)
-    (λ rs s spelled. (rw c.in_ok-base-2.ensures.base at c.in_err-kernel.ensures.damaged honest (cc (p.1, p.2, told))) rs s
-    (subst (λ slot. SpellsBatches (drop 16 (slot_of (g.D.Disk.view c.read_epoch.new.disk).seen slot)) rs) (sym c.segment_slot.ensures)
-    (subst (λ (d : Slots). SpellsBatches (drop 16 (slot_of d (segment_slot (e + 1)))) rs) (sym (read.ensures.seen honest)) spelled)))
+    (λ rs s encoded. (rw c.in_ok-base-2.ensures.base at c.in_err-kernel.ensures.damaged honest (cc (p.1, p.2, told))) rs s
+    (subst (λ slot. EncodesBatches (drop 16 (slot_of (g.D.Disk.view c.read_epoch.new.disk).seen slot)) rs) (sym c.segment_slot.ensures)
+    (subst (λ (d : Slots). EncodesBatches (drop 16 (slot_of d (segment_slot (e + 1)))) rs) (sym (read.ensures.seen honest)) encoded)))
 
 pub returns-in_err-kernel-clause-any_moment : goal.returns-in_err-kernel-clause-any_moment
 returns-in_err-kernel-clause-any_moment g c = λ honest gates.
@@ -77,13 +77,13 @@ returns-in_err-kernel-2-clause-any_moment g c = λ honest gates.
     let read = c.in_ok-base in
     let next = c.in_ok-kernel in
     let image = c.in_ok-base-2.image in
-    let content = open_image (e + 1) (image_text read.base) in
+    let content = open_image (e + 1) (image_encoding read.base) in
     let replays = subst (λ slot. ReplaysAll (slot_of old.seen slot) read.base next.kernel next.records next.end) c.segment_slot.ensures
     (subst (λ (d : Slots). ReplaysAll (slot_of d c.segment_slot.result) read.base next.kernel next.records next.end) (read.ensures.seen honest) (rw c.in_ok-base-2.ensures.base at next.ensures.state honest)) in
     let parts = next_parts old.seen e content read.base next.kernel read.field-0-1 read.field-0-2 next.records next.end (c.requires.used honest) (read.ensures.read honest) replays c.in_ok-base-2.ensures.holds in
     let still = unchanged_then old first mid (c.read_epoch.ensures.time honest) (c.replay_segment.ensures.time honest) in
     let same = next.ensures.seen honest ∙ read.ensures.seen honest in
-    next_image_same old mid (g.D.Disk.view c.write_behind.new.disk) e read.base next.kernel image next.records next.end c.in_ok-base-2.ensures.image (c.requires.rest honest) gates still same parts (c.write_behind.ensures.any_moment honest)
+    next_image_same old mid (g.D.Disk.view c.write_after.new.disk) e read.base next.kernel image next.records next.end c.in_ok-base-2.ensures.image (c.requires.rest honest) gates still same parts (c.write_after.ensures.any_moment honest)
 
 pub returns-in_err-kernel-3-clause-any_moment : goal.returns-in_err-kernel-3-clause-any_moment
 returns-in_err-kernel-3-clause-any_moment g c = λ honest gates.
@@ -94,14 +94,14 @@ returns-in_err-kernel-3-clause-any_moment g c = λ honest gates.
     let read = c.in_ok-base in
     let next = c.in_ok-kernel in
     let image = c.in_ok-base-2.image in
-    let content = open_image (e + 1) (image_text read.base) in
+    let content = open_image (e + 1) (image_encoding read.base) in
     let replays = subst (λ slot. ReplaysAll (slot_of old.seen slot) read.base next.kernel next.records next.end) c.segment_slot.ensures
     (subst (λ (d : Slots). ReplaysAll (slot_of d c.segment_slot.result) read.base next.kernel next.records next.end) (read.ensures.seen honest) (rw c.in_ok-base-2.ensures.base at next.ensures.state honest)) in
     let parts = next_parts old.seen e content read.base next.kernel read.field-0-1 read.field-0-2 next.records next.end (c.requires.used honest) (read.ensures.read honest) replays c.in_ok-base-2.ensures.holds in
     let still = unchanged_then old first mid (c.read_epoch.ensures.time honest) (c.replay_segment.ensures.time honest) in
     let same = next.ensures.seen honest ∙ read.ensures.seen honest in
-    next_end_same old mid (g.D.Disk.view c.write_behind.new.disk) (g.D.Disk.view c.end_behind.new.disk) e read.base next.kernel image c.segment_slot-2.result next.records next.end c.in_ok-base-2.ensures.image c.segment_slot-2.ensures (c.requires.rest honest) gates
-    still same parts (c.write_behind.ensures.any_moment honest) (c.in_ok-kernel-2.ensures.made honest) (c.in_ok-kernel-2.ensures.synced honest) (c.end_behind.ensures.any_moment honest)
+    next_end_same old mid (g.D.Disk.view c.write_after.new.disk) (g.D.Disk.view c.end_after.new.disk) e read.base next.kernel image c.segment_slot-2.result next.records next.end c.in_ok-base-2.ensures.image c.segment_slot-2.ensures (c.requires.rest honest) gates
+    still same parts (c.write_after.ensures.any_moment honest) (c.in_ok-kernel-2.ensures.made honest) (c.in_ok-kernel-2.ensures.synced honest) (c.end_after.ensures.any_moment honest)
 
 pub returns-clause-state : goal.returns-clause-state
 returns-clause-state g c = λ honest.
@@ -112,7 +112,7 @@ returns-clause-state g c = λ honest.
     let read = c.in_ok-base in
     let next = c.in_ok-kernel in
     let image = c.in_ok-base-2.image in
-    let content = open_image (e + 1) (image_text read.base) in
+    let content = open_image (e + 1) (image_encoding read.base) in
     let replays = subst (λ slot. ReplaysAll (slot_of old.seen slot) read.base next.kernel next.records next.end) c.segment_slot.ensures
     (subst (λ (d : Slots). ReplaysAll (slot_of d c.segment_slot.result) read.base next.kernel next.records next.end) (read.ensures.seen honest) (rw c.in_ok-base-2.ensures.base at next.ensures.state honest)) in
     let parts = next_parts old.seen e content read.base next.kernel read.field-0-1 read.field-0-2 next.records next.end (c.requires.used honest) (read.ensures.read honest) replays c.in_ok-base-2.ensures.holds in
@@ -129,16 +129,16 @@ returns-clause-kept g c = λ honest.
     let read = c.in_ok-base in
     let next = c.in_ok-kernel in
     let image = c.in_ok-base-2.image in
-    let content = open_image (e + 1) (image_text read.base) in
+    let content = open_image (e + 1) (image_encoding read.base) in
     let replays = subst (λ slot. ReplaysAll (slot_of old.seen slot) read.base next.kernel next.records next.end) c.segment_slot.ensures
     (subst (λ (d : Slots). ReplaysAll (slot_of d c.segment_slot.result) read.base next.kernel next.records next.end) (read.ensures.seen honest) (rw c.in_ok-base-2.ensures.base at next.ensures.state honest)) in
     let parts = next_parts old.seen e content read.base next.kernel read.field-0-1 read.field-0-2 next.records next.end (c.requires.used honest) (read.ensures.read honest) replays c.in_ok-base-2.ensures.holds in
     let still = unchanged_then old first mid (c.read_epoch.ensures.time honest) (c.replay_segment.ensures.time honest) in
     let same = next.ensures.seen honest ∙ read.ensures.seen honest in
-    let written = g.D.Disk.view c.write_behind.new.disk in
-    let rest = rested_after_image old mid written e read.base image c.in_ok-base-2.ensures.image (c.requires.rest honest) still same (c.write_behind.ensures.any_moment honest) (c.in_ok-kernel-2.ensures.made honest) (c.in_ok-kernel-2.ensures.synced honest) in
-    subst (λ (k : State). IsKept (g.D.Disk.view c.end_behind.new.disk) (record { epoch = e + 1; records = next.records }) k) (sym (c.in_ok-kernel-3.ensures.value ∙ c.in_ok-kernel-2.ensures.value))
-    (next_kept old mid written (g.D.Disk.view c.end_behind.new.disk) e read.base next.kernel image c.segment_slot-2.result next.records next.end c.in_ok-base-2.ensures.image c.segment_slot-2.ensures same parts (c.in_ok-kernel-2.ensures.made honest)
+    let written = g.D.Disk.view c.write_after.new.disk in
+    let rest = rested_after_image old mid written e read.base image c.in_ok-base-2.ensures.image (c.requires.rest honest) still same (c.write_after.ensures.any_moment honest) (c.in_ok-kernel-2.ensures.made honest) (c.in_ok-kernel-2.ensures.synced honest) in
+    subst (λ (k : State). IsKept (g.D.Disk.view c.end_after.new.disk) (record { epoch = e + 1; records = next.records }) k) (sym (c.in_ok-kernel-3.ensures.value ∙ c.in_ok-kernel-2.ensures.value))
+    (next_kept old mid written (g.D.Disk.view c.end_after.new.disk) e read.base next.kernel image c.segment_slot-2.result next.records next.end c.in_ok-base-2.ensures.image c.segment_slot-2.ensures same parts (c.in_ok-kernel-2.ensures.made honest)
     (c.in_ok-kernel-3.ensures.rest honest rest) (c.in_ok-kernel-3.ensures.ended honest))
 
 pub returns-clause-any_moment : goal.returns-clause-any_moment
@@ -150,18 +150,18 @@ returns-clause-any_moment g c = λ honest gates.
     let read = c.in_ok-base in
     let next = c.in_ok-kernel in
     let image = c.in_ok-base-2.image in
-    let content = open_image (e + 1) (image_text read.base) in
+    let content = open_image (e + 1) (image_encoding read.base) in
     let replays = subst (λ slot. ReplaysAll (slot_of old.seen slot) read.base next.kernel next.records next.end) c.segment_slot.ensures
     (subst (λ (d : Slots). ReplaysAll (slot_of d c.segment_slot.result) read.base next.kernel next.records next.end) (read.ensures.seen honest) (rw c.in_ok-base-2.ensures.base at next.ensures.state honest)) in
     let parts = next_parts old.seen e content read.base next.kernel read.field-0-1 read.field-0-2 next.records next.end (c.requires.used honest) (read.ensures.read honest) replays c.in_ok-base-2.ensures.holds in
     let still = unchanged_then old first mid (c.read_epoch.ensures.time honest) (c.replay_segment.ensures.time honest) in
     let same = next.ensures.seen honest ∙ read.ensures.seen honest in
-    next_end_same old mid (g.D.Disk.view c.write_behind.new.disk) (g.D.Disk.view c.end_behind.new.disk) e read.base next.kernel image c.segment_slot-2.result next.records next.end c.in_ok-base-2.ensures.image c.segment_slot-2.ensures (c.requires.rest honest) gates
-    still same parts (c.write_behind.ensures.any_moment honest) (c.in_ok-kernel-2.ensures.made honest) (c.in_ok-kernel-2.ensures.synced honest) (c.end_behind.ensures.any_moment honest)
+    next_end_same old mid (g.D.Disk.view c.write_after.new.disk) (g.D.Disk.view c.end_after.new.disk) e read.base next.kernel image c.segment_slot-2.result next.records next.end c.in_ok-base-2.ensures.image c.segment_slot-2.ensures (c.requires.rest honest) gates
+    still same parts (c.write_after.ensures.any_moment honest) (c.in_ok-kernel-2.ensures.made honest) (c.in_ok-kernel-2.ensures.synced honest) (c.end_after.ensures.any_moment honest)
 
-pub end_behind-requires : goal.end_behind-requires
-end_behind-requires g c = λ honest.
-    stays_inside _ (c.args.epoch + 1) c.in_ok-kernel.end c.segment_slot-2.result (g.D.Disk.view c.read_epoch.new.disk).seen (g.D.Disk.view c.replay_segment.new.disk).seen (g.D.Disk.view c.write_behind.new.disk).seen _ c.segment_slot-2.ensures
+pub end_after-requires : goal.end_after-requires
+end_after-requires g c = λ honest.
+    stays_inside _ (c.args.epoch + 1) c.in_ok-kernel.end c.segment_slot-2.result (g.D.Disk.view c.read_epoch.new.disk).seen (g.D.Disk.view c.replay_segment.new.disk).seen (g.D.Disk.view c.write_after.new.disk).seen _ c.segment_slot-2.ensures
     (subst (λ s. c.in_ok-kernel.end ≤ length (slot_of (g.D.Disk.view c.read_epoch.new.disk).seen s)) (c.segment_slot.ensures ∙ sym c.segment_slot-2.ensures) (c.in_ok-kernel.ensures.state honest).inside)
     (c.in_ok-kernel.ensures.seen honest) (c.in_ok-kernel-2.ensures.made honest)
 

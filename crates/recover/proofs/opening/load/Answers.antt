@@ -4,9 +4,9 @@ use Rattle.std.proofs.lemmas.Result.{err_from_is_err_and}
 use Rattle.disk.specs.Slots.{Slots}
 use Rattle.ipc_model.specs.store.Recovery.{Recovered}
 use Rattle.recover.specs.Headers.{Says}
-use Rattle.recover.specs.Stopping.{HaveLastGates}
+use Rattle.recover.specs.Crashing.{HaveLastGates}
 use Rattle.recover.specs.Surveyed.{IsInUse as Uses, IsUnused, Surveys}
-use Rattle.standing.specs.Standing.{as_written}
+use Rattle.store_layout.specs.Standing.{as_written}
 use Rattle.recover.proofs.Faults.{device_no_damage, never_version, none_at_error, none_in_error, one_of_four, right_err, untouched_then}
 use Rattle.disk.specs.Moments.{one_more}
 use Rattle.journal.specs.declared.fault.StoreFault.TheVariants.{Device}
@@ -18,7 +18,7 @@ returns-in_err-survey_store-clause-damaged g c = λ honest told.
     let p = err_from_is_err_and c.from_residual-in_err-survey_store.result c.from_residual-in_err-survey_store.ensures.1 in
     let seen = (g.D.Disk.view c.args.disk.now).seen in
     let said = c.in_ok-headers.ensures.said honest in
-    (c.in_err-survey_store.ensures.no_other seen said (cc (p.1, p.2, told)), λ state found. c.in_err-survey_store.ensures.damaged seen said (cc (p.1, p.2, told)) found.base found.records found.spelled)
+    (c.in_err-survey_store.ensures.no_other seen said (cc (p.1, p.2, told)), λ state found. c.in_err-survey_store.ensures.damaged seen said (cc (p.1, p.2, told)) found.base found.records found.encoded)
 
 pub begin-requires-clause-unused : goal.begin-requires-clause-unused
 begin-requires-clause-unused g c = λ honest.

@@ -1,6 +1,6 @@
 use Rattle.std.proofs.Common.{Err, ap}
 use Rattle.ipc_laws.specs.RecoveryLaws.{recovers_once, recovers_version_one}
-use Rattle.standing.specs.Standing.{as_written}
+use Rattle.store_layout.specs.Standing.{as_written}
 use Rattle.recover.proofs.Faults.{other_fault}
 use Rattle.recover.proofs.Joined.{kept_recovered}
 use Rattle.recover.proofs.opening.open.Goals as goal

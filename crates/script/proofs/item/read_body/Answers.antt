@@ -2,7 +2,7 @@ use Rattle.std.proofs.Common.{◌≡◌, ◌++◌, sym, ap, ◌∙◌, arith, ru
 use Rattle.std.specs.Prelude.{codes}
 use Rattle.std.proofs.lemmas.Result.{err_from_is_err_and}
 use Rattle.script.specs.Bytes.{optional_bytes_at}
-use Rattle.script.specs.Items.{behind_bytes, body_at}
+use Rattle.script.specs.Items.{after_bytes, body_at}
 use Rattle.script.specs.Spaced.{words_of}
 use Rattle.script.proofs.ItemLoops.{all_read, item_read, item_fault, no_item_read, none_to_read}
 use Rattle.script.proofs.item.read_body.Goals as goal
@@ -22,12 +22,12 @@ returns-in_err-item c =
 
 pub returns-in_default : goal.returns-in_default
 returns-in_default c =
-    let is : behind_bytes c.loop-left.body.items (optional_bytes_at (codes "data") (words_of c.loop-left.rest.now)) ≡ body_at (words_of c.args.text.now) =
-    sym (ap (behind_bytes c.loop-left.body.items) (no_item_read c.loop-left.left (words_of c.loop-left.rest.now) c.in_default.ensures)) ∙ c.loop-left.invariant in
+    let is : after_bytes c.loop-left.body.items (optional_bytes_at (codes "data") (words_of c.loop-left.rest.now)) ≡ body_at (words_of c.args.text.now) =
+    sym (ap (after_bytes c.loop-left.body.items) (no_item_read c.loop-left.left (words_of c.loop-left.rest.now) c.in_default.ensures)) ∙ c.loop-left.invariant in
     rw is at c.read_rest.ensures
 
 pub returns : goal.returns
 returns c =
-    let is : behind_bytes c.loop-left.body.items (optional_bytes_at (codes "data") (words_of c.loop-left.rest.now)) ≡ body_at (words_of c.args.text.now) =
-    sym (ap (behind_bytes c.loop-left.body.items) (none_to_read c.loop-left.left (words_of c.loop-left.rest.now) (omega (arith, c.loop-left-test.false)))) ∙ c.loop-left.invariant in
+    let is : after_bytes c.loop-left.body.items (optional_bytes_at (codes "data") (words_of c.loop-left.rest.now)) ≡ body_at (words_of c.args.text.now) =
+    sym (ap (after_bytes c.loop-left.body.items) (none_to_read c.loop-left.left (words_of c.loop-left.rest.now) (omega (arith, c.loop-left-test.false)))) ∙ c.loop-left.invariant in
     rw is at c.read_rest-2.ensures

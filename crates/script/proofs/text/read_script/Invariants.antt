@@ -1,12 +1,12 @@
 use Rattle.std.proofs.Common.{◌≡◌, ◌+◌, ◌≤◌, ℕ, List, length}
 use Rattle.script.specs.Scripts.{lines_of, lines_read, script_read}
 use Rattle.script.specs.declared.text.Line.{Line}
-use Rattle.script.proofs.ScriptsAgain.{behind_lines}
+use Rattle.script.proofs.ScriptsAgain.{after_lines}
 use Rattle.script.proofs.text.read_script.Given as goal
 
 -- what was read, with what is left
 pub record Left (text : List ℕ) (number : ℕ) (lines : List Line) (rest : List ℕ) : Type 0 where
-  pub is : behind_lines lines (lines_read (number + 1) (lines_of rest)) ≡ script_read text
+  pub is : after_lines lines (lines_read (number + 1) (lines_of rest)) ≡ script_read text
   pub in_range : number + length rest ≤ length text
 
 abbrev pub invariant-loop-rest : goal.invariant-loop-rest

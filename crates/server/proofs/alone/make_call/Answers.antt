@@ -2,7 +2,7 @@ use Rattle.std.proofs.Common.{subst, sym}
 use Rattle.system.specs.Faults.{NotCalled}
 use Rattle.system.specs.GoingOn.{IsStanding}
 use Rattle.system.specs.declared.system.CallFault.{CallFault}
-use Rattle.serving.proofs.Answered.{shortage_fits}
+use Rattle.frame_service.proofs.Answered.{shortage_fits}
 use Rattle.server.proofs.Making.{calls_keep, calls_pass, fails_pass}
 use Rattle.server.proofs.alone.make_call.Goals as goal
 

@@ -1,4 +1,4 @@
-use Rattle.server.proofs.Stopping.{stored_whole}
+use Rattle.server.proofs.Crashing.{stored_whole}
 use Rattle.server.proofs.laws.answered_is_stored.Goals as goal
 
 pub returns : goal.returns

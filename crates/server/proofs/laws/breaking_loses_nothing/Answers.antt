@@ -1,4 +1,4 @@
-use Rattle.server.proofs.Stopping.{broken_nothing}
+use Rattle.server.proofs.Crashing.{broken_nothing}
 use Rattle.server.proofs.laws.breaking_loses_nothing.Goals as goal
 
 pub returns : goal.returns

@@ -1,4 +1,4 @@
-use Rattle.server.proofs.Stopping.{lost_nothing}
+use Rattle.server.proofs.Crashing.{lost_nothing}
 use Rattle.server.proofs.laws.failure_loses_nothing.Goals as goal
 
 pub returns : goal.returns

@@ -1,4 +1,4 @@
-use Rattle.server.proofs.Stopping.{stored_frame}
+use Rattle.server.proofs.Crashing.{stored_frame}
 use Rattle.server.proofs.laws.frame_is_stored.Goals as goal
 
 pub returns : goal.returns

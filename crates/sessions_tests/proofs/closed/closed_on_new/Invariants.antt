@@ -6,8 +6,8 @@ abbrev pub ghosts-closed_on-L-Founding : goal.ghosts-closed_on-L-Founding
 ghosts-closed_on-L-Founding g a = record { base = a.start.opened.kernel }
 
 -- the entry block that was just made
-abbrev pub ghosts-closed_on-L-FirstRow : goal.ghosts-closed_on-L-FirstRow
-ghosts-closed_on-L-FirstRow g a = record { first = arc_value a.start.row }
+abbrev pub ghosts-closed_on-L-FirstBlock : goal.ghosts-closed_on-L-FirstBlock
+ghosts-closed_on-L-FirstBlock g a = record { first = arc_value a.start.row }
 
 -- the ledger that was just made
 abbrev pub ghosts-closed_on-L-Ledger : goal.ghosts-closed_on-L-Ledger

@@ -6,8 +6,8 @@ abbrev pub ghosts-seen_on-L-Founding : goal.ghosts-seen_on-L-Founding
 ghosts-seen_on-L-Founding g a = record { base = a.start.opened.kernel }
 
 -- the entry block that was just made
-abbrev pub ghosts-seen_on-L-FirstRow : goal.ghosts-seen_on-L-FirstRow
-ghosts-seen_on-L-FirstRow g a = record { first = arc_value a.start.row }
+abbrev pub ghosts-seen_on-L-FirstBlock : goal.ghosts-seen_on-L-FirstBlock
+ghosts-seen_on-L-FirstBlock g a = record { first = arc_value a.start.row }
 
 -- the ledger that was just made
 abbrev pub ghosts-seen_on-L-Ledger : goal.ghosts-seen_on-L-Ledger

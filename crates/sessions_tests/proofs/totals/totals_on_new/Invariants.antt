@@ -6,8 +6,8 @@ abbrev pub ghosts-totals_on-L-Founding : goal.ghosts-totals_on-L-Founding
 ghosts-totals_on-L-Founding g a = record { base = a.start.opened.kernel }
 
 -- the entry block that was just made
-abbrev pub ghosts-totals_on-L-FirstRow : goal.ghosts-totals_on-L-FirstRow
-ghosts-totals_on-L-FirstRow g a = record { first = arc_value a.start.row }
+abbrev pub ghosts-totals_on-L-FirstBlock : goal.ghosts-totals_on-L-FirstBlock
+ghosts-totals_on-L-FirstBlock g a = record { first = arc_value a.start.row }
 
 -- the ledger that was just made
 abbrev pub ghosts-totals_on-L-Ledger : goal.ghosts-totals_on-L-Ledger

@@ -1,5 +1,5 @@
 use Rattle.std.proofs.Common.{◌≡◌, [], OnOk, ap, subst, ◌∙◌}
-use Rattle.checkpoint.specs.Images.{HoldsBehind, ImageValue}
+use Rattle.checkpoint.specs.Images.{HoldsAfter, ImageValue}
 use Rattle.disk.specs.declared.slot.Slot.{Slot}
 use Rattle.disk.specs.Moments.{Follows, IsSynced, Passes}
 use Rattle.disk.specs.Slots.{slot_of, with_slot}
@@ -10,7 +10,7 @@ use Rattle.checkpoint.proofs.writing.Image.close.Goals as goal
 
 pub returns-clause-cleared : goal.returns-clause-cleared
 returns-clause-cleared g c = λ honest.
-    subst (λ (s : Slot). OnOk c.clear.result (HoldsBehind (slot_of (g.D.Disk.view c.clear.new.disk).seen s) []))
+    subst (λ (s : Slot). OnOk c.clear.result (HoldsAfter (slot_of (g.D.Disk.view c.clear.new.disk).seen s) []))
     (c.image_slot.ensures ∙ ap (λ (v : ImageValue). image_slot v.epoch) c.self.view_is) (c.clear.ensures.cleared honest)
 
 pub returns-clause-others : goal.returns-clause-others

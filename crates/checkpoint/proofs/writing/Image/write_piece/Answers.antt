@@ -1,5 +1,5 @@
 use Rattle.std.proofs.Common.{◌≡◌, ℕ, ◌+◌, List, sym, ap, subst, ◌∙◌}
-use Rattle.checkpoint.specs.Images.{HoldsBehind, ImageValue, first_pieces}
+use Rattle.checkpoint.specs.Images.{HoldsAfter, ImageValue, first_pieces}
 use Rattle.disk.specs.declared.slot.Slot.{Slot}
 use Rattle.disk.specs.Moments.{Follows, Passes}
 use Rattle.disk.specs.Slots.{slot_of, with_slot}
@@ -52,7 +52,7 @@ returns-clause-held g c = λ honest.
     let new = (g.D.Disk.view c.push_piece.new.disk).seen in
     let slot = c.image_slot.ensures ∙ ap (λ (v : ImageValue). image_slot v.epoch) c.self.view_is in
     let before = ap (λ (v : ImageValue). v.written) c.self.view_is in
-    let text = c.deref.ensures.value ∙ ap (λ (v : ImageValue). v.text) c.self.view_is in
-    let held = along (λ (s : Slot) (n : ℕ) (t : List ℕ). HoldsBehind (slot_of old s) (first_pieces n t)) _ _ _ _ _ _ (sym slot) (sym before) (sym text) (c.requires.holds honest) in
-    along (λ (s : Slot) (n : ℕ) (t : List ℕ). HoldsBehind (slot_of new s) (first_pieces (n + 1) t)) _ _ _ _ _ _ slot before text
+    let encoding = c.deref.ensures.value ∙ ap (λ (v : ImageValue). v.encoding) c.self.view_is in
+    let held = along (λ (s : Slot) (n : ℕ) (t : List ℕ). HoldsAfter (slot_of old s) (first_pieces n t)) _ _ _ _ _ _ (sym slot) (sym before) (sym encoding) (c.requires.holds honest) in
+    along (λ (s : Slot) (n : ℕ) (t : List ℕ). HoldsAfter (slot_of new s) (first_pieces (n + 1) t)) _ _ _ _ _ _ slot before encoding
     (held_more c.image_slot.result old new (first_pieces c.self.inside.written c.deref.result.now) c.piece_at-piece.result.now (first_pieces (c.self.inside.written + 1) c.deref.result.now) held (c.in_ok-push_piece.ensures.written honest) c.piece_at-piece.ensures)

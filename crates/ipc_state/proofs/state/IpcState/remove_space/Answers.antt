@@ -3,7 +3,7 @@ use Rattle.std.specs.FinMap.{get, remove}
 use Rattle.ipc_model.specs.calls.PortCalls.{names_in}
 use Rattle.ipc_model.specs.state.State.{State, without_name}
 use Rattle.ipc_state.specs.Running.{Running}
-use Rattle.ipc_state.proofs.Kept.{all_gone, one_gone, same_beside}
+use Rattle.ipc_state.proofs.Kept.{all_gone, one_gone, same_alongside}
 use Rattle.ipc_state.proofs.state.IpcState.remove_space.Goals as goal
 
 went : (state : State) (old new : Running) (space name next : ℕ) → new ≡ record old { current = state } → next ≡ name → ((q : ℕ) → q < name + 1 → get (names_in state space) q ≡ None) → (q : ℕ) → q < next + 1 → get (names_in new.current space) q ≡ None
@@ -16,7 +16,7 @@ loop-name-preserved c =
       gone =
           went (without_name old c.args.number c.in-Some.name) c.loop-name.self c.remove_name.new.self c.args.number c.in-Some.name c.from-at.result c.in_ok-remove_name.ensures.ok c.from-at.ensures
           (one_gone old c.args.number c.loop-name.at c.in-Some.name c.loop-name.invariant.gone (λ q more less. ap (λ (r : Running). get (names_in r.current c.args.number) q) (sym c.self.view_is) ∙ c.in-Some.ensures.next.2 q more less));
-      beside = ap (λ (r : Running). record r.current { spaces = remove r.current.spaces c.args.number }) c.in_ok-remove_name.ensures.ok ∙ same_beside old c.args.number c.in-Some.name ∙ c.loop-name.invariant.beside;
+      alongside = ap (λ (r : Running). record r.current { spaces = remove r.current.spaces c.args.number }) c.in_ok-remove_name.ensures.ok ∙ same_alongside old c.args.number c.in-Some.name ∙ c.loop-name.invariant.alongside;
       before = ap (λ (r : Running). r.before) c.in_ok-remove_name.ensures.ok ∙ c.loop-name.invariant.before;
       fits = omega (arith, c.from-at.ensures, c.in-Some.ensures.fits);
     }

@@ -1,5 +1,5 @@
 use Rattle.std.proofs.Common.{sym, ap, subst, ◌∙◌}
-use Rattle.ipc_model.specs.state.Circular.{Grounded}
+use Rattle.ipc_model.specs.state.Circular.{Acyclic}
 use Rattle.ipc_model.specs.state.Lawful.{Lawful}
 use Rattle.ipc_model.specs.state.State.{State}
 use Rattle.ipc_model.specs.calls.Step.{Step}
@@ -11,8 +11,8 @@ use Rattle.kernel.proofs.kernel.Kernel.replay.Goals as goal
 pub invariant_of-result : goal.invariant_of-result
 invariant_of-result c =
     let done = steps_keep_lawful c.self.inside.state.current c.args.record.now.space c.args.record.now.call c.args.record.now.reply c.step_again.new.state.current c.call_in_range.ensures c.self.invariant.0 c.self.invariant.1 c.in-Ok.ensures.step in
-    let kept = subst (λ (s : State). Lawful s × Grounded s) (sym (ap (λ (r : Running). r.current) c.keep.ensures)) done in
-    (kept.0, kept.1, c.queues_are_short.ensures, ap (λ (r : Running). r.before) c.keep.ensures ∙ sym (ap (λ (r : Running). r.current) c.keep.ensures))
+    let kept = subst (λ (s : State). Lawful s × Acyclic s) (sym (ap (λ (r : Running). r.current) c.commit.ensures)) done in
+    (kept.0, kept.1, c.show_queues_short.ensures, ap (λ (r : Running). r.before) c.commit.ensures ∙ sym (ap (λ (r : Running). r.current) c.commit.ensures))
 
 pub returns-in-Ok-clause-only : goal.returns-in-Ok-clause-only
 returns-in-Ok-clause-only c = λ other step.
@@ -20,4 +20,4 @@ returns-in-Ok-clause-only c = λ other step.
     let entry = c.args.record.now in
     let there = subst (λ (s : State). Step s entry.space entry.call entry.reply other) (sym c.self.view_is) step in
     one_new_state old entry.space entry.call entry.reply other c.step_again.new.state.current c.self.invariant.0 there c.in-Ok.ensures.step
-    ∙ sym (ap (λ (r : Running). r.current) c.keep.ensures)
+    ∙ sym (ap (λ (r : Running). r.current) c.commit.ensures)

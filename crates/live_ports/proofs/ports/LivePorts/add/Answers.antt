@@ -9,7 +9,7 @@ use Rattle.live_ports.proofs.Standing.{added_sound, none_at, now_stands, now_vie
 use Rattle.live_ports.proofs.ports.LivePorts.add.Goals as goal
 
 pub add-requires-clause-unborn : goal.add-requires-clause-unborn
-add-requires-clause-unborn c = none_at (former_ports c.self.inside.tables.slots) c.self.inside.tables.count_before c.self.inside.tables.next_before c.self.inside.tables.next c.self.invariant.before c.self.invariant.rises
+add-requires-clause-unborn c = none_at (former_ports c.self.inside.tables.slots) c.self.inside.tables.count_before c.self.inside.tables.next_before c.self.inside.tables.next c.self.invariant.before c.self.invariant.ascends
 
 pub add-requires-clause-room : goal.add-requires-clause-room
 add-requires-clause-room c = (omega (arith, c.self.invariant.current.counted, len_seen (present_ports c.self.inside.tables.slots), ap (λ (t : TrackedPorts). map.len t.current.ports) c.self.view_is, c.requires.room))

@@ -3,7 +3,7 @@ use Rattle.journal.specs.declared.fault.StoreFault.TheVariants.{NoMemory}
 use Rattle.system.specs.Calling.{IsResting}
 use Rattle.system.specs.GoingOn.{IsStanding}
 use Rattle.server.proofs.Keeping.{is_of_device, is_wanted, kept_held, no_time}
-use Rattle.server.proofs.Stopping.{left_within}
+use Rattle.server.proofs.Crashing.{left_within}
 use Rattle.server.specs.Keeping.{IsHeld}
 use Rattle.codes.specs.declared.limits.TheConstants.{CHECKPOINT_RECORDS}
 use Rattle.server.proofs.alone.AloneCaller.rest.Goals as goal

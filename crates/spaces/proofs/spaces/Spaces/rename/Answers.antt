@@ -14,7 +14,7 @@ returns-in_default-clause-ok c =
 
 pub put_name-requires-clause-room : goal.put_name-requires-clause-room
 put_name-requires-clause-room c = λ names there _.
-    room_left c.args.self.now.current c.args.space c.args.from c.in-Some.entry names (sym c.in_ok-former.ensures.former ∙ c.in-Some.is) (ap (λ (t : TrackedSpaces). get t.current c.args.space) (sym c.in_ok-former.ensures.ok) ∙ there) c.are_few.ensures
+    room_left c.args.self.now.current c.args.space c.args.from c.in-Some.entry names (sym c.in_ok-former.ensures.former ∙ c.in-Some.is) (ap (λ (t : TrackedSpaces). get t.current c.args.space) (sym c.in_ok-former.ensures.ok) ∙ there) c.show_names_few.ensures
 
 pub returns-clause-ok : goal.returns-clause-ok
 returns-clause-ok c =

@@ -3,7 +3,7 @@ use Rattle.std.specs.FinMap.{get, insert, len}
 use Rattle.ipc_model.specs.state.State.{Names}
 use Rattle.tracked_map.specs.Slots.{picked, get_picked}
 use Rattle.tracked_map.specs.Touched.{AreTouched, exchanged}
-use Rattle.spaces.specs.Slots.{SpaceSlot, SpaceSlots, TrackedSpaces, was, is, given_slot, names_changed}
+use Rattle.spaces.specs.Slots.{SpaceSlot, SpaceSlots, TrackedSpaces, was, is, rolled_back_slot, names_changed}
 use Rattle.spaces.specs.Numbers.{AreTaken, same_taken}
 use Rattle.spaces.specs.Laws as laws
 use Rattle.spaces.specs.Looking.{entry_in, stood_is}
@@ -30,16 +30,16 @@ invariant_of-self-in-Ok c =
       subst (λ (s : SpaceSlots). AreTaken c.self.inside.numbers_before (picked was s)) (sym done) (subst (AreTaken c.self.inside.numbers_before) (sym (laws.looks_same c.self.inside.slots c.args.space change was (λ (s : SpaceSlot). refl))) c.self.invariant.4),
     )
 
-pub give_slots_up-requires : goal.give_slots_up-requires
-give_slots_up-requires c =
+pub roll_slots_back-requires : goal.roll_slots_back-requires
+roll_slots_back-requires c =
     exchanged was is c.put_at.new.slots c.as_slice.result.now
     (subst (λ (s : SpaceSlots). AreTouched was is s c.as_slice.result.now) (sym c.in-Err.ensures.err)
-    (laws.given_touched c.self.inside.slots c.as_slice.result.now c.args.space (subst (AreTouched was is c.self.inside.slots) (sym (c.as_slice.ensures.value ∙ c.reserve.ensures.items)) c.self.invariant.0)))
+    (laws.rolled_back_touched c.self.inside.slots c.as_slice.result.now c.args.space (subst (AreTouched was is c.self.inside.slots) (sym (c.as_slice.ensures.value ∙ c.reserve.ensures.items)) c.self.invariant.0)))
 
 pub invariant_of-self-in-Err : goal.invariant_of-self-in-Err
 invariant_of-self-in-Err c =
-    let rest = laws.given_rest c.give_slots_up.new.slots c.clear.new.self.items _ c.clear.ensures.items c.give_slots_up.ensures.rest c.give_slots_up.ensures.shown in
-    let former = ap (picked was) c.in-Err.ensures.err ∙ laws.looks_same c.self.inside.slots c.args.space given_slot was (λ (s : SpaceSlot). refl) in
+    let rest = laws.rolled_back_rest c.roll_slots_back.new.slots c.clear.new.self.items _ c.clear.ensures.items c.roll_slots_back.ensures.rest c.roll_slots_back.ensures.shown in
+    let former = ap (picked was) c.in-Err.ensures.err ∙ laws.looks_same c.self.inside.slots c.args.space rolled_back_slot was (λ (s : SpaceSlot). refl) in
     (rest.touched_none, c.self.invariant.2 ∙ ap len (sym (rest.seen_is ∙ former)), c.self.invariant.2 ∙ ap len (sym (rest.seen_was ∙ former)), subst (AreTaken c.self.inside.numbers_before) (sym (rest.seen_is ∙ former)) c.self.invariant.4, subst (AreTaken c.self.inside.numbers_before) (sym (rest.seen_was ∙ former)) c.self.invariant.4)
 
 pub returns-in-Ok-clause-ok : goal.returns-in-Ok-clause-ok
@@ -53,8 +53,8 @@ returns-in-Ok-clause-ok c =
 
 pub returns-in-Err-clause-err : goal.returns-in-Err-clause-err
 returns-in-Err-clause-err c =
-    let rest = laws.given_rest c.give_slots_up.new.slots c.clear.new.self.items _ c.clear.ensures.items c.give_slots_up.ensures.rest c.give_slots_up.ensures.shown in
-    let former = ap (picked was) c.in-Err.ensures.err ∙ laws.looks_same c.self.inside.slots c.args.space given_slot was (λ (s : SpaceSlot). refl) ∙ ap (λ (t : TrackedSpaces). t.before) c.self.view_is in
+    let rest = laws.rolled_back_rest c.roll_slots_back.new.slots c.clear.new.self.items _ c.clear.ensures.items c.roll_slots_back.ensures.rest c.roll_slots_back.ensures.shown in
+    let former = ap (picked was) c.in-Err.ensures.err ∙ laws.looks_same c.self.inside.slots c.args.space rolled_back_slot was (λ (s : SpaceSlot). refl) ∙ ap (λ (t : TrackedSpaces). t.before) c.self.view_is in
     laws.both _ _ _ _ (rest.seen_was ∙ former) (rest.seen_is ∙ former)
 
 pub returns-in-Ok-clause-former : goal.returns-in-Ok-clause-former

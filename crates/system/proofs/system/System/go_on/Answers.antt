@@ -27,10 +27,10 @@ returns-then-is_checkpointing-clause-goes g c =
     on_ok_weaker _ (image_goes g.D.Disk.honest g.D.Disk.view c.args.records c.args.self.now.core.kernel c.args.self.now.store.checkpoint c.args.self.now.store _ (subst (λ s. is_some s.store.checkpoint ≡ true) c.self.view_is (sym c.is_checkpointing.ensures ∙ c.if-is_checkpointing.true)))
     (assumption c)
 
-pub returns-then-row_length-records-clause-goes : goal.returns-then-row_length-records-clause-goes
-returns-then-row_length-records-clause-goes g c =
+pub returns-then-log_length-records-clause-goes : goal.returns-then-log_length-records-clause-goes
+returns-then-log_length-records-clause-goes g c =
     none_due g.D.Disk.honest g.D.Disk.view c.args.records c.args.self.now.core.kernel c.args.self.now.store.checkpoint c.args.self.now.store (subst (λ s. is_some s.store.checkpoint ≡ false) c.self.view_is (sym c.is_checkpointing.ensures ∙ c.if-is_checkpointing.false))
-    (subst (λ n. n < c.args.records) (c.row_length.ensures ∙ ap (λ s. s.core.row.length) c.self.view_is ∙ c.requires.length) c.if-row_length-records.true)
+    (subst (λ n. n < c.args.records) (c.log_length.ensures ∙ ap (λ s. s.core.log.length) c.self.view_is ∙ c.requires.length) c.if-log_length-records.true)
 
 pub returns-in-Err-clause-failures : goal.returns-in-Err-clause-failures
 returns-in-Err-clause-failures g c = ap (λ s. g.D.Disk.failed_calls s.store.disk) c.in-Err.ensures.err.1

@@ -1,6 +1,6 @@
 use Rattle.std.proofs.Common.{◌≡◌, None, false, refl, sym, ap, subst, ◌∙◌}
-use Rattle.phases.specs.Passed.{IsKept}
-use Rattle.ipc_model.specs.state.Circular.{Grounded}
+use Rattle.checkpoint_phases.specs.Passed.{IsKept}
+use Rattle.ipc_model.specs.state.Circular.{Acyclic}
 use Rattle.ipc_model.specs.state.Lawful.{Lawful}
 use Rattle.ipc_model.specs.world.World.{first_world}
 use Rattle.system.specs.Core.{StandsFor, SystemValue, first_system}
@@ -21,5 +21,5 @@ returns-clause-stands g c =
     let opened = c.args.opened in
     let is = (λ i. record { core = c.new.ensures i; store = c.new-2.ensures i; out = None; receipt = None; finished = None; finished_first = false; tickets = c.new-3.ensures i }) ∙ ap (λ o. first_system o.kernel o.disk o.segment) c.opened.view_is in
     subst (StandsFor g.D.Disk.honest g.D.Disk.view opened.kernel (first_world opened.segment.epoch opened.segment.records)) (sym is)
-    (first_stands g.D.Disk.honest g.D.Disk.view opened.kernel opened.kernel opened.disk opened.segment refl (subst (λ o. Lawful o.kernel) c.opened.view_is c.has_image.ensures.lawful) (subst (λ o. Grounded o.kernel) c.opened.view_is c.has_image.ensures.grounded)
+    (first_stands g.D.Disk.honest g.D.Disk.view opened.kernel opened.kernel opened.disk opened.segment refl (subst (λ o. Lawful o.kernel) c.opened.view_is c.show_image.ensures.lawful) (subst (λ o. Acyclic o.kernel) c.opened.view_is c.show_image.ensures.acyclic)
     (subst (λ o. g.D.Disk.honest → IsKept (g.D.Disk.view o.disk) o.segment o.kernel) c.opened.view_is c.opened.invariant))

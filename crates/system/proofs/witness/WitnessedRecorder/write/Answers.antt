@@ -3,5 +3,5 @@ use Rattle.system.proofs.witness.WitnessedRecorder.write.Goals as goal
 
 pub returns-in-Err : goal.returns-in-Err
 returns-in-Err g c =
-    let row = record_out c.args.self.now.row c.push.new.self c.remove_last.new.self c.args.space c.args.call.now c.args.reply.now c.in_ok-size.size c.in_ok-size.ensures.ok.0 c.in_ok-size.ensures.size c.remove_last.ensures in
-    record { ok = tt; err = λ i. record { row = row i; witness = c.in-Err.ensures.err i } }
+    let log = record_out c.args.self.now.log c.push.new.self c.remove_last.new.self c.args.space c.args.call.now c.args.reply.now c.in_ok-size.size c.in_ok-size.ensures.ok.0 c.in_ok-size.ensures.size c.remove_last.ensures in
+    record { ok = tt; err = λ i. record { log = log i; witness = c.in-Err.ensures.err i } }

@@ -1,7 +1,0 @@
-use Rattle.std.proofs.Common.{◌≡◌, ◌++◌, length, take}
-use Rattle.words.specs.Words.{word}
-use Rattle.calls.specs.Rows.{names_text}
-use Rattle.calls.proofs.spell.push_names.Given as goal
-
-abbrev pub invariant-loop-named : goal.invariant-loop-named
-invariant-loop-named l = l.out.items ≡ l.fn.out.items ++ (word (length l.names) ++ names_text (take l.named-index l.names))

@@ -1,0 +1,293 @@
+-- A caller that may be asked for more before it answers what it was asked first: what becomes of a connection's frames.
+use Rattle.std.specs.Prelude.{◌≡◌, ◌⊎◌, ℕ, ◌-◌, ◌^◌, ◌≤◌, Bool, true, false, zero, ⊤, ◌&&◌, ◌||◌, nat_le, nat_lt, List, [], ◌∷◌, ◌++◌, length, drop, Option, None, Some, Result, Ok, Err}
+use Rattle.byteorder.specs.Endian.{little_number}
+use Rattle.calls.specs.Requests.{Asks}
+use Rattle.calls.specs.declared.request.MessageRequest.{MessageRequest}
+use Rattle.calls.specs.declared.request.Request.{Request}
+use Rattle.calls.specs.declared.request.Request.TheVariants as request
+use Rattle.codes.specs.declared.kern_return.KernReturn.{KernReturn}
+use Rattle.codes.specs.declared.kern_return.KernReturn.TheVariants.{Success, SendTimedOut, RcvTimedOut}
+use Rattle.codes.specs.declared.limits.TheConstants.{MIN_FRAME_CONTENT, MAX_FRAME_CONTENT}
+use Rattle.codes.specs.declared.name.TheConstants.{MACH_PORT_NULL}
+use Rattle.ipc_model.specs.calls.Step.{succeeded}
+use Rattle.ipc_model.specs.declared.call.Call.{Call}
+use Rattle.ipc_model.specs.declared.call.Call.TheVariants as call
+use Rattle.ipc_model.specs.declared.call.Reply.{Reply}
+use Rattle.ipc_model.specs.declared.call.Reply.TheVariants as reply
+use Rattle.ipc_model.specs.messages.Receiving.{without_message}
+use Rattle.ipc_model.specs.encodings.Encodings.{reply_encoding}
+use Rattle.journal.specs.declared.fault.StoreFault.{StoreFault}
+use Rattle.frame_service.specs.Serving.{IsRefused, LacksMemory, shortage_of}
+use Rattle.frame_service.specs.declared.asking.PendingFrame.{PendingFrame}
+use Rattle.frame_service.specs.declared.asking.PendingFrame.TheVariants.{Settled, Waits}
+use Rattle.frame_service.specs.declared.asking.Ready.{Ready}
+use Rattle.frame_service.specs.declared.asking.Ready.TheVariants.{Known, Made}
+use Rattle.frame_service.specs.declared.service.ServeFault.{ServeFault}
+use Rattle.frame_service.specs.declared.service.ServeFault.TheVariants.{Wire, Store}
+use Rattle.wire.specs.Frame.{IsReadOf}
+use Rattle.wire.specs.Writing.{AppendsPart}
+use Rattle.wire.specs.declared.fault.WireFault.{WireFault}
+use Rattle.wire.specs.declared.fault.WireFault.TheVariants.{Device, NoMemory}
+use Rattle.words.specs.Words.{frame_encoding}
+
+-- Whether a call found nothing to do: there was no message, or no room in the queue.
+abbrev pub is_timeout : KernReturn → Bool
+is_timeout SendTimedOut = true
+is_timeout RcvTimedOut = true
+is_timeout code = false
+
+abbrev pub timed_out : Reply → Bool
+timed_out (reply.Message code size member message) = is_timeout code
+timed_out answer = false
+
+-- a call as it is made again after a wait
+abbrev pub again : Call → Call
+again (call.Receive limit large name waited) = call.Receive limit large name true
+again c = c
+
+-- whether a call with this bound may wait: it may if it has none, or one above 0
+abbrev pub is_patient : Option ℕ → Bool
+is_patient None = true
+is_patient (Some zero) = false
+is_patient (Some milliseconds) = true
+
+-- what is left of a mach_msg: these halves are still to be made
+abbrev pub left_of : Option Call → Option Call → Option ℕ → Option ℕ → MessageRequest
+left_of send receive send_timeout receive_timeout = record { send = send; receive = receive; send_timeout = send_timeout; receive_timeout = receive_timeout }
+
+-- What a connection did: a frame with this content was taken in hand, or the first frame in hand was answered.
+pub data Act (T : Type 0) : Type 0 where
+  took : List ℕ → PendingFrame T → Act T
+  acknowledged : Reply → Act T
+
+-- A caller that is asked, as it describes itself: the reply that a ticket keeps, that a call was made for a ticket, and
+-- that a call wasn't made because of a shortage of memory or of room for its record.
+module _ {C T : Type 0} (answer : T → Reply) (makes : C → Call → T → C → Type 0) (lacks : C → Call → C → Type 0) where
+  -- A call was made once, or it wasn't made, and its reply is known.
+  abbrev pub AsksOne : C → Call → Ready T → C → Type 0
+  AsksOne old c (Made ticket) new = makes old c ticket new
+  AsksOne old c (Known known) new = (known ≡ shortage_of c) × lacks old c new
+
+  -- The same of a call that may wait if this bound lets it: then it found nothing to do, and this is left.
+  abbrev pub Tries : C → Call → Option ℕ → MessageRequest → PendingFrame T → C → Type 0
+  Tries old c bound left (Settled ready) new = AsksOne old c ready new
+  Tries old c bound left (Waits rest) new = (rest ≡ left) × (is_patient bound ≡ true) × ((ticket : T) × makes old c ticket new × (timed_out (answer ticket) ≡ true))
+
+  -- whether a send that was done is in hand
+  abbrev pub is_sent : Call → PendingFrame T → Bool
+  is_sent c (Settled (Made ticket)) = succeeded c (answer ticket)
+  is_sent c pending = false
+
+  -- The calls of a mach_msg as far as they can be made now: a send, and after a send that was done a receive.
+  abbrev pub Proceeds : C → MessageRequest → Option Call → Option Call → PendingFrame T → C → Type 0
+  Proceeds old m None None pending new = (pending ≡ Settled (Known (without_message Success 0 MACH_PORT_NULL))) × (new ≡ old)
+  Proceeds old m (Some send) None pending new = Tries old send m.send_timeout (left_of (Some (again send)) m.receive m.send_timeout m.receive_timeout) pending new
+  Proceeds old m None (Some receive) pending new = Tries old receive m.receive_timeout (left_of None (Some (again receive)) m.send_timeout m.receive_timeout) pending new
+  Proceeds old m (Some send) (Some receive) pending new =
+      (Tries old send m.send_timeout (left_of (Some (again send)) m.receive m.send_timeout m.receive_timeout) pending new × (is_sent send pending ≡ false))
+      ⊎ ((ticket : T) × (mid : C) × makes old send ticket mid × (succeeded send (answer ticket) ≡ true)
+      × Tries mid receive m.receive_timeout (left_of None (Some (again receive)) m.send_timeout m.receive_timeout) pending new)
+
+  -- What a frame asks for was done as far as it can be now. Only a mach_msg waits.
+  abbrev pub TakesOne : C → Call → PendingFrame T → C → Type 0
+  TakesOne old c (Settled ready) new = AsksOne old c ready new
+  TakesOne old c (Waits rest) new = ⊥
+
+  abbrev pub TakesRequest : C → Request → PendingFrame T → C → Type 0
+  TakesRequest old (request.One c) pending new = TakesOne old c pending new
+  TakesRequest old (request.Message m) pending new = Proceeds old m m.send m.receive pending new
+  TakesRequest old (request.Answered code) pending new = (pending ≡ Settled (Known (without_message code 0 MACH_PORT_NULL))) × (new ≡ old)
+
+  -- A frame of this content was taken in hand.
+  abbrev pub IsTaken : C → List ℕ → PendingFrame T → C → Type 0
+  IsTaken old content pending new =
+      ((asks : Request) × Asks content asks × TakesRequest old asks pending new)
+      ⊎ ((known : Reply) × (pending ≡ Settled (Known known)) × (IsRefused old content known new ⊎ LacksMemory old content known new))
+
+  -- What waited was tried again, attempt after attempt, each with what the one before left.
+  abbrev pub GoesOn : C → MessageRequest → List MessageRequest → Ready T → C → Type 0
+  GoesOn old m [] ready new = Proceeds old m m.send m.receive (Settled ready) new
+  GoesOn old m (next ∷ more) ready new = (mid : C) × Proceeds old m m.send m.receive (Waits next) mid × GoesOn mid next more ready new
+
+-- and further: that a ticket's reply was given, and that the store failed before
+module _ {C T : Type 0} (answer : T → Reply) (makes : C → Call → T → C → Type 0) (lacks : C → Call → C → Type 0) (acknowledges : C → T → C → Type 0) (fails : C → T → StoreFault → C → Type 0) where
+  -- what waits for nothing was answered, or couldn't be
+  abbrev pub IsGiven : C → Ready T → Reply → C → Type 0
+  IsGiven old (Known known) said new = (said ≡ known) × (new ≡ old)
+  IsGiven old (Made ticket) said new = (said ≡ answer ticket) × acknowledges old ticket new
+
+  abbrev pub IsUngiven : C → Ready T → StoreFault → C → Type 0
+  IsUngiven old (Known known) fault new = ⊥
+  IsUngiven old (Made ticket) fault new = fails old ticket fault new
+
+  -- What is in hand was answered; what waited, after its last attempt.
+  abbrev pub IsAcknowledged : C → PendingFrame T → Reply → C → Type 0
+  IsAcknowledged old (Settled ready) said new = IsGiven old ready said new
+  IsAcknowledged old (Waits rest) said new = (more : List MessageRequest) × (ready : Ready T) × (mid : C) × GoesOn answer makes lacks old rest more ready mid × IsGiven mid ready said new
+
+  -- It couldn't be answered, since the store failed.
+  abbrev pub IsUnacknowledged : C → PendingFrame T → StoreFault → C → Type 0
+  IsUnacknowledged old (Settled ready) fault new = IsUngiven old ready fault new
+  IsUnacknowledged old (Waits rest) fault new = (more : List MessageRequest) × (ready : Ready T) × (mid : C) × GoesOn answer makes lacks old rest more ready mid × IsUngiven mid ready fault new
+
+  -- Frames are answered in the order in which they were taken. `all_pending` were in hand at the beginning, and `left` are at
+  -- the end.
+  abbrev pub Acted : C → List (PendingFrame T) → List (Act T) → List (PendingFrame T) → C → Type 0
+  Acted old all_pending [] left new = (left ≡ all_pending) × (new ≡ old)
+  Acted old all_pending (took content pending ∷ acts) left new = (mid : C) × IsTaken answer makes lacks old content pending mid × Acted mid (all_pending ++ pending ∷ []) acts left new
+  Acted old [] (acknowledged reply ∷ acts) left new = ⊥
+  Acted old (pending ∷ all_pending) (acknowledged reply ∷ acts) left new = (mid : C) × IsAcknowledged old pending reply mid × Acted mid all_pending acts left new
+
+-- the frames that were taken, as they were read, and the replies that were given, as they are written
+abbrev pub frames_of : {T : Type 0} → List (Act T) → List ℕ
+frames_of [] = []
+frames_of (took content pending ∷ acts) = frame_encoding content ++ frames_of acts
+frames_of (acknowledged reply ∷ acts) = frames_of acts
+
+abbrev pub replies_of : {T : Type 0} → List (Act T) → List ℕ
+replies_of [] = []
+replies_of (took content pending ∷ acts) = replies_of acts
+replies_of (acknowledged reply ∷ acts) = frame_encoding (reply_encoding reply) ++ replies_of acts
+
+-- what is left of an input in which reading stopped: all of it, or what a frame that can't be read leaves
+abbrev pub IsLeft : List ℕ → Option (List ℕ) → Type 0
+IsLeft rest left = (left ≡ Some rest) ⊎ ((fault : WireFault) × IsReadOf rest (Err fault) left)
+
+module _ {C T : Type 0} (answer : T → Reply) (makes : C → Call → T → C → Type 0) (lacks : C → Call → C → Type 0) (acknowledges : C → T → C → Type 0) (fails : C → T → StoreFault → C → Type 0) where
+  -- So far: this rest of the input isn't taken, and what was sent is what was sent before and then the replies.
+  pub record Went (old : C) (all_pending : List (PendingFrame T)) (now : C) (input before rest sent : List ℕ) (left : List (PendingFrame T)) : Type 0 where
+    pub acts : List (Act T)
+    pub acted : Acted answer makes lacks acknowledges fails old all_pending acts left now
+    pub read : input ≡ frames_of acts ++ rest
+    pub acknowledged_is : sent ≡ before ++ replies_of acts
+
+  -- How a connection that has these frames in hand ends, by where it does.
+  module _ (old : C) (queue : List (PendingFrame T)) (new : C) (input before : List ℕ) (left written : Option (List ℕ)) where
+    -- All of the input was taken and answered.
+    pub record AcknowledgesAll : Type 0 where
+      pub sent : List ℕ
+      pub went : Went old queue new input before [] sent []
+      pub all : left ≡ Some []
+      pub written_is : written ≡ Some sent
+
+    -- the process is out of memory before anything is read
+    pub record NeverBegins (fault : WireFault) : Type 0 where
+      pub fault_is : fault ≡ NoMemory
+      pub same : new ≡ old
+      pub unread : left ≡ Some input
+      pub unwritten : written ≡ Some before
+
+    -- A frame can't be read. What was taken before is answered, and nothing is called or written for what stands there.
+    pub record StopsReading (fault : WireFault) : Type 0 where
+      pub rest : List ℕ
+      pub sent : List ℕ
+      pub went : Went old queue new input before rest sent []
+      pub unreadable : IsReadOf rest (Err fault) left
+      pub written_is : written ≡ Some sent
+
+    -- The store fails before the first frame in hand is answered; nothing is written for it, and nothing more is read.
+    pub record StopsAcknowledging (fault : StoreFault) : Type 0 where
+      pub mid : C
+      pub rest : List ℕ
+      pub sent : List ℕ
+      pub pending : PendingFrame T
+      pub all_pending : List (PendingFrame T)
+      pub went : Went old queue mid input before rest sent (pending ∷ all_pending)
+      pub unacknowledged : IsUnacknowledged answer makes lacks acknowledges fails mid pending fault new
+      pub unread : IsLeft rest left
+      pub written_is : written ≡ Some sent
+
+    -- the writer fails in the last reply, of which a prefix is written
+    pub record StopsWriting (fault : WireFault) : Type 0 where
+      pub fault_is : fault ≡ Device
+      pub mid : C
+      pub rest : List ℕ
+      pub sent : List ℕ
+      pub pending : PendingFrame T
+      pub all_pending : List (PendingFrame T)
+      pub went : Went old queue mid input before rest sent (pending ∷ all_pending)
+      pub reply : Reply
+      pub is_acknowledged : IsAcknowledged answer makes lacks acknowledges fails mid pending reply new
+      pub unread : IsLeft rest left
+      pub part : AppendsPart (Some sent) written (frame_encoding (reply_encoding reply))
+
+    -- the replies that were given are written, and can't be flushed
+    pub record StopsFlushing (fault : WireFault) : Type 0 where
+      pub fault_is : fault ≡ Device
+      pub rest : List ℕ
+      pub sent : List ℕ
+      pub all_pending : List (PendingFrame T)
+      pub went : Went old queue new input before rest sent all_pending
+      pub unread : IsLeft rest left
+      pub written_is : written ≡ Some sent
+
+    -- as many turns were taken as a connection has at most
+    pub record StopsAtMost (fault : WireFault) : Type 0 where
+      pub fault_is : fault ≡ Device
+      pub rest : List ℕ
+      pub sent : List ℕ
+      pub went : Went old queue new input before rest sent []
+      pub most : 2 ^ 64 - 1 ≤ length went.acts
+      pub unread : left ≡ Some rest
+      pub written_is : written ≡ Some sent
+
+    -- How a connection ended.
+    abbrev pub EndsAsked : Result (Unit {0}) ServeFault → Type 0
+    EndsAsked (Ok done) = AcknowledgesAll
+    EndsAsked (Err (Wire fault)) = NeverBegins fault ⊎ (StopsReading fault ⊎ (StopsWriting fault ⊎ (StopsFlushing fault ⊎ StopsAtMost fault)))
+    EndsAsked (Err (Store fault)) = StopsAcknowledging fault
+
+    -- A turn is over, and the connection continues.
+    pub record GoesRound : Type 0 where
+      pub rest : List ℕ
+      pub sent : List ℕ
+      pub went : Went old queue new input before rest sent []
+      pub some : 1 ≤ length went.acts
+      pub unread : left ≡ Some rest
+      pub written_is : written ≡ Some sent
+
+    -- How a turn ends: frames are taken, and answered.
+    abbrev pub EndsRound : Result Bool ServeFault → Type 0
+    EndsRound (Ok true) = GoesRound
+    EndsRound (Ok false) = AcknowledgesAll
+    EndsRound (Err (Wire fault)) = StopsReading fault ⊎ (StopsWriting fault ⊎ StopsFlushing fault)
+    EndsRound (Err (Store fault)) = StopsAcknowledging fault
+
+    -- How answering all that is in hand ends.
+    abbrev pub EndsAcknowledging : Result (Unit {0}) ServeFault → Type 0
+    EndsAcknowledging (Ok done) = (sent : List ℕ) × Went old queue new input before input sent [] × (written ≡ Some sent)
+    EndsAcknowledging (Err (Wire fault)) = StopsWriting fault ⊎ StopsFlushing fault
+    EndsAcknowledging (Err (Store fault)) = StopsAcknowledging fault
+
+  -- How answering the first frame in hand ends.
+  abbrev pub EndsOne : C → PendingFrame T → C → List ℕ → Option (List ℕ) → Result (Unit {0}) ServeFault → Type 0
+  EndsOne old pending new before written (Ok done) = (reply : Reply) × IsAcknowledged answer makes lacks acknowledges fails old pending reply new × (written ≡ Some (before ++ frame_encoding (reply_encoding reply)))
+  EndsOne old pending new before written (Err (Wire fault)) =
+      (fault ≡ Device) × (((reply : Reply) × IsAcknowledged answer makes lacks acknowledges fails old pending reply new × AppendsPart (Some before) written (frame_encoding (reply_encoding reply)))
+      ⊎ ((new ≡ old) × (written ≡ Some before)))
+  EndsOne old pending new before written (Err (Store fault)) = IsUnacknowledged answer makes lacks acknowledges fails old pending fault new × (written ≡ Some before)
+
+  -- Frames were taken in hand, as many as were there: whether there may be more, or the next one can't be read.
+  abbrev pub IsRead : List ℕ → Option (List ℕ) → Result Bool WireFault → Type 0
+  IsRead rest left (Ok true) = left ≡ Some rest
+  IsRead rest left (Ok false) = (rest ≡ []) × (left ≡ Some [])
+  IsRead rest left (Err fault) = IsReadOf rest (Err fault) left
+
+  abbrev pub IsSome : ℕ → Result Bool WireFault → Type 0
+  IsSome count (Ok true) = 1 ≤ count
+  IsSome count result = ⊤
+
+  pub record TookFrames (old new : C) (all_pending : List (PendingFrame T)) (input : List ℕ) (left : Option (List ℕ)) (result : Result Bool WireFault) : Type 0 where
+    pub acts : List (Act T)
+    pub rest : List ℕ
+    pub acted : Acted answer makes lacks acknowledges fails old [] acts all_pending new
+    pub read : input ≡ frames_of acts ++ rest
+    pub silent : replies_of acts ≡ []
+    pub some : IsSome (length acts) result
+    pub is_read : IsRead rest left result
+
+-- whether the bytes at the front are a whole frame, or a length that no frame has
+abbrev pub holds_frame : List ℕ → Bool
+holds_frame bytes =
+    nat_le 4 (length bytes)
+    && (nat_lt (little_number 4 bytes) MIN_FRAME_CONTENT || (nat_lt MAX_FRAME_CONTENT (little_number 4 bytes) || nat_le (little_number 4 bytes) (length (drop 4 bytes))))

@@ -1,0 +1,60 @@
+ghost use Rattle.std.specs.Prelude.{◌≡◌, ◌≤◌, false, length, IfErr, IfOk, OnOk};
+ghost use Rattle.ipc_model.specs.calls.Step.{has_record};
+ghost use Rattle.ipc_model.specs.declared.call.Call.{Call};
+ghost use Rattle.ipc_model.specs.declared.call.Reply.{Reply};
+ghost use Rattle.ipc_model.specs.encodings.Encodings.{reply_encoding};
+ghost use Rattle.journal.specs.declared.fault.StoreFault.{StoreFault};
+ghost use Rattle.frame_service.specs.Serving.{shortage_of};
+
+use codes::{KernReturn, MACH_PORT_NULL, MAX_FRAME_CONTENT};
+use ipc_model::{Call, Reply};
+use journal::StoreFault;
+use std::alloc::Global;
+
+/// Makes the calls of a connection.
+pub trait Caller {
+    /// What it may answer to a call, and what it is afterwards.
+    ghost answers: { Self → Call → Reply → Self → Type 0 };
+
+    /// How a call may fail in the store, and what it is afterwards.
+    ghost fails: { Self → Call → StoreFault → Self → Type 0 };
+
+    /// What it may be after it was given time between two frames.
+    ghost rests: { Self → Self → Type 0 };
+
+    /// How that may fail in the store, and what it is afterwards.
+    ghost breaks: { Self → StoreFault → Self → Type 0 };
+
+    /// Makes a call. A reply is given only when all that it reports is stored, and it fits in a frame.
+    fn call(&mut self, call: Call) -> Result<Reply, StoreFault>
+        ensures answers { IfOk result (λ reply. answers self.old call reply self.new) }
+        ensures fits { IfOk result (λ reply. length (reply_encoding reply) ≤ MAX_FRAME_CONTENT) }
+        ensures fails { IfErr result (λ fault. fails self.old call fault self.new) };
+
+    /// Takes time after a frame's reply was written, for what no reply waits for. Returns whether there was memory for
+    /// it.
+    fn rest(&mut self) -> Result<bool, StoreFault>
+        ensures rests { OnOk result (rests self.old self.new) }
+        ensures breaks { IfErr result (λ fault. breaks self.old fault self.new) };
+}
+
+#[tactic(auto, using(crate::proofs::Answered::message_fits, crate::proofs::Answered::refused_fits))]
+/// The answer to a call for which memory or room for the record ran out. It takes no memory.
+pub fn shortage(alloc: Global, call: &Call) -> Reply
+    ensures answer { result ≡ shortage_of call.now }
+    ensures unrecorded { has_record call.now result ≡ false }
+    ensures fits { length (reply_encoding result) ≤ MAX_FRAME_CONTENT }
+{
+    match call {
+        Call::Send { .. } => {
+            Reply::without_message(alloc, KernReturn::SendNoBuffer, 0, MACH_PORT_NULL)
+        }
+        Call::Receive { .. } => {
+            Reply::without_message(alloc, KernReturn::RcvHeaderErrorKernel, 0, MACH_PORT_NULL)
+        }
+        _ => Reply::Refused {
+            number: call.number(),
+            code: KernReturn::ResourceShortage,
+        },
+    }
+}

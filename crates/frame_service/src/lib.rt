@@ -1,0 +1,18 @@
+//! Frames in, each call made, replies out, generic in what makes the calls.
+#![tactic(auto)]
+
+mod acknowledging;
+mod ahead;
+mod asking;
+mod caller;
+mod rounds;
+mod service;
+mod short_reply;
+mod taking;
+
+pub use ahead::Ahead;
+pub use asking::{Asker, PendingFrame, Ready};
+pub use caller::{Caller, shortage};
+pub use rounds::{MOST_PENDING_FRAMES, serve_asked};
+pub use service::{ServeFault, serve};
+pub use short_reply::ShortReply;

@@ -1,8 +1,0 @@
-use Rattle.std.proofs.Common.{◌≡◌, ◌++◌, flat_map, length}
-use Rattle.image.proofs.spelled.push_rows.Given as goal
-
-abbrev pub invariant-loop-row : goal.invariant-loop-row
-invariant-loop-row g l = l.out.items ++ flat_map g.T.Spelled.text l.rest ≡ l.fn.out.items ++ flat_map g.T.Spelled.text l.fn.rows
-
-abbrev pub decreases-loop-row : goal.decreases-loop-row
-decreases-loop-row g l = length l.rest

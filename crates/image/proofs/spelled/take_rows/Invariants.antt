@@ -1,5 +1,0 @@
-use Rattle.image.specs.Taking.{TakenSoFar}
-use Rattle.image.proofs.spelled.take_rows.Given as goal
-
-abbrev pub invariant-loop : goal.invariant-loop
-invariant-loop g l = TakenSoFar g.T.Spelled.text g.T.Spelled.fits l.fn.bytes l.fn.count l.rows.items l.rest l.counter

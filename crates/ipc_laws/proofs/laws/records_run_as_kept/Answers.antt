@@ -1,5 +1,0 @@
-use Rattle.ipc_laws.specs.RunLaws.{run_as_kept}
-use Rattle.ipc_laws.proofs.laws.records_run_as_kept.Goals as goal
-
-pub returns : goal.returns
-returns c = run_as_kept

@@ -1,0 +1,326 @@
+ghost use Rattle.std.specs.Prelude.{◌≡◌, ◌⊎◌, ◌+◌, ◌<◌, ◌≤◌, ◌∷◌, [], ◌++◌, Some, false, length, IfOk, IfErr, IfSome, IfNone, IsErrOf, MatchBool, OnErr};
+ghost use Rattle.codes.specs.declared.limits.TheConstants.{MAX_FRAME_CONTENT};
+ghost use Rattle.codes.specs.declared.name.TheConstants.{FIRST_SPACE};
+ghost use Rattle.ipc_model.specs.history.History.{called, looked, redemption, space_after};
+ghost use Rattle.ipc_model.specs.encodings.Encodings.{reply_encoding};
+ghost use Rattle.ipc_model.specs.state.Circular.{Acyclic};
+ghost use Rattle.ipc_model.specs.state.Lawful.{Lawful};
+ghost use Rattle.kernel_keeper.specs.Keeping.{Ends, IsApart, IsSame, Loads, Makes, entries_in, first_core};
+ghost use Rattle.kernel_keeper.specs.Tokens.{Did, IsHistory};
+ghost use Rattle.kernel_keeper.specs.declared.keeper.TheConstants.{MOST_SESSIONS};
+ghost use Rattle.system.specs.Halves.{CanCut, CannotTake, IsFullFor, with_receipt};
+ghost use Rattle.waiting.specs.Places.{names};
+ghost use Rattle.waiting.specs.Waiting.{Wakes, places_of_call};
+
+use crate::counting::Tally;
+use crate::fault::SessionFault;
+use crate::making::KernelCore;
+use crate::numbers::Numbers;
+use crate::session::{Session, SessionState};
+use boxcar::tag::{Names, Tag};
+use codes::FIRST_SPACE;
+use history::{EntryBlock, Founding, Past};
+use ipc_model::{Call, Reply};
+use std::alloc::{AllocError, Global};
+use std::marker::Model;
+use std::sync::Arc;
+use std::sync::ledger::{Blank, Book};
+use store_half::{Finished, Receipt};
+use store_keeper::{End, Load};
+use system::{Kernel, SubmitFault, Ticket};
+use waiting::Places;
+
+/// How many sessions one history gives at most.
+pub const MOST_SESSIONS: u32 = u32::MAX;
+
+/// What lies under the lock of the kernel: the half that makes calls together with the history, the book that counts
+/// all sessions' records, and the sessions' numbers.
+pub struct KernelKeeper<L: Founding> {
+    core: KernelCore<L>,
+    book: Book<L>,
+    numbers: Numbers<L>,
+}
+
+// Written out, so that proofs above know one function and not its parts.
+impl<L: Founding> Drop for KernelKeeper<L> {
+    fn drop(self) {
+        let KernelKeeper {
+            core,
+            book,
+            numbers,
+        } = self;
+        drop(core);
+        drop(book);
+        drop(numbers);
+    }
+}
+
+impl<L: Founding> Model for KernelKeeper<L> {
+    ghost use Rattle.std.specs.Prelude.{◌≡◌};
+    ghost use Rattle.kernel_keeper.specs.Keeping.{KernelKeeperValue, keeper_code};
+
+    ghost Value = { KernelKeeperValue };
+
+    ghost coded = { keeper_code };
+
+    ghost view = { λ k. record { core = k.core; given = k.numbers } };
+
+    ghost invariant = { λ k. k.book.total ≡ k.core.half.log.made };
+}
+
+impl<L: Founding> KernelKeeper<L> {
+    /// Continues from a state in an epoch whose segment holds `records` records, with the history that begins here.
+    pub fn new(
+        alloc: Global,
+        kernel: Kernel,
+        epoch: u64,
+        records: u64,
+        past: Past<L>,
+        blank: Blank,
+    ) -> Self
+        requires base { (kernel ≡ L.base) × Lawful L.base × Acyclic L.base }
+        requires none { past.entries ≡ [] }
+        requires blank { (blank.name ≡ L.name) × (blank.parts ≡ L.parts) × (L.parts ≡ MOST_SESSIONS) }
+        ensures { result ≡ record { core = first_core kernel epoch records past; given = 0 } }
+    {
+        let (book, rest) = blank.open::<L>();
+        KernelKeeper {
+            core: KernelCore::new(alloc, kernel, epoch, records, past),
+            book,
+            numbers: Numbers::new(rest),
+        }
+    }
+
+    /// Makes a call of a session. The session has then seen all of the history; even if the call isn't made, it may
+    /// have seen more than before.
+    ///
+    /// It names the places at which the call may have given a waiting call something to do: no wake-up is lost.
+    ///
+    /// `NoMemory`: an allocation failed. `EpochFull`: no room is left for the call's record, or the session isn't known
+    /// to be in the history that is kept here: it has seen more, or is in an entry block for which that isn't known.
+    pub fn submit(
+        &mut self,
+        session: Session<L>,
+        call: &Call,
+        places: &mut Places,
+    ) -> (Session<L>, Result<Ticket, SubmitFault>)
+        ensures wakes { IfOk result.1 (λ ticket. Wakes self.old.core.half.kernel self.new.core.half.kernel (names places.new)) }
+        ensures given { IfOk result.1 (λ ticket. Did L.base session (called call.now ticket.answer) result.0 × (ticket.seen ≡ result.0.task.seen)) }
+        ensures makes { IfOk result.1 (λ ticket. Makes self.old.core session.number session.task.space call.now ticket self.new.core × (self.new.given ≡ self.old.given)) }
+        ensures full { IsErrOf result.1 SubmitFault.EpochFull → IsFullFor self.old.core.half session.task.space call.now ⊎ IsApart self.old.core.past session.past }
+        ensures err { OnErr result.1 (Did L.base session looked result.0 × (self.new ≡ self.old)) }
+    {
+        let Session { own_state, past } = session;
+        let before = self.core.made();
+        let (past, made) = self
+            .core
+            .apply(own_state.number, own_state.space, past, call, places);
+        match made {
+            Ok(ticket) => {
+                let mut own_state = own_state;
+                note_call(
+                    &mut own_state,
+                    &mut self.book,
+                    before,
+                    past.len(),
+                    call,
+                    &ticket,
+                );
+                (Session { own_state, past }, Ok(ticket))
+            }
+            Err(fault) => (Session { own_state, past }, Err(fault)),
+        }
+    }
+}
+
+impl<L: Founding> KernelKeeper<L> {
+    /// The places where a call of a session waits if it finds nothing to do. `None`: an allocation failed, or it is a
+    /// send that is refused whatever its names stand for.
+    pub fn places_of_call(&self, session: &Session<L>, call: &Call) -> Option<Vec<u128>>
+        ensures { IfSome result (λ places. places.items ≡ places_of_call self.now.core.half.kernel session.now.task.space call.now) }
+    {
+        self.core
+            .kernel()
+            .places_of_call(session.own_state.space, call)
+    }
+
+    /// A new session, of a task that is attached to space 1. It has seen all of the history. `NoMemory`: an allocation
+    /// failed. `Spent`: no number is left.
+    pub fn session(&mut self) -> Result<Session<L>, SessionFault>
+        ensures new { IfOk result (λ session. (session.task.space ≡ FIRST_SPACE) × (session.task.acknowledged ≡ 0) × (session.task.tickets ≡ []) × (session.task.places ≡ [])) }
+        ensures next { IfOk result (λ session. (session.number ≡ self.old.given + 1) × (entries_in self.old.core ≡ Some session.past.entries) × (self.new ≡ record self.old { given = self.old.given + 1 })) }
+        ensures spent { IsErrOf result SessionFault.Spent → self.old.given ≡ MOST_SESSIONS }
+        ensures err { OnErr result (self.new ≡ self.old) }
+    {
+        let past = self.core.again()?;
+        let Some((number, share)) = self.numbers.next() else {
+            drop(past);
+            return Err(SessionFault::Spent);
+        };
+        let own_state = SessionState {
+            number,
+            space: FIRST_SPACE,
+            acknowledged: 0,
+            tickets: Tag::empty(),
+            places: Tag::empty(),
+            share,
+        };
+        Ok(Session { own_state, past })
+    }
+
+    /// The reply of a ticket of this session, once all that its call saw is stored; else the ticket comes back.
+    pub fn redeem(&self, session: Session<L>, ticket: Ticket) -> (Session<L>, Result<Reply, Ticket>)
+        ensures redeemed { IfOk result.1 (λ reply. (reply ≡ ticket.answer) × Did L.base session (redemption session.task ticket.seen) result.0) }
+        ensures stored { IfOk result.1 (λ reply. ticket.seen ≤ self.now.core.half.handed) }
+        ensures fits { IfOk result.1 (λ reply. length (reply_encoding reply) ≤ MAX_FRAME_CONTENT) }
+        ensures back { IfErr result.1 (λ kept. (kept ≡ ticket) × (result.0 ≡ session)) }
+        ensures early { OnErr result.1 ((session.task.seen < ticket.seen) ⊎ (self.now.core.half.handed < ticket.seen)) }
+    {
+        session.redeem(ticket, self.core.handed())
+    }
+}
+
+impl<L: Founding> KernelKeeper<L> {
+    /// All of the history, and the ledger that counts its records.
+    pub(crate) fn into_tally(self) -> Tally<L>
+        ensures past { (self.core.past ≡ Some result.past) × (result.made ≡ self.given) }
+        ensures history { IsHistory L.base result.past.entries }
+        ensures counted { result.book.total ≡ length result.past.entries }
+        ensures parts { result.made + result.share.parts ≡ L.parts }
+        ensures amount { result.share.amount ≡ 0 }
+    {
+        let KernelKeeper {
+            core,
+            book,
+            numbers,
+        } = self;
+        let (made, share) = numbers.into_rest();
+        Tally {
+            past: core.into_past(),
+            made,
+            book,
+            share,
+        }
+    }
+
+    /// Takes records that wait to be stored, with the history up to them. `None` while a load is out, or if no record
+    /// waits. If an allocation fails, nothing changed.
+    pub fn take(&mut self) -> Result<Option<Load<L>>, AllocError>
+        ensures taken { IfOk result (λ load. IfSome load (λ load. Loads self.old.core load self.new.core × (self.new.given ≡ self.old.given))) }
+        ensures none { IfOk result (λ load. IfNone load (CannotTake self.old.core.half × (self.new ≡ self.old))) }
+        ensures err { OnErr result (self.new ≡ self.old) }
+    {
+        self.core.take()
+    }
+
+    /// Learns that the load that was out is stored. A receipt of more records than were taken changes nothing.
+    pub fn durable(&mut self, receipt: Receipt)
+        ensures known { receipt + self.old.core.half.handed ≤ self.old.core.taken → self.new ≡ record self.old { core = record self.old.core { half = with_receipt self.old.core.half receipt } } }
+        ensures unknown { self.old.core.taken < receipt + self.old.core.half.handed → self.new ≡ self.old }
+    {
+        self.core.durable(receipt);
+    }
+
+    /// Begins the next epoch, whose entries go into this entry block, with a snapshot of the state. `None` while a
+    /// checkpoint is under way or records of the previous epoch wait, and in the last epoch; then, and if an allocation
+    /// fails, no call is undone and none is lost, but the history may go on in the block.
+    pub fn cut(&mut self, block: Arc<EntryBlock, Global>) -> Result<Option<End<L>>, AllocError>
+        ensures cut { IfOk result (λ end. IfSome end (λ end. Ends self.old.core end self.new.core)) }
+        ensures not_now { IfOk result (λ end. IfNone end ((CanCut self.old.core.half → ⊥) × IsSame self.old.core self.new.core)) }
+        ensures err { OnErr result (IsSame self.old.core self.new.core) }
+        ensures given { self.new.given ≡ self.old.given }
+    {
+        self.core.cut(block)
+    }
+
+    /// Learns that a checkpoint is over.
+    pub fn finished(&mut self, receipt: Finished)
+        ensures { self.new ≡ record self.old { core = record self.old.core { half = record self.old.core.half { is_cut = false } } } }
+    {
+        self.core.finished(receipt);
+    }
+
+    /// How many records were made since the store was opened.
+    pub fn made(&self) -> u64
+        ensures { result ≡ self.now.core.half.log.made }
+    {
+        self.core.made()
+    }
+
+    /// How many records are stored, according to receipts.
+    pub fn handed(&self) -> u64
+        ensures { result ≡ self.now.core.half.handed }
+    {
+        self.core.handed()
+    }
+
+    /// Whether records wait to be taken.
+    pub fn is_waiting(&self) -> bool
+        ensures { MatchBool result (self.now.core.taken < self.now.core.half.log.made) (self.now.core.half.log.made ≤ self.now.core.taken) }
+    {
+        self.core.is_waiting()
+    }
+
+    /// How many records the epoch log has.
+    pub fn log_length(&self) -> u64
+        ensures { result ≡ self.now.core.half.log.length }
+    {
+        self.core.log_length()
+    }
+}
+
+/// Notes on a session's card that it made a call, after which there are `after` records, all of which its ticket's
+/// reply saw: one of its own, which the book counts, or none.
+fn note_call<L: Founding>(
+    own_state: &mut SessionState<L>,
+    book: &mut Book<L>,
+    before: u64,
+    after: usize,
+    call: &Call,
+    ticket: &Ticket,
+)
+    requires { 0 < own_state.old.share.parts }
+    ensures given { own_state.new.tickets.numbers ≡ own_state.old.tickets.numbers ++ after ∷ [] }
+    ensures same { (own_state.new.number ≡ own_state.old.number) × (own_state.new.acknowledged ≡ own_state.old.acknowledged) × (own_state.new.share.parts ≡ own_state.old.share.parts) }
+    ensures recorded { before < after → (own_state.new.space ≡ own_state.old.space) × (own_state.new.places.numbers ≡ own_state.old.places.numbers ++ before ∷ [])
+        × (own_state.new.share.amount ≡ own_state.old.share.amount + 1) × (book.new.total ≡ book.old.total + 1) }
+    ensures answered { after ≤ before → (own_state.new.space ≡ space_after own_state.old.space call.now ticket.now.answer) × (own_state.new.places.numbers ≡ own_state.old.places.numbers)
+        × (own_state.new.share.amount ≡ own_state.old.share.amount) × (book.new.total ≡ book.old.total) }
+{
+    let tickets = std::mem::replace(&mut own_state.tickets, Tag::empty());
+    own_state.tickets = with_place(tickets, after as u64);
+    if before < after as u64 {
+        let places = std::mem::replace(&mut own_state.places, Tag::empty());
+        own_state.places = with_place(places, before);
+        book.add(&mut own_state.share, 1);
+    } else if ticket.is_success() {
+        own_state.space = call.attached_by(own_state.space);
+    }
+}
+
+/// Adds one number to a ghost list of numbers. It does nothing when it runs.
+fn with_place(places: Tag, place: u64) -> Tag
+    ensures { result.numbers ≡ places.numbers ++ place ∷ [] }
+{
+    let placing = Placing { places, place };
+    let tag = Tag::of::<Placing, OneMore>(&placing);
+    let Placing {
+        places: _,
+        place: _,
+    } = placing;
+    tag
+}
+
+/// Numbers, and one more.
+struct Placing {
+    places: Tag,
+    place: u64,
+}
+
+struct OneMore;
+
+impl Names<Placing> for OneMore {
+    ghost use Rattle.std.specs.Prelude.{◌∷◌, [], ◌++◌};
+
+    ghost numbers = { λ p. p.places.numbers ++ p.place ∷ [] };
+}

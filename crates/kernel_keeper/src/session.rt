@@ -1,0 +1,125 @@
+ghost use Rattle.std.specs.Prelude.{◌≡◌, ◌⊎◌, ◌+◌, ◌≤◌, ◌<◌, ◌-◌, Some, length, option_map, slice_get, IfOk, IfErr, MatchOption, OnOk, OnErr};
+ghost use Rattle.codes.specs.declared.limits.TheConstants.{MAX_FRAME_CONTENT};
+ghost use Rattle.ipc_model.specs.history.History.{looked, redemption};
+ghost use Rattle.ipc_model.specs.encodings.Encodings.{reply_encoding};
+ghost use Rattle.kernel_keeper.specs.Tokens.{Did, HasRead};
+
+use boxcar::tag::Tag;
+use history::{Founding, Past};
+use ipc_model::{Record, Reply};
+use std::alloc::AllocError;
+use std::marker::Model;
+use std::sync::ledger::Share;
+use system::Ticket;
+
+/// A session without what it has seen.
+#[derive(Drop)]
+pub(crate) struct SessionState<L: Founding> {
+    pub(crate) number: u32,
+    pub(crate) space: u32,
+    pub(crate) acknowledged: u64,
+
+    // Ghost: for each ticket that its calls were given, how many records its reply saw, and where its own records
+    // stand. The share's amount counts these.
+    pub(crate) tickets: Tag,
+    pub(crate) places: Tag,
+    pub(crate) share: Share<L>,
+}
+
+/// A session: the token of all that its task has seen of the history. Each call consumes it and returns it with what
+/// was seen.
+#[derive(Drop)]
+pub struct Session<L: Founding> {
+    pub(crate) own_state: SessionState<L>,
+    pub(crate) past: Past<L>,
+}
+
+impl<L: Founding> Model for Session<L> {
+    ghost use Rattle.std.specs.Prelude.{◌<◌, length};
+    ghost use Rattle.kernel_keeper.specs.Tokens.{SessionValue, IsSession, session_code, session_of};
+
+    ghost Value = { SessionValue };
+
+    ghost coded = { session_code };
+
+    ghost view = { λ s. session_of s.own_state.number s.own_state.space s.own_state.acknowledged s.own_state.tickets.numbers s.own_state.places.numbers s.past };
+
+    ghost invariant = { λ s. IsSession L.base (session_of s.own_state.number s.own_state.space s.own_state.acknowledged s.own_state.tickets.numbers s.own_state.places.numbers s.past) s.own_state.share.amount × (0 < s.own_state.share.parts) };
+}
+
+impl<L: Founding> Session<L> {
+    /// Its number, which no other session of its history has.
+    pub fn number(&self) -> u32
+        ensures { result ≡ self.now.number }
+    {
+        self.own_state.number
+    }
+
+    /// The space that its task is attached to.
+    pub fn space(&self) -> u32
+        ensures { result ≡ self.now.task.space }
+    {
+        self.own_state.space
+    }
+
+    /// How many records of the history it has seen.
+    pub fn seen(&self) -> usize
+        ensures { result ≡ self.now.task.seen }
+    {
+        self.past.len()
+    }
+
+    /// How many records of the history were acknowledged to its task: the most that a redeemed reply saw.
+    pub fn acknowledged(&self) -> u64
+        ensures { result ≡ self.now.task.acknowledged }
+    {
+        self.own_state.acknowledged
+    }
+
+    /// The reply of a ticket of this session, if its call saw only the first `stored` records of the history; else the
+    /// ticket comes back.
+    pub fn redeem(self, ticket: Ticket, stored: u64) -> (Self, Result<Reply, Ticket>)
+        ensures redeemed { IfOk result.1 (λ reply. (reply ≡ ticket.answer) × Did L.base self (redemption self.task ticket.seen) result.0) }
+        ensures stored { IfOk result.1 (λ reply. ticket.seen ≤ stored) }
+        ensures fits { IfOk result.1 (λ reply. length (reply_encoding reply) ≤ MAX_FRAME_CONTENT) }
+        ensures back { IfErr result.1 (λ kept. (kept ≡ ticket) × (result.0 ≡ self)) }
+        ensures early { OnErr result.1 ((self.task.seen < ticket.seen) ⊎ (stored < ticket.seen)) }
+    {
+        let mut session = self;
+        let seen = ticket.seen();
+        if seen > session.past.len() as u64 {
+            return (session, Err(ticket));
+        }
+        match ticket.redeem(stored) {
+            Ok(reply) => {
+                session.own_state.acknowledged = session.own_state.acknowledged.max(seen);
+                (session, Ok(reply))
+            }
+            Err(ticket) => (session, Err(ticket)),
+        }
+    }
+
+    /// Shows that a session that has seen no more has looked. It does nothing else.
+    pub fn show_looked(&self)
+        ensures { Did L.base self.now looked self.now }
+    {
+        let _ = &self.own_state;
+    }
+
+    /// Reads the records of the entry block that it saw last. It takes no lock. If an allocation fails, what was read
+    /// stays.
+    pub fn read(&mut self) -> Result<(), AllocError>
+        ensures ok { OnOk result (HasRead self.old (length self.old.past.entries - self.old.past.start) self.new) }
+        ensures err { OnErr result (HasRead self.old self.new.past.read self.new × (self.old.past.read ≤ self.new.past.read)) }
+    {
+        self.past.read()
+    }
+
+    /// The record at a place of the entry block that it saw last, if it was read. It takes neither lock nor memory.
+    pub fn record(&self, at: usize) -> Option<&Record>
+        ensures { MatchOption result (self.now.past.read ≤ at)
+            (λ r. (at < self.now.past.read) × (option_map (λ e. e.record) (slice_get self.now.past.entries (self.now.past.start + at)) ≡ Some r.now)) }
+    {
+        self.past.record(at)
+    }
+}

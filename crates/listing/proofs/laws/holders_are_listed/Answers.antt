@@ -1,0 +1,5 @@
+use Rattle.listing.proofs.Told.{holders_are_listed}
+use Rattle.listing.proofs.laws.holders_are_listed.Goals as goal
+
+pub returns : goal.returns
+returns c = holders_are_listed

@@ -1,0 +1,14 @@
+//! What a reader reads of a store alongside the server that has it, over moments of the store: a law and its terms.
+#![tactic(auto)]
+
+ghost use Rattle.std.specs.Prelude.{◌+◌, ◌≤◌};
+ghost use Rattle.disk.specs.Slots.{Slots};
+ghost use Rattle.still_disk.specs.Live.{IsReading};
+ghost use Rattle.live_reading.specs.Moments.{Later, Moment};
+ghost use Rattle.live_reading.specs.Standing.{StandFor};
+
+/// Copies of the slots that were made between two readings of their fronts which agree stand for a state that the store
+/// had meanwhile, if at most one epoch ended during that time.
+pub fn copies_stand()
+    ensures { (begun ended : Moment) (copies : Slots) → IsReading Later (λ m. m.slots) begun ended copies → ended.epoch ≤ begun.epoch + 1 → StandFor begun ended copies }
+{}

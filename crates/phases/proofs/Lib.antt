@@ -1,8 +1,0 @@
-pub mod Appends
-mod Beside
-mod Imaging
-pub mod Images
-mod Rolling
-pub mod Rolls
-pub mod Stops
-pub mod Passed

@@ -1,0 +1,31 @@
+-- Frames of replies, and what they are expected to be.
+use Rattle.std.specs.Prelude.{◌≡◌, ℕ, List, ◌++◌, length}
+use Rattle.ipc_model.specs.declared.call.Reply.{Reply}
+use Rattle.ipc_model.specs.declared.call.Reply.TheVariants as reply
+use Rattle.script_runner.specs.declared.row.Wanted.{Wanted}
+use Rattle.script_runner.specs.declared.row.Wanted.TheVariants as wanted
+use Rattle.words.specs.Words.{word}
+
+-- a reply's frame: its length, the call's number, the return code, and the results
+pub record HasCode (frame : List ℕ) (code : ℕ) : Type 0 where
+  pub content_length : ℕ
+  pub number : ℕ
+  pub results : List ℕ
+  pub is : frame ≡ word content_length ++ (word number ++ (word code ++ results))
+
+-- the frame is an expected one
+abbrev pub Meets : Wanted → List ℕ → Type 0
+Meets (wanted.Frame frame) answer = answer ≡ frame.items
+Meets (wanted.Code code) answer = HasCode answer code
+
+-- the frame is the expected one, byte for byte
+abbrev pub IsSame : Wanted → List ℕ → Type 0
+IsSame (wanted.Frame frame) answer = answer ≡ frame.items
+IsSame (wanted.Code code) answer = ⊥
+
+-- how many names, members or bytes of a message a reply has
+abbrev pub item_count : Reply → ℕ
+item_count (reply.Names names) = length names
+item_count (reply.SetStatus members) = length members
+item_count (reply.Message code size member message) = length message
+item_count _ = 0

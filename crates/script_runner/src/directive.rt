@@ -1,0 +1,146 @@
+ghost use Rattle.std.specs.Prelude.{◌≡◌, ◌≤◌, length, codes, ◌++◌, ◌∷◌, IfSome};
+ghost use Rattle.std.specs.List.{prefix_len};
+ghost use Rattle.script_runner.specs.Lines.{encoding_length, before_comment, is_space, after_spaces, word_length, first_word, after_first, IsDirective};
+
+use std::str;
+
+/// What a line of a script is, by its first word.
+#[derive(Clone, Copy)]
+pub enum Directive<'a> {
+    /// Nothing, or a comment.
+    Nothing,
+    /// The script is only run straight.
+    Straight,
+    /// A new connection, whose task is attached to space 1.
+    Connect,
+    /// The length of segment 0.
+    Slot { length: u64 },
+    /// The hexadecimal digits of a frame's content and of its reply's.
+    Frame { sent: &'a [u8], wanted: &'a [u8] },
+    /// How many times a call is made, and the call, with its return code if it is refused.
+    Repeat { times: u32, call: &'a [u8] },
+    /// A call and its answer, or a line that can't be read.
+    Call,
+}
+
+/// How many bytes come before a comment.
+fn encoding_length(line: &[u8]) -> usize
+    ensures value { result ≡ encoding_length line.now }
+    ensures within { result ≤ length line.now }
+{
+    line.iter().take_while(|byte| **byte != b'#').count()
+}
+
+/// How many spaces come first.
+fn count_spaces(line: &[u8]) -> usize
+    ensures value { result ≡ prefix_len is_space line.now }
+    ensures within { result ≤ length line.now }
+{
+    line.iter().take_while(|byte| **byte <= b' ').count()
+}
+
+/// How many bytes the first word has.
+fn word_length(text: &[u8]) -> usize
+    ensures value { result ≡ word_length text.now }
+    ensures within { result ≤ length text.now }
+{
+    text.iter().take_while(|byte| **byte > b' ').count()
+}
+
+/// What comes before a comment.
+fn without_comment(line: &[u8]) -> &[u8]
+    ensures { result.now ≡ before_comment line.now }
+{
+    let (text, _) = line.split_at(encoding_length(line));
+    text
+}
+
+/// A line without the spaces in front.
+fn without_spaces(line: &[u8]) -> &[u8]
+    ensures { result.now ≡ after_spaces line.now }
+{
+    let (_, text) = line.split_at(count_spaces(line));
+    text
+}
+
+/// The first word of a line, which is empty if there is none, and what stands after it.
+fn take_word(line: &[u8]) -> (&[u8], &[u8])
+    ensures word { result.0.now ≡ first_word line.now }
+    ensures rest { result.1.now ≡ after_first line.now }
+{
+    let text = without_spaces(line);
+    text.split_at(word_length(text))
+}
+
+/// The number that a word writes in decimal digits.
+fn number_of(word: &[u8]) -> Option<u32> {
+    let Ok(word) = str::from_utf8(word) else {
+        return None;
+    };
+    word.parse::<u32>().ok()
+}
+
+/// The length of segment 0 that stands after the word `slot`.
+fn slot_length(rest: &[u8]) -> Option<u64>
+    ensures { IfSome result (λ _. first_word rest.now ≡ codes "segment0") }
+{
+    let (name, rest) = take_word(rest);
+    if name != b"segment0".as_slice() {
+        return None;
+    }
+    let (length, _) = take_word(rest);
+    Some(u64::from(number_of(length)?))
+}
+
+/// What comes before the first `=`, and what comes after it.
+fn sides(text: &[u8]) -> Option<(&[u8], &[u8])>
+    ensures { IfSome result (λ r. text.now ≡ r.0.now ++ 61 ∷ r.1.now) }
+{
+    let count = text.iter().take_while(|byte| **byte != b'=').count();
+    let (front, rest) = text.split_at(count);
+    match rest {
+        [b'=', behind @ ..] => Some((front, behind)),
+        _ => None,
+    }
+}
+
+/// How many times a call is made, and the call, from what stands after the word `repeat`.
+fn repeated(rest: &[u8]) -> Option<(u32, &[u8])>
+    ensures { IfSome result (λ r. r.1.now ≡ after_first rest.now) }
+{
+    let (times, call) = take_word(rest);
+    Some((number_of(times)?, call))
+}
+
+/// What a line is. One that begins as a directive and can't be read as one counts as a call, which it isn't either.
+pub fn directive_of(line: &[u8]) -> Directive<'_>
+    ensures { IsDirective result (before_comment line.now) }
+{
+    let line = without_comment(line);
+    let (word, rest) = take_word(line);
+    if word.is_empty() {
+        return Directive::Nothing;
+    }
+    if word == b"straight".as_slice() {
+        return Directive::Straight;
+    }
+    if word == b"connect".as_slice() {
+        return Directive::Connect;
+    }
+    if word == b"slot".as_slice()
+        && let Some(length) = slot_length(rest)
+    {
+        return Directive::Slot { length };
+    }
+    if word == b"frame".as_slice()
+        && let Some((sent, wanted)) = sides(rest)
+    {
+        return Directive::Frame { sent, wanted };
+    }
+    if word == b"repeat".as_slice()
+        && let Some((times, call)) = repeated(rest)
+    {
+        return Directive::Repeat { times, call };
+    }
+    Directive::Call
+}

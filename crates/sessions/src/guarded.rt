@@ -1,0 +1,268 @@
+ghost use Rattle.std.specs.Prelude.{◌≡◌, IfOk, OnErr};
+ghost use Rattle.ipc_model.specs.history.History.{called, looked};
+ghost use Rattle.kernel_keeper.specs.Tokens.{Did};
+
+use crate::seat::Bell;
+use crate::waiters::{Waiter, Waiters};
+use codes::{KernReturn, MAX_RECORDS};
+use history::Founding;
+use ipc_model::Call;
+use journal::StoreFault;
+use kernel_keeper::{KernelKeeper, Load, Session};
+use std::alloc::Global;
+use store_half::Receipt;
+use system::{SubmitFault, Ticket};
+use waiting::Places;
+
+/// Up to this many records are few, so that one more in their batch is worth a wait.
+const FEW_RECORDS: u64 = 4;
+
+/// How a wait for a turn ended.
+#[derive(Clone, Copy)]
+pub enum Waited {
+    /// The turn has come.
+    Turn,
+    /// The time is over.
+    TimeOver,
+    /// Nothing is stored any more.
+    Ended,
+}
+
+/// What lies under the lock of the kernel: the keeper of the history, and how the loops stand.
+#[derive(Drop)]
+pub(crate) struct KernelGuarded<L: Founding> {
+    pub(crate) keeper: KernelKeeper<L>,
+
+    // How many records were made since some were last taken.
+    fresh: u64,
+
+    // The places that the last call named, and the calls that wait at places.
+    places: Places,
+    waiters: Waiters,
+
+    // What a loop met, and whether the loops are to end.
+    fault: Option<StoreFault>,
+    is_stopping: bool,
+
+    // Whether nothing is stored any more; and, if a loop makes images, how many records an epoch log has when it does,
+    // so that a full log is followed by another.
+    is_ended: bool,
+    image_records: Option<u64>,
+}
+
+impl<L: Founding> KernelGuarded<L> {
+    /// Begins with no loop.
+    pub(crate) fn new(alloc: Global, keeper: KernelKeeper<L>) -> Self {
+        KernelGuarded {
+            keeper,
+            fresh: 0,
+            places: Places::none(alloc),
+            waiters: Waiters::none(alloc),
+            fault: None,
+            is_stopping: false,
+            is_ended: false,
+            image_records: None,
+        }
+    }
+
+    /// Makes a call of a session, as `KernelKeeper::submit` does, and gives their turn to waiting calls that may find
+    /// something to do now. A call that finds nothing is in line from then on, if it has a bell.
+    pub(crate) fn submit(
+        &mut self,
+        session: Session<L>,
+        call: &Call,
+        bell: Option<&Bell>,
+    ) -> (Session<L>, Result<Ticket, SubmitFault>)
+        ensures given { IfOk result.1 (λ ticket. Did L.base session (called call.now ticket.answer) result.0 × (ticket.seen ≡ result.0.task.seen)) }
+        ensures err { OnErr result.1 (Did L.base session looked result.0) }
+    {
+        let waiter = self.waiters.take(session.number());
+        // If no call waits, no place needs to be looked for.
+        if self.waiters.are_none() {
+            self.places.add_all();
+        } else {
+            self.places.clear();
+        }
+        let before = self.keeper.made();
+        let (session, made) = self.keeper.submit(session, call, &mut self.places);
+        if before < self.keeper.made() {
+            drop(waiter);
+            self.fresh = self.fresh.saturating_add(1);
+            self.waiters.wake(&self.places);
+        } else if let Some(bell) = bell.filter(|_| finds_nothing(&made)) {
+            self.put_in_line(&session, call, bell, waiter);
+        } else {
+            self.waiters.pass_on(waiter);
+        }
+        (session, made)
+    }
+
+    /// Puts a session's call in line for its turn: where it stood before, if it did. If an allocation fails, it is in
+    /// no line.
+    fn put_in_line(
+        &mut self,
+        session: &Session<L>,
+        call: &Call,
+        bell: &Bell,
+        waiter: Option<Waiter>,
+    ) {
+        let Some(places) = self.keeper.places_of_call(session, call) else {
+            drop(waiter);
+            return;
+        };
+        let number = session.number();
+        let _ = match waiter {
+            Some(waiter) => self.waiters.add_again(number, waiter, places),
+            None => self.waiters.add(number, is_send(call), places, bell),
+        };
+    }
+
+    /// A session's call waits no longer, and isn't made again.
+    pub(crate) fn leave_line(&mut self, session: u32) {
+        let waiter = self.waiters.take(session);
+        self.waiters.pass_on(waiter);
+        self.waiters.ring();
+    }
+
+    /// Gives a session's waiting call its turn.
+    pub(crate) fn give_turn(&mut self, session: u32) {
+        self.waiters.give_turn(session);
+        self.waiters.ring();
+    }
+
+    /// Takes the records that wait to be stored, as `KernelKeeper::take` does. `None` also if an allocation fails.
+    pub(crate) fn take(&mut self) -> Option<Load<L>> {
+        self.fresh = 0;
+        self.keeper.take().ok().flatten()
+    }
+
+    /// Whether only a few records wait to be stored, and a turn has come that wasn't taken yet and may make one more.
+    pub(crate) fn may_soon_have_more(&self) -> bool {
+        self.fresh <= FEW_RECORDS && self.waiters.are_due()
+    }
+
+    /// Whether a turn has come that wasn't taken yet.
+    pub(crate) fn has_turns_due(&self) -> bool {
+        self.waiters.are_due()
+    }
+
+    /// Whether a session's call waits, or nothing is stored any more, so that none does.
+    pub(crate) fn is_waiting(&self, session: u32) -> bool {
+        self.is_closed() || self.waiters.has(session)
+    }
+
+    /// Whether a session's call waits for its turn.
+    pub(crate) fn is_in_line(&self, session: u32) -> bool {
+        !self.is_closed() && self.waiters.is_in_line(session)
+    }
+
+    /// How the wait of a session's call for its turn ends.
+    pub(crate) fn waited(&self, session: u32) -> Waited {
+        if self.is_closed() {
+            return Waited::Ended;
+        }
+        if self.waiters.is_in_line(session) {
+            Waited::TimeOver
+        } else {
+            Waited::Turn
+        }
+    }
+
+    /// Whether nothing is stored any more.
+    fn is_closed(&self) -> bool {
+        self.fault.is_some() || self.is_ended
+    }
+
+    /// Learns that the load that was out is stored. Returns how many records are.
+    pub(crate) fn learn(&mut self, receipt: Receipt) -> u64 {
+        self.keeper.durable(receipt);
+        self.keeper.handed()
+    }
+
+    /// The bell of a call whose turn has come, if it hasn't been rung yet.
+    pub(crate) fn take_rung(&mut self) -> Option<Bell> {
+        self.waiters.take_rung()
+    }
+
+    /// What a loop met.
+    pub(crate) fn fault(&self) -> Option<StoreFault>
+        ensures { result ≡ self.now.fault }
+    {
+        self.fault
+    }
+
+    /// Whether nothing waits to be stored, and the loops go on.
+    pub(crate) fn is_idle(&self) -> bool {
+        !self.is_stopping && self.fault.is_none() && !self.keeper.is_waiting()
+    }
+
+    /// Whether the loop that stores is to end: after a fault, or once nothing waits any more.
+    pub(crate) fn is_over(&self) -> bool {
+        self.fault.is_some() || (self.is_stopping && !self.keeper.is_waiting())
+    }
+
+    /// Whether the epoch log has fewer records than these, and the loops go on.
+    pub(crate) fn is_short(&self, records: u64) -> bool {
+        !self.is_ending() && self.keeper.log_length() < records
+    }
+
+    /// Whether the loop that makes images has something to do.
+    pub(crate) fn has_image_due(&self) -> bool {
+        match self.image_records {
+            Some(records) => records <= self.keeper.log_length(),
+            None => false,
+        }
+    }
+
+    /// Whether the loop that makes images is to end.
+    pub(crate) fn is_ending(&self) -> bool {
+        self.fault.is_some() || self.is_stopping
+    }
+
+    /// Whether the epoch log is full, and the next epoch will begin.
+    pub(crate) fn awaits_epoch(&self) -> bool {
+        self.image_records.is_some() && !self.is_ending() && self.keeper.log_length() >= MAX_RECORDS
+    }
+
+    /// A loop makes images from now on, each once an epoch log has this many records.
+    pub(crate) fn begin_images(&mut self, records: u64) {
+        self.image_records = Some(records);
+    }
+
+    /// Nothing is stored any more.
+    pub(crate) fn end(&mut self) {
+        self.is_ended = true;
+        self.waiters.wake_all();
+        self.waiters.ring();
+    }
+
+    /// Tells the loops to end.
+    pub(crate) fn stop(&mut self) {
+        self.is_stopping = true;
+    }
+
+    /// A loop met a fault. The first one stays.
+    pub(crate) fn fail(&mut self, fault: StoreFault) {
+        self.fault = self.fault.or(Some(fault));
+        self.waiters.wake_all();
+        self.waiters.ring();
+    }
+}
+
+/// Whether a call was answered that it found nothing to do.
+fn finds_nothing(made: &Result<Ticket, SubmitFault>) -> bool {
+    match made {
+        Ok(ticket) => match ticket.message_code() {
+            Some(KernReturn::SendTimedOut | KernReturn::RcvTimedOut) => true,
+            _ => false,
+        },
+        Err(_) => false,
+    }
+}
+
+fn is_send(call: &Call) -> bool {
+    match call {
+        Call::Send { .. } => true,
+        _ => false,
+    }
+}

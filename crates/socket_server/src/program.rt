@@ -1,0 +1,191 @@
+ghost use Rattle.std.specs.Prelude.{◌≡◌, ◌⊎◌, IfErr, OnErr, OnOk};
+ghost use Rattle.std.specs.Arc.{arc_value};
+ghost use Rattle.std.specs.Io.KnownBytes.{Appends, Keeps};
+ghost use Rattle.socket_server.specs.Reporting.{HasReported, ready_line};
+ghost use Rattle.wire.specs.Writing.{AppendsPart};
+
+use crate::bound::bind;
+use crate::threads::{accept, start_loops};
+use crate::watch::start_watch;
+use codes::MAX_RECORDS;
+use disk::Disk;
+use journal::StoreFault;
+use server::SocketEnd;
+use sessions::{EntryBlock, Founding, MOST_SESSIONS, OpenGate, Shared};
+use std::alloc::{AllocGlobal, Global};
+use std::io::Write;
+use std::marker::Brand;
+use std::net::{Net, TcpListener, TcpStream};
+use std::os::unix::net::UnixListener;
+use std::rt::Files;
+use std::sync::ledger::Blank;
+use std::sync::{Arc, Wait};
+use std::thread::Threads;
+use std::time::Clock;
+use system::Opened;
+use wire::{WireFault, write_bytes};
+
+/// Serves a store that was opened after a lock (`server::open_locked`) at the socket's path, as `serve_opened` does,
+/// and keeps the lock until that has ended, which happens only after a fault. If the store wasn't opened, the run ends
+/// that way, and nothing is written.
+pub fn serve_locked<
+    K: Drop,
+    D: Disk + Drop + Send + 'static,
+    R: Threads
+        + Wait
+        + Net<Listener = TcpListener, Stream = TcpStream>
+        + Files
+        + Clock
+        + AllocGlobal
+        + Copy
+        + Send
+        + Sync
+        + 'static,
+    O: Write,
+>(rt: R, path: &str, locked: Result<(K, Opened<D>), SocketEnd>, output: &mut O) -> SocketEnd
+    ensures ended { IfErr locked (λ end. (result ≡ end) × Keeps (O.contents output.old) (O.contents output.new)) }
+    ensures acknowledged { OnOk locked (HasReported (O.contents output.old) (O.contents output.new) result) }
+{
+    match locked {
+        Ok((lock, opened)) => {
+            let end = serve_opened(rt, path, opened, output);
+            drop(lock);
+            end
+        }
+        Err(end) => end,
+    }
+}
+
+/// Binds the socket's path, says on the output that it is ready, and serves an opened store there, each connection in a
+/// thread of its own as a session of the store's history. It ends only after a fault.
+pub fn serve_opened<
+    D: Disk + Drop + Send + 'static,
+    R: Threads
+        + Wait
+        + Net<Listener = TcpListener, Stream = TcpStream>
+        + Files
+        + Clock
+        + AllocGlobal
+        + Copy
+        + Send
+        + Sync
+        + 'static,
+    O: Write,
+>(rt: R, path: &str, opened: Opened<D>, output: &mut O) -> SocketEnd
+    ensures acknowledged { HasReported (O.contents output.old) (O.contents output.new) result }
+{
+    let (listener, block, path) = match prepare(&rt, path) {
+        Ok(prepared) => prepared,
+        Err(end) => {
+            drop(opened);
+            return end;
+        }
+    };
+    let blank = Blank::new(u64::from(MOST_SESSIONS));
+    serve_history::<Brand, _, _, _>(rt, path, &listener, opened, block, blank, output)
+}
+
+/// The listener at a socket's path, the entry block of the history's first entries, and the path.
+fn prepare<R: Files + Net + AllocGlobal>(
+    rt: &R,
+    path: &str,
+) -> Result<(UnixListener, Arc<EntryBlock, Global>, String), SocketEnd>
+    ensures err { IfErr result (λ end. (end ≡ SocketEnd.Socket) ⊎ (end ≡ SocketEnd.Store StoreFault.NoMemory)) }
+{
+    let no_memory = SocketEnd::Store(StoreFault::NoMemory);
+    let listener = bind(rt, path).ok_or(SocketEnd::Socket)?;
+    let block = first_block(rt.alloc()).ok_or(no_memory)?;
+    let path = String::from_str(rt.alloc(), path).or(Err(no_memory))?;
+    Ok((listener, block, path))
+}
+
+/// The entry block of the history's first entries.
+fn first_block(alloc: Global) -> Option<Arc<EntryBlock, Global>> {
+    let block = EntryBlock::new(alloc, MAX_RECORDS as usize).ok()?;
+    Arc::new(alloc, block).ok()
+}
+
+/// Serves a history that begins with an opened store, until the store fails.
+fn serve_history<
+    L: Founding + Send + Sync + 'static,
+    D: Disk + Drop + Send + 'static,
+    R: Threads
+        + Wait
+        + Net<Listener = TcpListener, Stream = TcpStream>
+        + Clock
+        + AllocGlobal
+        + Copy
+        + Send
+        + Sync
+        + 'static,
+    O: Write,
+>(
+    rt: R,
+    path: String,
+    listener: &UnixListener,
+    opened: Opened<D>,
+    block: Arc<EntryBlock, Global>,
+    blank: Blank,
+    output: &mut O,
+) -> SocketEnd
+    requires base { opened.kernel ≡ L.base }
+    requires block { arc_value block ≡ L.first }
+    requires blank { (blank.name ≡ L.name) × (blank.parts ≡ L.parts) × (L.parts ≡ MOST_SESSIONS) }
+    ensures acknowledged { HasReported (O.contents output.old) (O.contents output.new) result }
+{
+    let Ok(shared) = Shared::<L, D, OpenGate>::new(rt.alloc(), opened, block, blank, OpenGate)
+    else {
+        return SocketEnd::Store(StoreFault::NoMemory);
+    };
+    let Ok(shared) = Arc::new(rt.alloc(), shared) else {
+        return SocketEnd::Store(StoreFault::NoMemory);
+    };
+    serve_shared(rt, path.as_str(), listener, &shared, output)
+}
+
+/// Starts the loops and the watcher, says that connections are accepted, and serves them until the store fails.
+fn serve_shared<
+    L: Founding + Send + Sync + 'static,
+    D: Disk + Drop + Send + 'static,
+    R: Threads
+        + Wait
+        + Net<Listener = TcpListener, Stream = TcpStream>
+        + Clock
+        + AllocGlobal
+        + Copy
+        + Send
+        + Sync
+        + 'static,
+    O: Write,
+>(
+    rt: R,
+    path: &str,
+    listener: &UnixListener,
+    shared: &Arc<Shared<L, D, OpenGate>, Global>,
+    output: &mut O,
+) -> SocketEnd
+    ensures acknowledged { HasReported (O.contents output.old) (O.contents output.new) result }
+{
+    if start_loops(rt, rt.alloc(), shared, path).is_err() {
+        return SocketEnd::Socket;
+    }
+    let Ok(watch) = start_watch(rt, shared) else {
+        return SocketEnd::Socket;
+    };
+    if report_ready(output).is_err() {
+        return SocketEnd::Socket;
+    }
+    SocketEnd::Store(accept(rt, listener, shared, &watch))
+}
+
+/// Says that connections are accepted.
+fn report_ready<O: Write>(output: &mut O) -> Result<(), WireFault>
+    ensures ok { OnOk result (Appends (O.contents output.old) (O.contents output.new) ready_line) }
+    ensures part { OnErr result (AppendsPart (O.contents output.old) (O.contents output.new) ready_line) }
+{
+    write_bytes(output, b"machipcd: ready\n")?;
+    if output.flush().is_err() {
+        return Err(WireFault::Device);
+    }
+    Ok(())
+}

@@ -1,0 +1,127 @@
+//! The threads: one that stores, one that makes images, one for each connection.
+
+use crate::watch::Watch;
+use codes::CHECKPOINT_RECORDS;
+use disk::Disk;
+use frame_service::serve_asked;
+use journal::StoreFault;
+use sessions::{Founding, OpenGate, Seat, Shared};
+use socket_session::{Connected, SocketPeer};
+use std::alloc::{AllocGlobal, Global};
+use std::io::{self, BufReader, BufWriter};
+use std::net::{Net, Shutdown, TcpListener, TcpStream};
+use std::os::unix::net::{UnixListener, UnixStream};
+use std::sync::{Arc, Wait};
+use std::thread::{self, Threads};
+use std::time::{Clock, Duration};
+
+/// How many seconds a peer may leave unread what it was sent before its connection is closed.
+const PATIENCE_SECONDS: u64 = 5;
+
+/// How many bytes of a connection are read at once.
+const READ_BYTES: usize = 65_536;
+
+/// Serves each connection in a thread of its own, until the store fails.
+pub(crate) fn accept<
+    L: Founding + Send + Sync + 'static,
+    D: Disk + Drop + Send + 'static,
+    R: Threads + Wait + AllocGlobal + Clock + Copy + Send + Sync + 'static,
+>(
+    rt: R,
+    listener: &UnixListener,
+    shared: &Arc<Shared<L, D, OpenGate>, Global>,
+    watch: &Arc<Watch, Global>,
+) -> StoreFault {
+    for stream in listener.incoming() {
+        if let Some(fault) = shared.fault(&rt) {
+            return fault;
+        }
+        match stream {
+            Ok(stream) => begin(rt, stream, shared, watch),
+            // No descriptor is left: wait for one.
+            Err(_) => thread::sleep(&rt, Duration::from_millis(20)),
+        }
+    }
+    StoreFault::Failed
+}
+
+/// Begins to serve a connection. If there is no session, thread or memory for it, it is closed.
+fn begin<
+    L: Founding + Send + Sync + 'static,
+    D: Disk + Drop + Send + 'static,
+    R: Threads + Wait + Clock + AllocGlobal + Copy + Send + Sync + 'static,
+>(
+    rt: R,
+    stream: UnixStream,
+    shared: &Arc<Shared<L, D, OpenGate>, Global>,
+    watch: &Arc<Watch, Global>,
+) {
+    let (Ok(mine), Ok(watch)) = (Arc::try_clone(shared), Arc::try_clone(watch)) else {
+        return;
+    };
+    let _ = thread::spawn(&rt, move || {
+        let _ = serve_stream(&rt, &stream, &mine, &watch);
+        let _ = stream.shutdown(Shutdown::Both);
+    });
+}
+
+/// Serves a connection to its end.
+fn serve_stream<L: Founding, D: Disk, R: Wait + Clock + AllocGlobal>(
+    rt: &R,
+    stream: &UnixStream,
+    shared: &Shared<L, D, OpenGate>,
+    watch: &Watch,
+) -> io::Result<()> {
+    stream.set_write_timeout(Some(Duration::from_secs(PATIENCE_SECONDS)))?;
+    let mut reader = BufReader::with_capacity(rt.alloc(), READ_BYTES, stream)?;
+    let mut writer = BufWriter::new(rt.alloc(), stream)?;
+    let Ok(session) = shared.session(rt) else {
+        return Ok(());
+    };
+    let peer = SocketPeer::new(stream, watch.add(stream, session.number()));
+    let seat = Seat::new(rt.alloc(), peer)?;
+    let mut asker = Connected::new(rt, shared, seat, session);
+    if serve_asked(rt.alloc(), &mut reader, &mut writer, &mut asker).is_err() {
+        // What the writer still holds then fails at once when it is dropped, and isn't waited for.
+        return stream.shutdown(Shutdown::Both);
+    }
+    Ok(())
+}
+
+/// Starts the loops that store and make images. Returns whether both run.
+pub(crate) fn start_loops<
+    L: Founding + Send + Sync + 'static,
+    D: Disk + Drop + Send + 'static,
+    R: Threads
+        + Wait
+        + Net<Listener = TcpListener, Stream = TcpStream>
+        + Clock
+        + Copy
+        + Send
+        + Sync
+        + 'static,
+>(
+    rt: R,
+    alloc: Global,
+    shared: &Arc<Shared<L, D, OpenGate>, Global>,
+    path: &str,
+) -> io::Result<()> {
+    let mine = Arc::try_clone(shared)?;
+    let own = String::from_str(alloc, path)?;
+    thread::spawn(&rt, move || {
+        mine.flusher(&rt);
+        wake(&rt, own.as_str());
+    })?;
+    let mine = Arc::try_clone(shared)?;
+    let own = String::from_str(alloc, path)?;
+    thread::spawn(&rt, move || {
+        mine.checkpointer(&rt, CHECKPOINT_RECORDS);
+        wake(&rt, own.as_str());
+    })?;
+    Ok(())
+}
+
+/// Wakes the thread that accepts, which then checks whether the store failed.
+fn wake<R: Net>(rt: &R, path: &str) {
+    let _ = UnixStream::connect(rt, path);
+}

@@ -1,0 +1,162 @@
+ghost use Rattle.std.specs.Prelude.{◌≡◌, ◌≤◌, Some, length, IfOk, IfErr, IfSome, IfNone};
+ghost use Rattle.codes.specs.declared.limits.TheConstants.{MAX_FRAME_CONTENT};
+ghost use Rattle.socket_session.specs.Connecting.{LacksOne, MakesOne, AcknowledgesOne};
+ghost use Rattle.ipc_model.specs.calls.Step.{succeeded};
+ghost use Rattle.ipc_model.specs.declared.call.Call.{Call};
+ghost use Rattle.ipc_model.specs.encodings.Encodings.{reply_encoding};
+ghost use Rattle.frame_service.specs.Asking.{timed_out};
+
+use crate::patience::Patience;
+use codes::KernReturn;
+use disk::Disk;
+use frame_service::Asker;
+use ipc_model::{Call, Reply};
+use journal::StoreFault;
+use sessions::{Founding, Peer, Seat, Session, Shared, Waited};
+use std::marker::Model;
+use std::sync::Wait;
+use std::time::Clock;
+use system::Ticket;
+
+/// The caller of a connection among others: a session of a shared store.
+#[derive(Drop)]
+pub struct Connected<'a, L: Founding, D: Disk, G, R, P> {
+    rt: &'a R,
+    shared: &'a Shared<L, D, G>,
+    seat: Seat<P>,
+
+    // `None` while a call is being made.
+    session: Option<Session<L>>,
+}
+
+impl<'a, L: Founding, D: Disk, G, R, P> Model for Connected<'a, L, D, G, R, P> {
+    ghost use Rattle.std.specs.Prelude.{◌≡◌, Option, true, is_some};
+    ghost use Rattle.kernel_keeper.specs.Tokens.{SessionValue, session_code};
+    ghost use Rattle.std.specs.Coded.{coded_option};
+
+    ghost Value = { Option SessionValue };
+
+    ghost coded = { coded_option session_code };
+
+    ghost view = { λ c. c.session };
+
+    ghost invariant = { λ c. is_some c.session ≡ true };
+}
+
+impl<'a, L: Founding, D: Disk, G, R, P> Connected<'a, L, D, G, R, P> {
+    /// The caller of this session, whose calls wait at this seat, and whose task is at the other end of this
+    /// connection.
+    pub fn new(rt: &'a R, shared: &'a Shared<L, D, G>, seat: Seat<P>, session: Session<L>) -> Self
+        ensures { result ≡ Some session }
+    {
+        Connected {
+            rt,
+            shared,
+            seat,
+            session: Some(session),
+        }
+    }
+}
+
+impl<'a, L: Founding, D: Disk, G: Drop, R: Wait + Clock, P: Peer> Connected<'a, L, D, G, R, P> {
+    /// Waits as long as one wait may take. Returns whether the call's turn has come, or `None` if its task waits on.
+    /// Whether the task has gone is checked after the call's first attempt; if it goes later and is watched, its turn
+    /// comes at once.
+    fn wait_once(&self, session: &Session<L>, patience: &Patience) -> Option<bool> {
+        if self.seat.peer().is_gone() {
+            return Some(false);
+        }
+        let Some(left) = patience.left(self.rt) else {
+            return Some(false);
+        };
+        let most = if self.seat.peer().is_watched() {
+            left.time()
+        } else {
+            Some(left.until_look())
+        };
+        match self.shared.wait(self.rt, session, &self.seat, most) {
+            Waited::Turn => Some(true),
+            Waited::Ended => Some(false),
+            Waited::TimeOver => None,
+        }
+    }
+}
+
+impl<'a, L: Founding, D: Disk, G: Drop, R: Wait + Clock, P: Peer> Asker
+    for Connected<'a, L, D, G, R, P> {
+    type Ticket = Ticket;
+
+    type Patience = Patience;
+
+    ghost answer = { λ ticket. ticket.answer };
+
+    ghost makes = { MakesOne L.base };
+
+    ghost lacks = { LacksOne L.base };
+
+    ghost acknowledges = { AcknowledgesOne L.base };
+
+    ghost fails = { λ old ticket fault new. new ≡ old };
+
+    fn submit(&mut self, call: &Call, may_wait: bool) -> Option<Ticket>
+        ensures makes { IfSome result (λ ticket. MakesOne L.base self.old call.now ticket self.new) }
+        ensures lacks { IfNone result (LacksOne L.base self.old call.now self.new) }
+    {
+        let Some(session) = self.session.take() else {
+            unreachable!()
+        };
+        let (session, made) = self
+            .shared
+            .submit_for(self.rt, session, call, &self.seat, may_wait);
+        self.session = Some(session);
+        made.ok()
+    }
+
+    fn is_done(&self, ticket: &Ticket) -> bool
+        ensures { (call : Call) → result ≡ succeeded call ticket.now.answer }
+    {
+        ticket.is_success()
+    }
+
+    fn is_timed_out(&self, ticket: &Ticket) -> bool
+        ensures { result ≡ timed_out ticket.now.answer }
+    {
+        match ticket.message_code() {
+            Some(KernReturn::SendTimedOut) => true,
+            Some(KernReturn::RcvTimedOut) => true,
+            _ => false,
+        }
+    }
+
+    /// Waits until all that the ticket's call saw is stored.
+    fn redeem(&mut self, ticket: Ticket) -> Result<Reply, StoreFault>
+        ensures reply { IfOk result (λ reply. reply ≡ ticket.answer) }
+        ensures acknowledges { IfOk result (λ reply. AcknowledgesOne L.base self.old ticket self.new) }
+        ensures fits { IfOk result (λ reply. length (reply_encoding reply) ≤ MAX_FRAME_CONTENT) }
+        ensures fails { IfErr result (λ fault. self.new ≡ self.old) }
+    {
+        let Some(session) = self.session.take() else {
+            unreachable!()
+        };
+        let (session, acknowledged) = self.shared.redeem(self.rt, session, ticket);
+        self.session = Some(session);
+        acknowledged
+    }
+
+    fn patience(&self, bound: Option<u32>) -> Patience {
+        Patience::new(self.rt, bound)
+    }
+
+    /// Waits until the call's turn has come. It doesn't wait on for a task that has gone.
+    fn wait(&self, patience: &Patience) -> bool {
+        let Some(session) = &self.session else {
+            return false;
+        };
+        for _ in self.rt.forever() {
+            if let Some(is_more) = self.wait_once(session, patience) {
+                return is_more;
+            }
+        }
+        false
+    }
+}

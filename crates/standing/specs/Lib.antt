@@ -1,4 +1,0 @@
-pub mod Standing
-pub mod Slots
-pub mod Changes
-pub mod Spelled

@@ -1,0 +1,318 @@
+ghost use Rattle.std.specs.Prelude.{◌≡◌, ◌↔◌, ◌⊎◌, ◌+◌, ◌<◌, ◌≤◌, true, false, length, None, Some, IfOk, IfErr, IfSome, IfNone, MatchBool, MatchResult, OnOk, is_some};
+ghost use Rattle.codes.specs.declared.limits.TheConstants.{MAX_RECORDS};
+ghost use Rattle.disk.specs.Moments.{IsSynced, one_more};
+ghost use Rattle.disk.specs.Slots.{slot_of};
+ghost use Rattle.slot_steps.specs.Steps.{segment_slot};
+ghost use Rattle.store_half.specs.Changes.{CanFinish, CanOpen, ClosesImage, FailsToCloseImage, FailsToFinish, FailsToRollClose, FailsToRollHead, FailsToRollOpen, FailsToWritePiece, Finishes, HasImaged, HasPieceLeft, IsAppended, IsFault, IsFaultOrShortage, IsNotNow, IsRolled, PassesAppend, RollsClose, RollsHead, RollsOpen, WritesPiece};
+ghost use Rattle.store_half.specs.Counting.{counted, counted_fault};
+ghost use Rattle.store_half.specs.Values.{begun};
+
+use crate::receipt::{Finished, Receipt};
+use crate::under_way::{Checkpoint, Cut, Making};
+use checkpoint::Image;
+use disk::Disk;
+use journal::{Batch, Segment, StoreFault, roll_close, roll_head, roll_open};
+use std::alloc::Global;
+use std::marker::Model;
+
+/// The half of the core that stores. It knows of calls only what batches and snapshots bring.
+pub struct StoreHalf<D: Disk> {
+    disk: D,
+    segment: Segment,
+    failed: bool,
+    checkpoint: Option<Checkpoint>,
+}
+
+// Written out, so that proofs above know one function and not its parts.
+impl<D: Disk + Drop> Drop for StoreHalf<D> {
+    fn drop(self) {
+        let StoreHalf {
+            disk,
+            segment: _,
+            failed: _,
+            checkpoint,
+        } = self;
+        drop(disk);
+        drop(checkpoint);
+    }
+}
+
+impl<D: Disk> Model for StoreHalf<D> {
+    ghost use Rattle.std.specs.Prelude.{◌≡◌, false};
+    ghost use Rattle.store_half.specs.Values.{AreEpochs, HasShape, StoreValue, store_code};
+
+    ghost Value = { StoreValue D };
+
+    ghost coded = { store_code D.code };
+
+    ghost view = { λ s. record { disk = s.disk; segment = s.segment; failed = s.failed; checkpoint = s.checkpoint } };
+
+    ghost invariant = { λ s. AreEpochs s.segment s.checkpoint × (s.failed ≡ false → D.honest → HasShape (D.view s.disk) s.segment s.checkpoint) };
+}
+
+impl<D: Disk> StoreHalf<D> {
+    /// Goes on from the disk of an opened store, and its segment in use.
+    pub fn new(disk: D, segment: Segment) -> Self
+        requires { D.honest → 0 < length (slot_of (D.view disk).seen (segment_slot segment.epoch)) }
+        ensures { result ≡ record { disk = disk; segment = segment; failed = false; checkpoint = None } }
+    {
+        StoreHalf {
+            disk,
+            segment,
+            failed: false,
+            checkpoint: None,
+        }
+    }
+
+    /// The disk of the store.
+    pub fn into_disk(self) -> D
+        ensures { result ≡ self.disk }
+    {
+        let StoreHalf {
+            disk,
+            segment: _,
+            failed: _,
+            checkpoint: _,
+        } = self;
+        disk
+    }
+
+    /// Whether the device failed; then the store has to be opened again.
+    pub fn has_failed(&self) -> bool
+        ensures { result ≡ self.now.failed }
+    {
+        self.failed
+    }
+
+    /// The epoch whose batches are stored now.
+    pub fn epoch(&self) -> u64
+        ensures { result ≡ self.now.segment.epoch }
+    {
+        self.segment.epoch
+    }
+
+    /// How many records the segment in use holds.
+    pub fn records(&self) -> u64
+        ensures { result ≡ self.now.segment.records }
+    {
+        self.segment.records
+    }
+
+    /// Whether a checkpoint is under way.
+    pub fn is_checkpointing(&self) -> bool
+        ensures { result ≡ is_some self.now.checkpoint }
+    {
+        self.checkpoint.is_some()
+    }
+
+    /// Stores a batch of the epoch in use: all of it or nothing. At `Ok` it is on the disk. It takes no memory. At a
+    /// fault the batch comes back.
+    ///
+    /// `Failed`: the device failed in an earlier call; the store has to be opened again. `Full`: the segment would hold
+    /// more than `MAX_RECORDS` records; nothing changed. `Device`: the device failed, and whether the batch is stored
+    /// isn't known until the store is opened again.
+    pub fn append(&mut self, batch: Batch) -> Result<Receipt, (StoreFault, Batch)>
+        requires { 0 < batch.count }
+        ensures stored { D.honest → OnOk result (IsAppended self.old.segment.epoch (D.view self.old.disk).seen (D.view self.new.disk).seen batch) }
+        ensures synced { D.honest → OnOk result (IsSynced (D.view self.new.disk) (segment_slot self.old.segment.epoch)) }
+        ensures any_moment { D.honest → IsSynced (D.view self.old.disk) (segment_slot self.old.segment.epoch)
+            → PassesAppend self.old.segment.epoch (D.view self.old.disk) (D.view self.new.disk) batch }
+        ensures counted { IfOk result (λ receipt. (receipt ≡ batch.count)
+            × (self.new.segment ≡ record self.old.segment { records = self.old.segment.records + batch.count }) × (self.new.failed ≡ false)) }
+        ensures under_way { self.new.checkpoint ≡ self.old.checkpoint }
+        ensures open { OnOk result ((self.old.failed ≡ false) × (self.old.segment.records + batch.count ≤ MAX_RECORDS)) }
+        ensures back { IfErr result (λ fault. fault.1 ≡ batch) }
+        ensures failures { MatchResult result (λ _. D.failed_calls self.new.disk ≡ D.failed_calls self.old.disk)
+            (λ fault. D.failed_calls self.new.disk ≡ counted_fault fault.0 (D.failed_calls self.old.disk)) }
+
+        ensures failed { IfErr result (λ fault. fault.0 ≡ StoreFault.Failed ↔ (self.old.failed ≡ true)) }
+        ensures full { IfErr result (λ fault. fault.0 ≡ StoreFault.Full
+            ↔ ((self.old.failed ≡ false) × (MAX_RECORDS < self.old.segment.records + batch.count))) }
+        ensures device { IfErr result (λ fault. fault.0 ≡ StoreFault.Device
+            → (self.new.failed ≡ true) × (D.failed_calls self.new.disk ≡ one_more (D.failed_calls self.old.disk))
+            × (self.new.segment ≡ self.old.segment)) }
+        ensures faults { IfErr result (λ fault. (fault.0 ≡ StoreFault.Device)
+            ⊎ (((fault.0 ≡ StoreFault.Failed) ⊎ (fault.0 ≡ StoreFault.Full)) × (self.new ≡ self.old))) }
+    {
+        if self.failed {
+            return Err((StoreFault::Failed, batch));
+        }
+        match self.segment.append(&mut self.disk, &batch) {
+            Ok(()) => Ok(Receipt { batch }),
+            Err(StoreFault::Full) => Err((StoreFault::Full, batch)),
+            Err(_) => {
+                self.failed = true;
+                Err((StoreFault::Device, batch))
+            }
+        }
+    }
+
+    /// Begins a checkpoint with the state at the end of the epoch in use. It takes no memory.
+    pub fn begin(&mut self, cut: Cut)
+        requires none { self.old.checkpoint ≡ None }
+        requires next { cut.epoch ≡ self.old.segment.epoch + 1 }
+        ensures { self.new ≡ record self.old { checkpoint = Some (begun cut) } }
+    {
+        self.checkpoint = Some(Checkpoint::new(cut));
+    }
+
+    /// Closes the slot of the next segment. Returns whether it did: it does if that is the checkpoint's next step of
+    /// the rotation.
+    ///
+    /// `Failed`: the device failed in an earlier call, and nothing changed. `Device`: the device failed.
+    pub fn roll_close(&mut self) -> Result<bool, StoreFault>
+        ensures done { IfOk result (λ is_done. MatchBool is_done (RollsClose D.honest D.view self.old self.new) (IsNotNow self.old (IsRolled self.old.checkpoint 0) self.new)) }
+        ensures faults { IfErr result (λ fault. IsFault self.old fault (FailsToRollClose D.honest D.view self.old self.new) self.new) }
+        ensures failures { D.failed_calls self.new.disk ≡ counted result (D.failed_calls self.old.disk) }
+    {
+        if self.failed {
+            return Err(StoreFault::Failed);
+        }
+        let Some(checkpoint) = &mut self.checkpoint else {
+            return Ok(false);
+        };
+        if checkpoint.rolled != 0 {
+            return Ok(false);
+        }
+        if roll_close(&mut self.disk, checkpoint.epoch).is_err() {
+            self.failed = true;
+            return Err(StoreFault::Device);
+        }
+        checkpoint.rolled = 1;
+        Ok(true)
+    }
+
+    /// Writes the header of the next segment. Returns whether it did, like `roll_close`; its faults are the same.
+    pub fn roll_head(&mut self) -> Result<bool, StoreFault>
+        ensures done { IfOk result (λ is_done. MatchBool is_done (RollsHead D.honest D.view self.old self.new) (IsNotNow self.old (IsRolled self.old.checkpoint 1) self.new)) }
+        ensures faults { IfErr result (λ fault. IsFault self.old fault (FailsToRollHead D.honest D.view self.old self.new) self.new) }
+        ensures failures { D.failed_calls self.new.disk ≡ counted result (D.failed_calls self.old.disk) }
+    {
+        if self.failed {
+            return Err(StoreFault::Failed);
+        }
+        let Some(checkpoint) = &mut self.checkpoint else {
+            return Ok(false);
+        };
+        if checkpoint.rolled != 1 {
+            return Ok(false);
+        }
+        if roll_head(&mut self.disk, checkpoint.epoch).is_err() {
+            self.failed = true;
+            return Err(StoreFault::Device);
+        }
+        checkpoint.rolled = 2;
+        Ok(true)
+    }
+
+    /// Opens the next segment, once the one in use holds its whole epoch log; from then on the next epoch's batches are
+    /// stored there. Returns whether it did; its faults are those of `roll_close`.
+    pub fn roll_open(&mut self) -> Result<bool, StoreFault>
+        ensures done { IfOk result (λ is_done. MatchBool is_done (RollsOpen D.honest D.view self.old self.new) (IsNotNow self.old (CanOpen self.old self.old.checkpoint) self.new)) }
+        ensures faults { IfErr result (λ fault. IsFault self.old fault (FailsToRollOpen D.honest D.view self.old self.new) self.new) }
+        ensures failures { D.failed_calls self.new.disk ≡ counted result (D.failed_calls self.old.disk) }
+    {
+        if self.failed {
+            return Err(StoreFault::Failed);
+        }
+        let Some(checkpoint) = &mut self.checkpoint else {
+            return Ok(false);
+        };
+        if checkpoint.rolled != 2 || self.segment.records != checkpoint.log {
+            return Ok(false);
+        }
+        let Ok(segment) = roll_open(&mut self.disk, checkpoint.epoch) else {
+            self.failed = true;
+            return Err(StoreFault::Device);
+        };
+        self.segment = segment;
+        checkpoint.rolled = 3;
+        Ok(true)
+    }
+
+    /// Makes the next image in memory, and closes and clears its slot. Returns whether it did: it does if that is the
+    /// image's next step.
+    ///
+    /// `NoMemory`: an allocation failed, and nothing changed. The other faults are those of `roll_close`.
+    pub fn close_image(&mut self, alloc: Global) -> Result<bool, StoreFault>
+        ensures done { IfOk result (λ is_done. MatchBool is_done (ClosesImage D.honest D.view self.old self.new) (IsNotNow self.old (HasImaged self.old.checkpoint 0) self.new)) }
+        ensures faults { IfErr result (λ fault. IsFaultOrShortage self.old fault (HasImaged self.old.checkpoint 0) (FailsToCloseImage D.honest D.view self.old self.new) self.new) }
+        ensures failures { D.failed_calls self.new.disk ≡ counted result (D.failed_calls self.old.disk) }
+    {
+        if self.failed {
+            return Err(StoreFault::Failed);
+        }
+        let Some(checkpoint) = &mut self.checkpoint else {
+            return Ok(false);
+        };
+        let Making::Cut(snapshot) = &checkpoint.making else {
+            return Ok(false);
+        };
+        let Ok(image) = Image::of(alloc, checkpoint.epoch, snapshot) else {
+            return Err(StoreFault::NoMemory);
+        };
+        if image.close(&mut self.disk).is_err() {
+            self.failed = true;
+            return Err(StoreFault::Device);
+        }
+        checkpoint.making = Making::Image(image);
+        Ok(true)
+    }
+
+    /// Writes the next piece of the image. Returns whether it did: it does if the image was closed and a piece is left.
+    /// Its faults are those of `roll_close`.
+    pub fn write_piece(&mut self) -> Result<bool, StoreFault>
+        ensures done { IfOk result (λ is_done. MatchBool is_done (WritesPiece D.honest D.view self.old self.new) (IsNotNow self.old (HasPieceLeft self.old.checkpoint) self.new)) }
+        ensures faults { IfErr result (λ fault. IsFault self.old fault (FailsToWritePiece D.honest D.view self.old self.new) self.new) }
+        ensures failures { D.failed_calls self.new.disk ≡ counted result (D.failed_calls self.old.disk) }
+    {
+        if self.failed {
+            return Err(StoreFault::Failed);
+        }
+        let Some(checkpoint) = &mut self.checkpoint else {
+            return Ok(false);
+        };
+        let Making::Image(image) = &mut checkpoint.making else {
+            return Ok(false);
+        };
+        if image.written() >= image.pieces() {
+            return Ok(false);
+        }
+        if image.write_piece(&mut self.disk).is_err() {
+            self.failed = true;
+            return Err(StoreFault::Device);
+        }
+        Ok(true)
+    }
+
+    /// Opens the gate of the image, whose whole encoding is written, once the next segment is open. The checkpoint is
+    /// then over, and the receipt says so. Its faults are those of `roll_close`.
+    pub fn finish(&mut self) -> Result<Option<Finished>, StoreFault>
+        ensures done { IfOk result (λ receipt. IfSome receipt (λ finished. (finished ≡ self.old.segment.epoch) × Finishes D.honest D.view self.old self.new)) }
+        ensures not_now { IfOk result (λ receipt. IfNone receipt (IsNotNow self.old (CanFinish self.old.checkpoint) self.new)) }
+        ensures faults { IfErr result (λ fault. IsFault self.old fault (FailsToFinish D.honest D.view self.old self.new) self.new) }
+        ensures failures { D.failed_calls self.new.disk ≡ counted result (D.failed_calls self.old.disk) }
+    {
+        if self.failed {
+            return Err(StoreFault::Failed);
+        }
+        let Some(checkpoint) = &self.checkpoint else {
+            return Ok(None);
+        };
+        let Making::Image(image) = &checkpoint.making else {
+            return Ok(None);
+        };
+        if checkpoint.rolled != 3 || image.written() != image.pieces() {
+            return Ok(None);
+        }
+        let epoch = checkpoint.epoch;
+        // Its clause says that the length of the encoding fits the header.
+        let _ = image.size();
+        if image.finish(&mut self.disk).is_err() {
+            self.failed = true;
+            return Err(StoreFault::Device);
+        }
+        self.checkpoint = None;
+        Ok(Some(Finished { epoch }))
+    }
+}

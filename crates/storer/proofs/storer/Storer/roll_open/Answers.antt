@@ -1,5 +1,0 @@
-use Rattle.std.proofs.Common.{◌≡◌, subst}
-use Rattle.storer.proofs.storer.Storer.roll_open.Goals as goal
-
-pub open_next-requires : goal.open_next-requires
-open_next-requires g c = subst (λ s. s.stored ≡ s.earlier) c.self.view_is c.if-self.false

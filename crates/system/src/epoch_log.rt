@@ -1,0 +1,166 @@
+ghost use Rattle.std.specs.Prelude.{◌≡◌, ◌<◌, ◌≤◌, ◌^◌, ◌-◌, true, length, IfOk, OnOk, OnErr};
+ghost use Rattle.codes.specs.declared.limits.TheConstants.{MAX_RECORDS};
+ghost use Rattle.ipc_laws.specs.RecordedSteps.{IsAnsweredWhole};
+ghost use Rattle.ipc_model.specs.calls.Step.{has_record};
+ghost use Rattle.ipc_model.specs.encodings.Encodings.{record_encoding};
+ghost use Rattle.journal.specs.Batch.{empty_batch, without_last};
+ghost use Rattle.system.specs.Halves.{Wrote, entry_of, next_log};
+
+use checkpoint_phases::Recorder;
+use codes::MAX_RECORDS;
+use ipc_model::{Call, Reply};
+use journal::Batch;
+use record::{in_range, push_exchange};
+use std::alloc::{AllocError, Global};
+use std::marker::Model;
+
+/// An epoch log: the records that an epoch's segment holds or will hold. It keeps those that wait to be taken, encoded
+/// as they are stored.
+#[derive(Drop)]
+pub(crate) struct EpochLog {
+    alloc: Global,
+    length: u64,
+
+    // How many records were made since the store was opened, in all epochs.
+    made: u64,
+    waiting: Batch,
+
+    // Where a record is encoded. Its room is used again.
+    encoding: Vec<u8>,
+}
+
+impl Model for EpochLog {
+    ghost use Rattle.std.specs.Prelude.{◌<◌, ◌≤◌};
+    ghost use Rattle.codes.specs.declared.limits.TheConstants.{MAX_RECORDS};
+    ghost use Rattle.system.specs.Halves.{EpochLogValue, log_code};
+
+    ghost Value = { EpochLogValue };
+
+    ghost coded = { log_code };
+
+    ghost view = { λ r. record { length = r.length; made = r.made; waiting = r.waiting } };
+
+    ghost invariant = { λ r. (r.waiting.count ≤ r.length) × (0 < r.waiting.count → r.length ≤ MAX_RECORDS) };
+}
+
+impl EpochLog {
+    /// The log of an epoch whose segment holds `length` records. It takes no memory.
+    pub(crate) fn new(alloc: Global, length: u64) -> Self
+        ensures { result ≡ record { length = length; made = 0; waiting = empty_batch } }
+    {
+        EpochLog {
+            alloc,
+            length,
+            made: 0,
+            waiting: Batch::new(alloc),
+            encoding: Vec::new(alloc),
+        }
+    }
+
+    /// How many records it has.
+    pub(crate) fn len(&self) -> u64
+        ensures { result ≡ self.now.length }
+    {
+        self.length
+    }
+
+    /// How many records were made.
+    pub(crate) fn made(&self) -> u64
+        ensures made { result ≡ self.now.made }
+        ensures within { self.now.made < 2 ^ 64 }
+    {
+        self.made
+    }
+
+    /// How many of its records wait to be taken.
+    pub(crate) fn waiting(&self) -> u32
+        ensures { result ≡ self.now.waiting.count }
+    {
+        self.waiting.count()
+    }
+
+    /// Adds the record of a call with this reply, and returns how many bytes its encoding has. If an allocation fails,
+    /// nothing changed.
+    pub(crate) fn push(
+        &mut self,
+        space: u32,
+        call: &Call,
+        reply: &Reply,
+    ) -> Result<usize, AllocError>
+        requires room { (self.old.length < MAX_RECORDS) × (self.old.made < 2 ^ 64 - 1) }
+        requires whole { IsAnsweredWhole call.now reply.now }
+        requires recorded { has_record call.now reply.now ≡ true }
+        ensures ok { OnOk result (Wrote self.old space call.now reply.now self.new) }
+        ensures size { IfOk result (λ size. size ≡ length (record_encoding self.old.length (entry_of space call.now reply.now))) }
+        ensures err { OnErr result (self.new ≡ self.old) }
+    {
+        in_range(space, call, reply);
+        self.encoding.clear();
+        push_exchange(
+            self.alloc,
+            &mut self.encoding,
+            self.length,
+            space,
+            call,
+            reply,
+        )?;
+        self.waiting.add(&self.encoding)?;
+        self.length += 1;
+        self.made += 1;
+        Ok(self.encoding.len())
+    }
+
+    /// Removes the last record, whose encoding has `size` bytes and which waits.
+    pub(crate) fn remove_last(&mut self, size: usize)
+        requires some { 0 < self.old.waiting.count }
+        requires made { 0 < self.old.made }
+        requires within { size ≤ length self.old.waiting.body }
+        ensures { self.new ≡ record { length = self.old.length - 1; made = self.old.made - 1; waiting = without_last self.old.waiting size } }
+    {
+        self.waiting.remove_last(size);
+        self.length -= 1;
+        self.made -= 1;
+    }
+
+    /// Takes the log out, and leaves an empty one.
+    pub(crate) fn take_out(&mut self) -> EpochLog
+        ensures taken { result ≡ self.old }
+        ensures left { self.new ≡ record { length = 0; made = 0; waiting = empty_batch } }
+    {
+        let empty = EpochLog::new(self.alloc, 0);
+        std::mem::replace(self, empty)
+    }
+
+    /// Takes the records that wait, and puts an empty batch in their place.
+    pub(crate) fn take(&mut self, empty: Batch) -> Batch
+        requires { empty ≡ empty_batch }
+        ensures taken { result ≡ self.old.waiting }
+        ensures left { self.new ≡ record self.old { waiting = empty_batch } }
+    {
+        std::mem::replace(&mut self.waiting, empty)
+    }
+
+    /// Takes the records that wait, and becomes the next epoch's log. It takes no memory.
+    pub(crate) fn end(&mut self) -> Batch
+        ensures taken { result ≡ self.old.waiting }
+        ensures left { self.new ≡ next_log self.old }
+    {
+        self.length = 0;
+        std::mem::replace(&mut self.waiting, Batch::new(self.alloc))
+    }
+}
+
+impl Recorder for EpochLog {
+    ghost use Rattle.std.specs.Prelude.{◌-◌, ◌<◌, ◌^◌};
+    ghost use Rattle.codes.specs.declared.limits.TheConstants.{MAX_RECORDS};
+    ghost use Rattle.system.specs.Halves.{Wrote};
+
+    ghost has_room = { λ log. (log.length < MAX_RECORDS) × (log.made < 2 ^ 64 - 1) };
+
+    ghost wrote = { Wrote };
+
+    fn write(&mut self, space: u32, call: &Call, reply: &Reply) -> Result<(), AllocError> {
+        let _ = self.push(space, call, reply)?;
+        Ok(())
+    }
+}
