@@ -20,35 +20,50 @@ chosen P true x y first second = first
 chosen P false x y first second = second
 
 -- what holds of each answer to a mach_msg holds of the one that it has
-of_asked : (P : Request → Type 0) (m : MachMsg) → P (request.Message (message_request m)) → P (request.Answered Success) → P (request.Answered InvalidArgument) → P (asked m)
+of_asked : (P : Request → Type 0) (m : MachMsg) → P (request.Message (message_request m)) → P (request.Answered Success)
+    → P (request.Answered InvalidArgument) → P (asked m)
 unfolding asked
 of_asked P m message nothing unknown =
-    let known = chosen P (has_option m.option send_msg || has_option m.option rcv_msg) (request.Message (message_request m)) (request.Answered Success) message nothing in
+    let known =
+    chosen P (has_option m.option send_msg || has_option m.option rcv_msg) (request.Message (message_request m))
+    (request.Answered Success) message nothing in
     chosen P (bit_and m.option known_options == m.option) _ (request.Answered InvalidArgument) known unknown
 
 never_one : (c : Call) (m : MachMsg) → request.One c ≡ asked m → ⊥
 never_one c m = of_asked (λ r. request.One c ≡ r → ⊥) m (λ e. cc) (λ e. cc) (λ e. cc)
 
-front_of : (content arguments : List ℕ) (q : Request) → content ≡ word MACH_MSG ++ arguments → AsksMachMsg arguments q → Asks content q
+front_of : (content arguments : List ℕ) (q : Request) → content ≡ word MACH_MSG ++ arguments → AsksMachMsg arguments q
+    → Asks content q
 front_of content arguments (request.One c) is (m, fits, encoded, e) = absurd (never_one c m e)
 front_of content arguments (request.Message m) is asks = (arguments, is, asks)
 front_of content arguments (request.Answered code) is asks = (arguments, is, asks)
 
 -- what the arguments of a mach_msg ask for, its frame asks for
-pub asks_in_front : (content arguments : List ℕ) (r : Result Request CallFault) → content ≡ word MACH_MSG ++ arguments → IfOk r (λ q. AsksMachMsg arguments q) → IfOk r (λ q. Asks content q)
+pub asks_in_front : (content arguments : List ℕ) (r : Result Request CallFault) → content ≡ word MACH_MSG ++ arguments
+    → IfOk r (λ q. AsksMachMsg arguments q) → IfOk r (λ q. Asks content q)
 asks_in_front content arguments (Ok q) is asks = front_of content arguments q is asks
 asks_in_front content arguments (Err e) is asks = tt
 
-not_one : (content arguments : List ℕ) (c : Call) → content ≡ word MACH_MSG ++ arguments → number_of_call c ≢ MACH_MSG → content ≡ call_encoding c → ⊥
+not_one : (content arguments : List ℕ) (c : Call) → content ≡ word MACH_MSG ++ arguments → number_of_call c ≢ MACH_MSG
+    → content ≡ call_encoding c → ⊥
 unfolding call_encoding
-not_one content arguments c is other encoding = other (same_word (number_of_call c) MACH_MSG (arguments_encoding c) arguments (number-fits c) (omega arith) (sym encoding ∙ is))
+not_one content arguments c is other encoding =
+    other (same_word (number_of_call c) MACH_MSG (arguments_encoding c) arguments (number-fits c) (omega arith)
+    (sym encoding ∙ is))
 
-behind : (arguments others : List ℕ) (q : Request) → word MACH_MSG ++ arguments ≡ word MACH_MSG ++ others → AsksMachMsg others q → AsksMachMsg arguments q
-behind arguments others q same asks = let e : others ≡ arguments = ap (λ (l : List ℕ). drop 4 l) (sym same) in subst (λ (l : List ℕ). AsksMachMsg l q) e asks
+behind : (arguments others : List ℕ) (q : Request) → word MACH_MSG ++ arguments ≡ word MACH_MSG ++ others
+    → AsksMachMsg others q → AsksMachMsg arguments q
+behind arguments others q same asks =
+    let e : others ≡ arguments = ap (λ (l : List ℕ). drop 4 l) (sym same) in subst
+    (λ (l : List ℕ). AsksMachMsg l q) e asks
 
 -- and what its frame asks for, they ask for
 pub asks_after : (content arguments : List ℕ) (r : Result Request CallFault) → content ≡ word MACH_MSG ++ arguments
-    → ((q : Request) → AsksMachMsg arguments q → (r ≡ Ok q) ⊎ (r ≡ Err NoMemory)) → (q : Request) → Asks content q → (r ≡ Ok q) ⊎ (r ≡ Err NoMemory)
-asks_after content arguments r is only (request.One c) (other, fits, encoding) = absurd (not_one content arguments c is other encoding)
-asks_after content arguments r is only (request.Message m) (others, encoding, asks) = only (request.Message m) (behind arguments others (request.Message m) (sym is ∙ encoding) asks)
-asks_after content arguments r is only (request.Answered code) (others, encoding, asks) = only (request.Answered code) (behind arguments others (request.Answered code) (sym is ∙ encoding) asks)
+    → ((q : Request) → AsksMachMsg arguments q → (r ≡ Ok q) ⊎ (r ≡ Err NoMemory)) → (q : Request) → Asks content q
+    → (r ≡ Ok q) ⊎ (r ≡ Err NoMemory)
+asks_after content arguments r is only (request.One c) (other, fits, encoding) =
+    absurd (not_one content arguments c is other encoding)
+asks_after content arguments r is only (request.Message m) (others, encoding, asks) =
+    only (request.Message m) (behind arguments others (request.Message m) (sym is ∙ encoding) asks)
+asks_after content arguments r is only (request.Answered code) (others, encoding, asks) =
+    only (request.Answered code) (behind arguments others (request.Answered code) (sym is ∙ encoding) asks)

@@ -9,38 +9,49 @@ use Rattle.calls.specs.Rows.{names_encoding}
 
 pub length-names_encoding : (names : List NamedType) → length (names_encoding names) ≡ 8 * length names
 length-names_encoding [] = refl
-length-names_encoding (n ∷ names) = let others = length-names_encoding names in omega (arith, others, length-append (word n.name ++ word n.bits) (names_encoding names))
+length-names_encoding (n ∷ names) =
+    let others = length-names_encoding names in
+    omega (arith, others, length-append (word n.name ++ word n.bits) (names_encoding names))
 
 pub length-words_text : (numbers : List ℕ) → length (flat_map word numbers) ≡ 4 * length numbers
 length-words_text [] = refl
-length-words_text (n ∷ numbers) = let others = length-words_text numbers in omega (arith, others, length-append (word n) (flat_map word numbers))
+length-words_text (n ∷ numbers) =
+    let others = length-words_text numbers in omega (arith, others, length-append (word n) (flat_map word numbers))
 
 -- rows of a reply whose encoding is short are short
 pub length-names_reply : (names : List NamedType) → length (reply_encoding (reply.Names names)) ≡ 12 + 8 * length names
 unfolding reply_encoding
 length-names_reply names = let row = length-names_encoding names in omega (arith, row)
 
-pub length-members_reply : (members : List ℕ) → length (reply_encoding (reply.SetStatus members)) ≡ 12 + 4 * length members
+pub length-members_reply : (members : List ℕ)
+    → length (reply_encoding (reply.SetStatus members)) ≡ 12 + 4 * length members
 unfolding reply_encoding
 length-members_reply members = let row = length-words_text members in omega (arith, row)
 
-pub few_names : (r : Reply) (names : List NamedType) (most : ℕ) → r ≡ reply.Names names → length (reply_encoding r) ≤ most → 12 + 8 * length names ≤ most
+pub few_names : (r : Reply) (names : List NamedType) (most : ℕ) → r ≡ reply.Names names
+    → length (reply_encoding r) ≤ most → 12 + 8 * length names ≤ most
 few_names r names most is short =
-    let few : length (reply_encoding (reply.Names names)) ≤ most = subst (λ (x : Reply). length (reply_encoding x) ≤ most) is short in
+    let few : length (reply_encoding (reply.Names names)) ≤ most =
+    subst (λ (x : Reply). length (reply_encoding x) ≤ most) is short in
     omega (arith, few, length-names_reply names)
 
-pub few_members : (r : Reply) (members : List ℕ) (most : ℕ) → r ≡ reply.SetStatus members → length (reply_encoding r) ≤ most → 12 + 4 * length members ≤ most
+pub few_members : (r : Reply) (members : List ℕ) (most : ℕ) → r ≡ reply.SetStatus members
+    → length (reply_encoding r) ≤ most → 12 + 4 * length members ≤ most
 few_members r members most is short =
-    let few : length (reply_encoding (reply.SetStatus members)) ≤ most = subst (λ (x : Reply). length (reply_encoding x) ≤ most) is short in
+    let few : length (reply_encoding (reply.SetStatus members)) ≤ most =
+    subst (λ (x : Reply). length (reply_encoding x) ≤ most) is short in
     omega (arith, few, length-members_reply members)
 
 -- room for one more item, once some of a row have been added
-pub words_room : (old content numbers : List ℕ) (i : ℕ) → content ≡ old ++ flat_map word (take i numbers) → i < length numbers → length content + 4 ≤ length old + 4 * length numbers
+pub words_room : (old content numbers : List ℕ) (i : ℕ) → content ≡ old ++ flat_map word (take i numbers)
+    → i < length numbers → length content + 4 ≤ length old + 4 * length numbers
 words_room old content numbers i is less =
     let added = length-words_text (take i numbers) in
     omega (arith, ap length is, length-append old (flat_map word (take i numbers)), added, length-take i numbers)
 
-pub names_room : (old content : List ℕ) (names : List NamedType) (i : ℕ) → content ≡ old ++ names_encoding (take i names) → i < length names → length content + 8 ≤ length old + 8 * length names
+pub names_room : (old content : List ℕ) (names : List NamedType) (i : ℕ)
+    → content ≡ old ++ names_encoding (take i names) → i < length names
+    → length content + 8 ≤ length old + 8 * length names
 names_room old content names i is less =
     let added = length-names_encoding (take i names) in
     omega (arith, ap length is, length-append old (names_encoding (take i names)), added, length-take i names)

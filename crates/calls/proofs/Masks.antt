@@ -4,14 +4,17 @@ use Rattle.ipc_model.specs.messages.Kept.{masked}
 
 -- one more mask
 masked_more : (masks bytes : List ℕ) (i v : ℕ) → i < length masks → i < length bytes
-    → set (masked (take i masks) bytes) i (bit_and (get_or (masked (take i masks) bytes) i v) (get_or masks i 0)) ≡ masked (take (suc i) masks) bytes
+    → set (masked (take i masks) bytes) i (bit_and (get_or (masked (take i masks) bytes) i v) (get_or masks i 0))
+    ≡ masked (take (suc i) masks) bytes
 masked_more [] bytes i v less within = absurd (omega arith)
 masked_more (m ∷ masks) [] i v less within = absurd (omega arith)
 masked_more (m ∷ masks) (b ∷ bytes) zero v less within = refl
-masked_more (m ∷ masks) (b ∷ bytes) (suc i) v less within = ap (λ (l : List ℕ). bit_and b m ∷ l) (masked_more masks bytes i v (omega arith) (omega arith))
+masked_more (m ∷ masks) (b ∷ bytes) (suc i) v less within =
+    ap (λ (l : List ℕ). bit_and b m ∷ l) (masked_more masks bytes i v (omega arith) (omega arith))
 
 -- the same of a list that has been masked so far
-pub kept_more : (masks bytes kept : List ℕ) (i v : ℕ) → kept ≡ masked (take i masks) bytes → i < length masks → i < length bytes → v ≡ get_or kept i v
+pub kept_more : (masks bytes kept : List ℕ) (i v : ℕ) → kept ≡ masked (take i masks) bytes → i < length masks
+    → i < length bytes → v ≡ get_or kept i v
     → set kept i (bit_and v (get_or masks i 0)) ≡ masked (take (i + 1) masks) bytes
 kept_more masks bytes kept i v so_far less within is =
     let next : suc i ≡ i + 1 = omega arith in
@@ -21,15 +24,19 @@ kept_more masks bytes kept i v so_far less within is =
     ∙ ap (λ (n : ℕ). masked (take n masks) bytes) next
 
 -- as many masks as there are bytes
-pub masked_all : (masks bytes : List ℕ) (n : ℕ) → min (length bytes) (length masks) ≤ n → masked (take n masks) bytes ≡ masked masks bytes
+pub masked_all : (masks bytes : List ℕ) (n : ℕ) → min (length bytes) (length masks) ≤ n
+    → masked (take n masks) bytes ≡ masked masks bytes
 masked_all [] bytes zero enough = refl
 masked_all [] bytes (suc n) enough = refl
 masked_all (m ∷ masks) [] zero enough = refl
 masked_all (m ∷ masks) [] (suc n) enough = refl
 masked_all (m ∷ masks) (b ∷ bytes) zero enough = absurd (omega arith)
-masked_all (m ∷ masks) (b ∷ bytes) (suc n) enough = ap (λ (l : List ℕ). bit_and b m ∷ l) (masked_all masks bytes n (omega arith))
+masked_all (m ∷ masks) (b ∷ bytes) (suc n) enough =
+    ap (λ (l : List ℕ). bit_and b m ∷ l) (masked_all masks bytes n (omega arith))
 
 pub at_drop : (k : ℕ) (bytes : List ℕ) (i : ℕ) → slice_index (drop k bytes) i ≡ slice_index bytes (k + i)
 at_drop zero bytes i = let same : i ≡ 0 + i = omega arith in ap (λ (n : ℕ). slice_index bytes n) same
 at_drop (suc k) [] i = refl
-at_drop (suc k) (b ∷ bytes) i = let same : suc (k + i) ≡ suc k + i = omega arith in at_drop k bytes i ∙ ap (λ (n : ℕ). slice_index (b ∷ bytes) n) same
+at_drop (suc k) (b ∷ bytes) i =
+    let same : suc (k + i) ≡ suc k + i = omega arith in at_drop k bytes i ∙ ap
+    (λ (n : ℕ). slice_index (b ∷ bytes) n) same

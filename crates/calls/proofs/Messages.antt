@@ -22,26 +22,36 @@ false_of_not false is same = cc
 
 -- what the comparison of bytes says
 pub same_bytes : (xs ys : List ℕ) (differ : Bool) → differ ≡ not (pointwise eqb xs ys) → differ ≡ false → xs ≡ ys
-same_bytes xs ys differ is none = (slice_eq-Decides Decides-eqb xs ys (pointwise eqb xs ys) refl).0 (true_of_not (pointwise eqb xs ys) (sym is ∙ none))
+same_bytes xs ys differ is none =
+    (slice_eq-Decides Decides-eqb xs ys (pointwise eqb xs ys) refl).0
+    (true_of_not (pointwise eqb xs ys) (sym is ∙ none))
 
 pub other_bytes : (xs ys : List ℕ) (differ : Bool) → differ ≡ not (pointwise eqb xs ys) → differ ≡ true → xs ≡ ys → ⊥
-other_bytes xs ys differ is some same = false_of_not (pointwise eqb xs ys) (sym is ∙ some) ((slice_eq-Decides Decides-eqb xs ys (pointwise eqb xs ys) refl).1 same)
+other_bytes xs ys differ is some same =
+    false_of_not (pointwise eqb xs ys) (sym is ∙ some)
+    ((slice_eq-Decides Decides-eqb xs ys (pointwise eqb xs ys) refl).1 same)
 
 -- what follows bytes is bytes
 pub bytes_after : (bytes behind : List ℕ) (n : ℕ) → AreBytes bytes → drop n bytes ≡ behind → AreBytes behind
 bytes_after bytes behind n are is i =
-    subst (λ (l : List ℕ). slice_index l i < 256) is (subst (λ (k : ℕ). k < 256) (sym (at_drop n bytes i)) (are (n + i)))
+    subst (λ (l : List ℕ). slice_index l i < 256) is
+    (subst (λ (k : ℕ). k < 256) (sym (at_drop n bytes i)) (are (n + i)))
 
 -- after the option of a receive comes a receive
 pub only_receipt : (large : Bool) (words : List ℕ) (r : Option Call)
-    → ((limit name : ℕ) (waited : Bool) → limit < 2 ^ 32 → name < 2 ^ 32 → words ≡ word limit ++ (word name ++ word (number_of_bool waited)) → r ≡ Some (call.Receive limit large name waited))
-    → (c : Call) → IsCanonicalCall c → number_of_call c ≡ MACH_MSG → word (receive_option large) ++ words ≡ arguments_encoding c → r ≡ Some c
+    → ((limit name : ℕ) (waited : Bool) → limit < 2 ^ 32 → name < 2 ^ 32
+    → words ≡ word limit ++ (word name ++ word (number_of_bool waited))
+    → r ≡ Some (call.Receive limit large name waited))
+    → (c : Call) → IsCanonicalCall c → number_of_call c ≡ MACH_MSG
+    → word (receive_option large) ++ words ≡ arguments_encoding c → r ≡ Some c
 only_receipt true words r only (call.Send message) fits number is = absurd cc
 only_receipt false words r only (call.Send message) fits number is = absurd cc
-only_receipt true words r only (call.Receive limit true name waited) fits number is = only limit name waited fits.fits.0 fits.fits.1 (ap (λ (l : List ℕ). drop 4 l) is)
+only_receipt true words r only (call.Receive limit true name waited) fits number is =
+    only limit name waited fits.fits.0 fits.fits.1 (ap (λ (l : List ℕ). drop 4 l) is)
 only_receipt true words r only (call.Receive limit false name waited) fits number is = absurd cc
 only_receipt false words r only (call.Receive limit true name waited) fits number is = absurd cc
-only_receipt false words r only (call.Receive limit false name waited) fits number is = only limit name waited fits.fits.0 fits.fits.1 (ap (λ (l : List ℕ). drop 4 l) is)
+only_receipt false words r only (call.Receive limit false name waited) fits number is =
+    only limit name waited fits.fits.0 fits.fits.1 (ap (λ (l : List ℕ). drop 4 l) is)
 only_receipt large words r only c fits number is = absurd (omega (arith, number))
 
 -- a message in its kept form is kept unchanged

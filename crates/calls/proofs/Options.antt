@@ -11,7 +11,8 @@ use Rattle.words.specs.WordLaws.{same_word}
 use Rattle.words.specs.Words.{word}
 
 -- each of them is known
-pub known_option : (option : ℕ) (words : List ℕ) (c : Call) → option < 2 ^ 32 → number_of_call c ≡ MACH_MSG → word option ++ words ≡ arguments_encoding c
+pub known_option : (option : ℕ) (words : List ℕ) (c : Call) → option < 2 ^ 32 → number_of_call c ≡ MACH_MSG
+    → word option ++ words ≡ arguments_encoding c
     → bit_and option (known_bits option_rows) ≡ option
 unfolding known_from
 known_option option words (call.Send message) fits number is =

@@ -20,16 +20,25 @@ recorded_too true x false y both succeeds = absurd cc
 recorded_too false x s y both succeeds = absurd cc
 
 -- only one reply that stands in a record has this encoding
-pub same_reply : (c : Call) (mine answer : Reply) (encoding : List ℕ) → FitsReply mine → has_record c mine ≡ true → encoding ≡ reply_encoding mine → IsRecordedReply c answer → encoding ≡ reply_encoding answer → mine ≡ answer
-same_reply c mine answer encoding fits recorded e is_too e_too = reply_encoding_once c c mine answer fits is_too.fits recorded is_too.recorded (sym e ∙ e_too)
+pub same_reply : (c : Call) (mine answer : Reply) (encoding : List ℕ) → FitsReply mine → has_record c mine ≡ true
+    → encoding ≡ reply_encoding mine → IsRecordedReply c answer → encoding ≡ reply_encoding answer → mine ≡ answer
+same_reply c mine answer encoding fits recorded e is_too e_too =
+    reply_encoding_once c c mine answer fits is_too.fits recorded is_too.recorded (sym e ∙ e_too)
 
-pub one_reply : (c : Call) (mine answer : Reply) (encoding : List ℕ) → IsRecordedReply c mine → encoding ≡ reply_encoding mine → IsRecordedReply c answer → encoding ≡ reply_encoding answer → Some mine ≡ Some answer
-one_reply c mine answer encoding is e is_too e_too = ap (λ (r : Reply). Some r) (same_reply c mine answer encoding is.fits is.recorded e is_too e_too)
+pub one_reply : (c : Call) (mine answer : Reply) (encoding : List ℕ) → IsRecordedReply c mine
+    → encoding ≡ reply_encoding mine → IsRecordedReply c answer → encoding ≡ reply_encoding answer
+    → Some mine ≡ Some answer
+one_reply c mine answer encoding is e is_too e_too =
+    ap (λ (r : Reply). Some r) (same_reply c mine answer encoding is.fits is.recorded e is_too e_too)
 
 -- the same, if another reply with a record is one to this call
-pub one_done : (c : Call) (mine answer : Reply) (encoding : List ℕ) → FitsReply mine → succeeded c mine ≡ true → encoding ≡ reply_encoding mine → IsRecordedReply c answer → encoding ≡ reply_encoding answer → Some mine ≡ Some answer
+pub one_done : (c : Call) (mine answer : Reply) (encoding : List ℕ) → FitsReply mine → succeeded c mine ≡ true
+    → encoding ≡ reply_encoding mine → IsRecordedReply c answer → encoding ≡ reply_encoding answer
+    → Some mine ≡ Some answer
 one_done c mine answer encoding fits succeeds e is_too e_too =
-    let recorded = recorded_too (is_recorded c) (succeeded c answer || destroyed_message c answer) (succeeded c mine) (destroyed_message c mine) is_too.recorded succeeds in
+    let recorded =
+    recorded_too (is_recorded c) (succeeded c answer || destroyed_message c answer) (succeeded c mine)
+    (destroyed_message c mine) is_too.recorded succeeds in
     ap (λ (r : Reply). Some r) (same_reply c mine answer encoding fits recorded e is_too e_too)
 
 pub long_reply : (r : Reply) → 8 ≤ length (reply_encoding r)
@@ -63,7 +72,8 @@ begins (reply.Message code size member message) = (_, refl)
 begins (reply.SpaceCreated space name) = (_, refl)
 
 -- a reply begins with its call's number
-pub number_in_front : (c : Call) (r : Reply) (n : ℕ) (rest : List ℕ) → n < 2 ^ 32 → number_of_reply r ≡ number_of_call c → word n ++ rest ≡ reply_encoding r → n ≡ number_of_call c
+pub number_in_front : (c : Call) (r : Reply) (n : ℕ) (rest : List ℕ) → n < 2 ^ 32 → number_of_reply r ≡ number_of_call c
+    → word n ++ rest ≡ reply_encoding r → n ≡ number_of_call c
 number_in_front c r n rest fits of_call e =
     let begin = begins r in
     let number = subst (λ (k : ℕ). k < 2 ^ 32) (sym of_call) (number-fits c) in

@@ -58,7 +58,8 @@ abbrev pub asked_send : ℕ → List ℕ → Option Call
 asked_send option message = if has_option option send_msg then Some (call.Send message) else None
 
 abbrev pub asked_receive : ℕ → ℕ → ℕ → Option Call
-asked_receive option limit name = if has_option option rcv_msg then Some (call.Receive limit (has_option option rcv_large) name false) else None
+asked_receive option limit name =
+    if has_option option rcv_msg then Some (call.Receive limit (has_option option rcv_large) name false) else None
 
 abbrev pub asked_timeout : ℕ → ℕ → ℕ → Option ℕ
 asked_timeout option bit timeout = if has_option option bit then Some timeout else None
@@ -74,7 +75,9 @@ message_request m = record {
 -- An option with an unknown bit is answered by KERN_INVALID_ARGUMENT, and one that asks for nothing by KERN_SUCCESS.
 unfoldable pub asked : MachMsg → Request
 asked m =
-    if bit_and m.option known_options == m.option then (if has_option m.option send_msg || has_option m.option rcv_msg then request.Message (message_request m) else request.Answered Success)
+    if bit_and m.option known_options == m.option
+    then (if has_option m.option send_msg || has_option m.option rcv_msg then request.Message (message_request m)
+    else request.Answered Success)
     else request.Answered InvalidArgument
 
 -- the arguments of mach_msg ask for this

@@ -17,7 +17,8 @@ use ipc_model::Call;
 
 /// The call with this number that has no arguments.
 fn call_of_none(number: u32) -> Option<Call>
-    ensures found { IfSome result (λ call. (number_of_call call ≡ number) × (arguments_encoding call ≡ []) × IsCanonicalCall call) }
+    ensures found { IfSome result (λ call. (number_of_call call ≡ number) × (arguments_encoding call ≡ [])
+        × IsCanonicalCall call) }
     ensures none { IfNone result (count_of_words number ≢ 0) }
 {
     match number {
@@ -29,7 +30,8 @@ fn call_of_none(number: u32) -> Option<Call>
 
 /// The call with this number that has this argument.
 fn call_of_one(number: u32, a: u32) -> Option<Call>
-    ensures found { IfSome result (λ call. (number_of_call call ≡ number) × (arguments_encoding call ≡ word a) × IsCanonicalCall call) }
+    ensures found { IfSome result (λ call. (number_of_call call ≡ number) × (arguments_encoding call ≡ word a)
+        × IsCanonicalCall call) }
     ensures none { IfNone result (count_of_words number ≢ 1) }
 {
     match number {
@@ -46,7 +48,8 @@ fn call_of_one(number: u32, a: u32) -> Option<Call>
 
 /// The call with this number that has these two arguments.
 fn call_of_two(number: u32, a: u32, b: u32) -> Option<Call>
-    ensures found { IfSome result (λ call. (number_of_call call ≡ number) × (arguments_encoding call ≡ word a ++ word b) × IsCanonicalCall call) }
+    ensures found { IfSome result (λ call. (number_of_call call ≡ number) × (arguments_encoding call ≡ word a ++ word b)
+        × IsCanonicalCall call) }
     ensures none { IfNone result (count_of_words number ≢ 2) }
 {
     match number {
@@ -74,7 +77,8 @@ fn call_of_two(number: u32, a: u32, b: u32) -> Option<Call>
 
 /// The call with this number that has these three arguments.
 fn call_of_three(number: u32, a: u32, b: u32, c: u32) -> Option<Call>
-    ensures found { IfSome result (λ call. (number_of_call call ≡ number) × (arguments_encoding call ≡ word a ++ (word b ++ word c)) × IsCanonicalCall call) }
+    ensures found { IfSome result (λ call. (number_of_call call ≡ number)
+        × (arguments_encoding call ≡ word a ++ (word b ++ word c)) × IsCanonicalCall call) }
     ensures none { IfNone result (count_of_words number ≢ 3) }
 {
     match number {
@@ -95,8 +99,10 @@ fn call_of_three(number: u32, a: u32, b: u32, c: u32) -> Option<Call>
 /// The call whose number and arguments these are, of any number but that of `mach_msg`.
 pub(crate) fn read_arguments(number: u32, arguments: &[u8]) -> Option<Call>
     requires { number ≢ MACH_MSG }
-    ensures found { IfSome result (λ call. (number_of_call call ≡ number) × (arguments.now ≡ arguments_encoding call) × IsCanonicalCall call) }
-    ensures only { (call : Call) → FitsCall call → number_of_call call ≡ number → arguments.now ≡ arguments_encoding call → result ≡ Some call }
+    ensures found { IfSome result (λ call. (number_of_call call ≡ number) × (arguments.now ≡ arguments_encoding call)
+        × IsCanonicalCall call) }
+    ensures only { (call : Call) → FitsCall call → number_of_call call ≡ number
+        → arguments.now ≡ arguments_encoding call → result ≡ Some call }
 {
     match arguments.len() {
         0 => call_of_none(number),

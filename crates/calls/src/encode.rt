@@ -196,7 +196,8 @@ pub(crate) fn status_words(status: &ReceiveStatus) -> [u32; 9]
 
 /// Adds the reply with the state of a port.
 fn push_status(out: &mut Vec<u8>, status: &ReceiveStatus) -> Result<(), AllocError>
-    ensures ok { OnOk result (out.new.items ≡ out.old.items ++ done_encoding MACH_PORT_GET_RECEIVE_STATUS (status_encoding status.now)) }
+    ensures ok { OnOk result (out.new.items ≡ out.old.items
+        ++ done_encoding MACH_PORT_GET_RECEIVE_STATUS (status_encoding status.now)) }
 {
     push_words(out, &[MACH_PORT_GET_RECEIVE_STATUS, 0])?;
     push_words(out, &status_words(status))

@@ -60,7 +60,8 @@ fn after_zeros(bytes: &[u8]) -> Option<&[u8]>
 fn read_send(alloc: Global, words: &[u8]) -> Result<Option<Call>, AllocError>
     ensures found { IfOk result (λ found. IfSome found (λ call. (word 1 ++ words.now ≡ arguments_encoding call)
         × (number_of_call call ≡ MACH_MSG) × IsCanonicalCall call)) }
-    ensures only { (message : List ℕ) → IsCanonicalCall (call_variants.Send message) → words.now ≡ word 0 ++ (word 0 ++ (word 0 ++ message))
+    ensures only { (message : List ℕ) → IsCanonicalCall (call_variants.Send message)
+        → words.now ≡ word 0 ++ (word 0 ++ (word 0 ++ message))
         → IfOk result (λ found. found ≡ Some (call_variants.Send message)) }
 {
     let Some(message) = after_zeros(words) else {
@@ -81,7 +82,8 @@ fn read_send(alloc: Global, words: &[u8]) -> Result<Option<Call>, AllocError>
 fn read_message_call(alloc: Global, arguments: &[u8]) -> Result<Option<Call>, AllocError>
     ensures found { IfOk result (λ found. IfSome found (λ call. (arguments.now ≡ arguments_encoding call)
         × (number_of_call call ≡ MACH_MSG) × IsCanonicalCall call)) }
-    ensures only { (call : Call) → IsCanonicalCall call → number_of_call call ≡ MACH_MSG → arguments.now ≡ arguments_encoding call
+    ensures only { (call : Call) → IsCanonicalCall call → number_of_call call ≡ MACH_MSG
+        → arguments.now ≡ arguments_encoding call
         → IfOk result (λ found. found ≡ Some call) }
 {
     let Some((option, words)) = take_word(arguments) else {
@@ -103,7 +105,8 @@ fn read_message_call(alloc: Global, arguments: &[u8]) -> Result<Option<Call>, Al
 /// The call that these bytes encode, if they encode a call as a record has it. It can run out of memory only for the
 /// message of a send.
 pub fn read_call(alloc: Global, content: &[u8]) -> Result<Option<Call>, AllocError>
-    ensures found { IfOk result (λ found. IfSome found (λ call. (content.now ≡ call_encoding call) × IsCanonicalCall call)) }
+    ensures found { IfOk result (λ found. IfSome found
+        (λ call. (content.now ≡ call_encoding call) × IsCanonicalCall call)) }
     ensures only { (call : Call) → IsCanonicalCall call → content.now ≡ call_encoding call
         → IfOk result (λ found. found ≡ Some call) }
 {

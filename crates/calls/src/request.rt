@@ -49,7 +49,8 @@ pub enum CallFault {
 
 /// Whether the options ask for a send or a receive.
 fn asks_for_some(options: MessageOptions) -> bool
-    ensures { result ≡ (requests.has_option (bits_of options) requests.send_msg || requests.has_option (bits_of options) requests.rcv_msg) }
+    ensures { result ≡ (requests.has_option (bits_of options) requests.send_msg || requests.has_option
+        (bits_of options) requests.rcv_msg) }
 {
     options.contains(MessageOptions::SEND) || options.contains(MessageOptions::RECEIVE)
 }

@@ -28,8 +28,10 @@ fn destroys(call: &Call) -> bool
 
 /// The code of a `mach_msg` that has a record.
 fn recorded_code(call: &Call, number: u32) -> Option<KernReturn>
-    ensures found { IfSome result (λ code. (number_of code ≡ number) × IsTrue (is_success code || has_destroyed call.now code)) }
-    ensures only { (code : KernReturn) → number_of code ≡ number → IsTrue (is_success code || has_destroyed call.now code)
+    ensures found { IfSome result (λ code. (number_of code ≡ number)
+        × IsTrue (is_success code || has_destroyed call.now code)) }
+    ensures only { (code : KernReturn) → number_of code ≡ number
+        → IsTrue (is_success code || has_destroyed call.now code)
         → result ≡ Some code }
 {
     match number {
@@ -106,7 +108,8 @@ fn read_message_reply(
     ensures found { IfOk result (λ found. IfSome found (λ answer.
         (word MACH_MSG ++ (word code ++ results.now) ≡ reply_encoding answer) × IsRecordedReply call.now answer)) }
     ensures only { (answer : Reply) → IsRecordedReply call.now answer → 0 < length results.now
-        → word MACH_MSG ++ (word code ++ results.now) ≡ reply_encoding answer → IfOk result (λ found. found ≡ Some answer) }
+        → word MACH_MSG ++ (word code ++ results.now) ≡ reply_encoding answer
+        → IfOk result (λ found. found ≡ Some answer) }
 {
     let Some(code) = recorded_code(call, code) else {
         return Ok(None);
@@ -129,10 +132,12 @@ fn read_message_reply(
 #[tactic(auto, unfolding(ipc_model::specs::encodings::Texts::reply_encoding))]
 /// The reply to a call with this number, any but `mach_msg`, that was done and has these results.
 fn read_plain_reply(number: u32, results: &[u8]) -> Option<Reply>
-    ensures found { IfSome result (λ answer. (done_encoding number results.now ≡ reply_encoding answer) × FitsReply answer
+    ensures found { IfSome result (λ answer. (done_encoding number results.now ≡ reply_encoding answer)
+        × FitsReply answer
         × (number_of_reply answer ≡ number)
         × ((c : Call) → (succeeded c answer ≡ true) × HasItsResults c answer)) }
-    ensures only { (c : Call) (answer : Reply) → IsRecordedReply c answer → number_of_call c ≡ number → number ≢ MACH_MSG
+    ensures only { (c : Call) (answer : Reply) → IsRecordedReply c answer → number_of_call c ≡ number
+        → number ≢ MACH_MSG
         → 0 < length results.now → done_encoding number results.now ≡ reply_encoding answer → result ≡ Some answer }
 {
     match number {

@@ -49,7 +49,8 @@ pub(crate) fn three_words(bytes: &[u8]) -> Option<(u32, u32, u32)>
 /// The five numbers that these bytes are.
 pub(crate) fn five_words(bytes: &[u8]) -> Option<(u32, u32, u32, u32, u32)>
     ensures found { IfSome result (λ r. bytes.now ≡ word r.0 ++ (word r.1 ++ (word r.2 ++ (word r.3 ++ word r.4)))) }
-    ensures fits { IfSome result (λ r. (r.0 < 2 ^ 32) × (r.1 < 2 ^ 32) × (r.2 < 2 ^ 32) × (r.3 < 2 ^ 32) × (r.4 < 2 ^ 32)) }
+    ensures fits { IfSome result (λ r. (r.0 < 2 ^ 32) × (r.1 < 2 ^ 32) × (r.2 < 2 ^ 32) × (r.3 < 2 ^ 32)
+        × (r.4 < 2 ^ 32)) }
     ensures none { IfNone result (length bytes.now ≢ 20) }
 {
     let (a, rest) = take_word(bytes)?;

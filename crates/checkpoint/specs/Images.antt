@@ -12,7 +12,9 @@ pub record ImageValue : Type 0 where
 
 abbrev pub image_code : Coded ImageValue
 image_code =
-    code_by (ℕ × (List ℕ × ℕ)) (coded× coded_ℕ (coded× (coded_list coded_ℕ) coded_ℕ)) (λ i. (i.epoch, (i.encoding, i.written))) (λ p. record { epoch = p.0; encoding = p.1.0; written = p.1.1 }) (λ _. refl)
+    code_by (ℕ × (List ℕ × ℕ)) (coded× coded_ℕ (coded× (coded_list coded_ℕ) coded_ℕ))
+    (λ i. (i.epoch, (i.encoding, i.written))) (λ p. record { epoch = p.0; encoding = p.1.0; written = p.1.1 })
+    (λ _. refl)
 
 -- an image of which nothing was written
 abbrev pub unwritten : ℕ → List ℕ → ImageValue

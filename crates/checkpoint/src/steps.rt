@@ -32,8 +32,10 @@ fn image_start(epoch: u64, length: u64) -> [u8; 23]
 fn write_zeros<D: Disk>(disk: &mut D, slot: Slot) -> Result<(), DiskFault>
     requires { D.honest → 0 < length (slot_of (D.view disk.old).seen slot) }
     ensures long { D.honest → OnOk result (24 ≤ length (slot_of (D.view disk.new).seen slot)) }
-    ensures closed { D.honest → IsClosed (slot_of (D.view disk.old).seen slot) → OnOk result (IsClosed (slot_of (D.view disk.new).seen slot)) }
-    ensures others { D.honest → OnOk result ((D.view disk.new).seen ≡ with_slot (D.view disk.old).seen slot (slot_of (D.view disk.new).seen slot)) }
+    ensures closed { D.honest → IsClosed (slot_of (D.view disk.old).seen slot)
+        → OnOk result (IsClosed (slot_of (D.view disk.new).seen slot)) }
+    ensures others { D.honest → OnOk result
+        ((D.view disk.new).seen ≡ with_slot (D.view disk.old).seen slot (slot_of (D.view disk.new).seen slot)) }
     ensures shut { D.honest → IsShut (D.view disk.old) slot → OnOk result (IsShut (D.view disk.new) slot) }
     ensures any_moment { D.honest → IsShut (D.view disk.old) slot
         → Passes (D.view disk.old) (D.view disk.new) (Follows (D.view disk.old) slot IsStillClosed) }
@@ -45,7 +47,8 @@ fn write_zeros<D: Disk>(disk: &mut D, slot: Slot) -> Result<(), DiskFault>
 /// Clears an image slot: it then holds a closed gate and the place of a header, and nothing else.
 pub(crate) fn clear<D: Disk>(disk: &mut D, slot: Slot) -> Result<(), DiskFault>
     ensures cleared { D.honest → OnOk result (HoldsAfter (slot_of (D.view disk.new).seen slot) []) }
-    ensures others { D.honest → OnOk result ((D.view disk.new).seen ≡ with_slot (D.view disk.old).seen slot (slot_of (D.view disk.new).seen slot)) }
+    ensures others { D.honest → OnOk result
+        ((D.view disk.new).seen ≡ with_slot (D.view disk.old).seen slot (slot_of (D.view disk.new).seen slot)) }
     ensures shut { D.honest → OnOk result (IsShut (D.view disk.new) slot) }
     ensures any_moment { D.honest → IsSynced (D.view disk.old) slot
         → Passes (D.view disk.old) (D.view disk.new) (Follows (D.view disk.old) slot (IsClosing 24)) }
@@ -90,7 +93,8 @@ pub(crate) fn push_piece<D: Disk>(disk: &mut D, slot: Slot, piece: &[u8]) -> Res
 fn write_encoding<D: Disk>(disk: &mut D, slot: Slot, encoding: &[u8]) -> Result<(), DiskFault>
     requires { D.honest → HoldsAfter (slot_of (D.view disk.old).seen slot) [] }
     ensures held { D.honest → OnOk result (HoldsAfter (slot_of (D.view disk.new).seen slot) encoding.now) }
-    ensures others { D.honest → OnOk result ((D.view disk.new).seen ≡ with_slot (D.view disk.old).seen slot (slot_of (D.view disk.new).seen slot)) }
+    ensures others { D.honest → OnOk result
+        ((D.view disk.new).seen ≡ with_slot (D.view disk.old).seen slot (slot_of (D.view disk.new).seen slot)) }
     ensures shut { D.honest → IsShut (D.view disk.old) slot → OnOk result (IsShut (D.view disk.new) slot) }
     ensures any_moment { D.honest → IsShut (D.view disk.old) slot
         → Passes (D.view disk.old) (D.view disk.new) (Follows (D.view disk.old) slot IsStillClosed) }
@@ -124,7 +128,8 @@ pub(crate) fn finish<D: Disk>(
     encoding: &[u8],
 ) -> Result<(), DiskFault>
     requires { D.honest → HoldsAfter (slot_of (D.view disk.old).seen slot) encoding.now }
-    ensures made { D.honest → OnOk result ((D.view disk.new).seen ≡ with_slot (D.view disk.old).seen slot (open_image epoch encoding.now)) }
+    ensures made { D.honest → OnOk result
+        ((D.view disk.new).seen ≡ with_slot (D.view disk.old).seen slot (open_image epoch encoding.now)) }
     ensures synced { D.honest → OnOk result (IsSynced (D.view disk.new) slot) }
     ensures any_moment { D.honest → IsShut (D.view disk.old) slot
         → Passes (D.view disk.old) (D.view disk.new) (Follows (D.view disk.old) slot (IsFinishing epoch encoding.now)) }
@@ -141,10 +146,12 @@ pub(crate) fn write_all<D: Disk>(
     epoch: u64,
     encoding: &[u8],
 ) -> Result<(), DiskFault>
-    ensures made { D.honest → OnOk result ((D.view disk.new).seen ≡ with_slot (D.view disk.old).seen slot (open_image epoch encoding.now)) }
+    ensures made { D.honest → OnOk result
+        ((D.view disk.new).seen ≡ with_slot (D.view disk.old).seen slot (open_image epoch encoding.now)) }
     ensures synced { D.honest → OnOk result (IsSynced (D.view disk.new) slot) }
     ensures any_moment { D.honest → IsSynced (D.view disk.old) slot
-        → Passes (D.view disk.old) (D.view disk.new) (Follows (D.view disk.old) slot (IsRemade 24 (open_image epoch encoding.now))) }
+        → Passes (D.view disk.old) (D.view disk.new)
+        (Follows (D.view disk.old) slot (IsRemade 24 (open_image epoch encoding.now))) }
     ensures failures { CountsFailure (D.failed_calls disk.old) (D.failed_calls disk.new) result }
 {
     clear(disk, slot)?;

@@ -75,12 +75,15 @@ impl Image {
 
     /// Closes and clears the image's slot.
     pub fn close<D: Disk>(&self, disk: &mut D) -> Result<(), DiskFault>
-        ensures cleared { D.honest → OnOk result (HoldsAfter (slot_of (D.view disk.new).seen (slot_of_epoch self.now.epoch)) []) }
-        ensures others { D.honest → OnOk result ((D.view disk.new).seen ≡ with_slot (D.view disk.old).seen (slot_of_epoch self.now.epoch)
+        ensures cleared { D.honest → OnOk result
+            (HoldsAfter (slot_of (D.view disk.new).seen (slot_of_epoch self.now.epoch)) []) }
+        ensures others { D.honest → OnOk result
+            ((D.view disk.new).seen ≡ with_slot (D.view disk.old).seen (slot_of_epoch self.now.epoch)
             (slot_of (D.view disk.new).seen (slot_of_epoch self.now.epoch))) }
         ensures shut { D.honest → OnOk result (IsShut (D.view disk.new) (slot_of_epoch self.now.epoch)) }
         ensures any_moment { D.honest → IsSynced (D.view disk.old) (slot_of_epoch self.now.epoch)
-            → Passes (D.view disk.old) (D.view disk.new) (Follows (D.view disk.old) (slot_of_epoch self.now.epoch) (IsClosing 24)) }
+            → Passes (D.view disk.old) (D.view disk.new)
+            (Follows (D.view disk.old) (slot_of_epoch self.now.epoch) (IsClosing 24)) }
         ensures failures { CountsFailure (D.failed_calls disk.old) (D.failed_calls disk.new) result }
     {
         steps::clear(disk, image_slot(self.epoch))
@@ -89,15 +92,21 @@ impl Image {
     /// Writes the next piece after those that stand in the slot.
     pub fn write_piece<D: Disk>(&mut self, disk: &mut D) -> Result<(), DiskFault>
         requires more { self.old.written < pieces_of self.old.encoding }
-        requires holds { D.honest → HoldsAfter (slot_of (D.view disk.old).seen (slot_of_epoch self.old.epoch)) (first_pieces self.old.written self.old.encoding) }
+        requires holds { D.honest → HoldsAfter (slot_of (D.view disk.old).seen (slot_of_epoch self.old.epoch))
+            (first_pieces self.old.written self.old.encoding) }
         ensures ok { OnOk result (self.new ≡ one_more self.old) }
         ensures err { OnErr result (self.new ≡ self.old) }
-        ensures held { D.honest → OnOk result (HoldsAfter (slot_of (D.view disk.new).seen (slot_of_epoch self.old.epoch)) (first_pieces (self.old.written + 1) self.old.encoding)) }
-        ensures others { D.honest → OnOk result ((D.view disk.new).seen ≡ with_slot (D.view disk.old).seen (slot_of_epoch self.old.epoch)
+        ensures held { D.honest → OnOk result
+            (HoldsAfter (slot_of (D.view disk.new).seen (slot_of_epoch self.old.epoch))
+            (first_pieces (self.old.written + 1) self.old.encoding)) }
+        ensures others { D.honest → OnOk result
+            ((D.view disk.new).seen ≡ with_slot (D.view disk.old).seen (slot_of_epoch self.old.epoch)
             (slot_of (D.view disk.new).seen (slot_of_epoch self.old.epoch))) }
-        ensures shut { D.honest → IsShut (D.view disk.old) (slot_of_epoch self.old.epoch) → OnOk result (IsShut (D.view disk.new) (slot_of_epoch self.old.epoch)) }
+        ensures shut { D.honest → IsShut (D.view disk.old) (slot_of_epoch self.old.epoch)
+            → OnOk result (IsShut (D.view disk.new) (slot_of_epoch self.old.epoch)) }
         ensures any_moment { D.honest → IsShut (D.view disk.old) (slot_of_epoch self.old.epoch)
-            → Passes (D.view disk.old) (D.view disk.new) (Follows (D.view disk.old) (slot_of_epoch self.old.epoch) IsStillClosed) }
+            → Passes (D.view disk.old) (D.view disk.new)
+            (Follows (D.view disk.old) (slot_of_epoch self.old.epoch) IsStillClosed) }
         ensures failures { CountsFailure (D.failed_calls disk.old) (D.failed_calls disk.new) result }
     {
         let piece = steps::piece_at(&self.encoding, self.written);
@@ -109,12 +118,15 @@ impl Image {
     /// Opens the gate of the image, whose whole encoding stands in the slot, once that and the header are on the disk.
     pub fn finish<D: Disk>(&self, disk: &mut D) -> Result<(), DiskFault>
         requires all { self.now.written ≡ pieces_of self.now.encoding }
-        requires holds { D.honest → HoldsAfter (slot_of (D.view disk.old).seen (slot_of_epoch self.now.epoch)) (first_pieces self.now.written self.now.encoding) }
+        requires holds { D.honest → HoldsAfter (slot_of (D.view disk.old).seen (slot_of_epoch self.now.epoch))
+            (first_pieces self.now.written self.now.encoding) }
         ensures made { D.honest → OnOk result ((D.view disk.new).seen
             ≡ with_slot (D.view disk.old).seen (slot_of_epoch self.now.epoch) (open_image self.now.epoch self.now.encoding)) }
         ensures synced { D.honest → OnOk result (IsSynced (D.view disk.new) (slot_of_epoch self.now.epoch)) }
         ensures any_moment { D.honest → IsShut (D.view disk.old) (slot_of_epoch self.now.epoch)
-            → Passes (D.view disk.old) (D.view disk.new) (Follows (D.view disk.old) (slot_of_epoch self.now.epoch) (IsFinishing self.now.epoch self.now.encoding)) }
+            → Passes (D.view disk.old) (D.view disk.new)
+            (Follows (D.view disk.old) (slot_of_epoch self.now.epoch)
+            (IsFinishing self.now.epoch self.now.encoding)) }
         ensures failures { CountsFailure (D.failed_calls disk.old) (D.failed_calls disk.new) result }
     {
         steps::finish(disk, image_slot(self.epoch), self.epoch, &self.encoding)
@@ -126,7 +138,9 @@ impl Image {
             ≡ with_slot (D.view disk.old).seen (slot_of_epoch self.now.epoch) (open_image self.now.epoch self.now.encoding)) }
         ensures synced { D.honest → OnOk result (IsSynced (D.view disk.new) (slot_of_epoch self.now.epoch)) }
         ensures any_moment { D.honest → IsSynced (D.view disk.old) (slot_of_epoch self.now.epoch)
-            → Passes (D.view disk.old) (D.view disk.new) (Follows (D.view disk.old) (slot_of_epoch self.now.epoch) (IsRemade 24 (open_image self.now.epoch self.now.encoding))) }
+            → Passes (D.view disk.old) (D.view disk.new)
+            (Follows (D.view disk.old) (slot_of_epoch self.now.epoch)
+            (IsRemade 24 (open_image self.now.epoch self.now.encoding))) }
         ensures failures { CountsFailure (D.failed_calls disk.old) (D.failed_calls disk.new) result }
     {
         steps::write_all(disk, image_slot(self.epoch), self.epoch, &self.encoding)

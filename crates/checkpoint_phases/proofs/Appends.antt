@@ -38,9 +38,13 @@ use Rattle.words.specs.Words.{frame_encoding, long_word, word}
 -- what is kept of records has their encoding
 kept_encoding : (n : ℕ) (entry : Record) → record_encoding n (canonical_record entry) ≡ record_encoding n entry
 unfolding record_encoding
-kept_encoding n entry = ap (λ (c : Call). long_word n ++ (word entry.space ++ (frame_encoding (call_encoding c) ++ frame_encoding (reply_encoding entry.reply)))) (canonical_call_again entry.call)
+kept_encoding n entry =
+    ap (λ (c : Call). long_word n ++
+    (word entry.space ++ (frame_encoding (call_encoding c) ++ frame_encoding (reply_encoding entry.reply))))
+    (canonical_call_again entry.call)
 
-kept_encodings : (n : ℕ) (records : List Record) → records_encoding n (map canonical_record records) ≡ records_encoding n records
+kept_encodings : (n : ℕ) (records : List Record)
+    → records_encoding n (map canonical_record records) ≡ records_encoding n records
 kept_encodings n [] = refl
 kept_encodings n (first ∷ records) = λ i. kept_encoding n first i ++ kept_encodings (n + 1) records i
 
@@ -48,9 +52,14 @@ map_long : (records : List Record) → length (map canonical_record records) ≡
 map_long [] = refl
 map_long (first ∷ records) = ap suc (map_long records)
 
-pub holds_kept : (n : ℕ) (records : List Record) (batch : BatchValue) → Holds n records batch → content_of batch ≡ batch_encoding n (map canonical_record records)
+pub holds_kept : (n : ℕ) (records : List Record) (batch : BatchValue) → Holds n records batch
+    → content_of batch ≡ batch_encoding n (map canonical_record records)
 holds_kept n records batch holds =
-    batch_of_records n (map canonical_record records) batch (record { counted = holds.counted ∙ sym (map_long records); encoding = holds.encoding ∙ sym (kept_encodings n records) })
+    batch_of_records n (map canonical_record records) batch
+    (record {
+      counted = holds.counted ∙ sym (map_long records);
+      encoding = holds.encoding ∙ sym (kept_encodings n records);
+    })
 
 -- What a kept store's segment in use stands for: its records lead from a state to the store's. If it has other records,
 -- whatever a crash leaves stands for the state that those lead to.
@@ -61,7 +70,8 @@ record HasSegment (disk : View) (segment : Segment) (state : State) : Type 0 whe
   run : Run base records state
   counted : segment.records ≡ length records
   synced : IsSynced disk (segment_slot segment.epoch)
-  others : (c : Slots) → MayLeave disk c → (x : List ℕ) (more : List Record) (after : State) → EncodesSegment segment.epoch x more → Run base more after
+  others : (c : Slots) → MayLeave disk c → (x : List ℕ) (more : List Record) (after : State)
+      → EncodesSegment segment.epoch x more → Run base more after
       → Recovered (as_written (with_slot c (segment_slot segment.epoch) x)) after
 
 kept_has : (disk : View) (segment : Segment) (state : State) → IsKept disk segment state → HasSegment disk segment state
@@ -74,11 +84,14 @@ kept_has disk segment state kept = record {
   synced = rest_is_synced (segment_slot segment.epoch) disk kept.at_rest;
   others = λ c left x more after encoded run.
       let e = segment.epoch in
-      let one : InOne c e kept.base kept.records = subst (λ (s : Slots). InOne s e kept.base kept.records) (sym (kept.at_rest c left)) kept.stands in
-      one_recovered (with_slot c (segment_slot e) x) e kept.base after more (one_segment_changed c e kept.base kept.records more x one encoded) run;
+      let one : InOne c e kept.base kept.records =
+      subst (λ (s : Slots). InOne s e kept.base kept.records) (sym (kept.at_rest c left)) kept.stands in
+      one_recovered (with_slot c (segment_slot e) x) e kept.base after more
+      (one_segment_changed c e kept.base kept.records more x one encoded) run;
 }
 
-first_has : (disk : View) (segment : Segment) (checkpoint : CheckpointValue) (state : State) → InFirst disk segment checkpoint state → HasSegment disk segment state
+first_has : (disk : View) (segment : Segment) (checkpoint : CheckpointValue) (state : State)
+    → InFirst disk segment checkpoint state → HasSegment disk segment state
 first_has disk segment checkpoint state phase = record {
   base = phase.base;
   records = phase.records;
@@ -89,53 +102,71 @@ first_has disk segment checkpoint state phase = record {
   others = λ c left x more after encoded run.
       let e = segment.epoch in
       one_recovered (with_slot c (segment_slot e) x) e phase.base after more
-      (one_segment_changed c e phase.base phase.records more x (first_left disk segment checkpoint state phase c left) encoded) run;
+      (one_segment_changed c e phase.base phase.records more x
+      (first_left disk segment checkpoint state phase c left) encoded) run;
 }
 
-second_has : (disk : View) (segment : Segment) (checkpoint : CheckpointValue) (mid state : State) → InSecond disk segment checkpoint mid state → HasSegment disk segment state
+second_has : (disk : View) (segment : Segment) (checkpoint : CheckpointValue) (mid state : State)
+    → InSecond disk segment checkpoint mid state → HasSegment disk segment state
 second_has disk segment checkpoint mid state phase = record {
   base = mid;
   records = phase.records;
-  in_use = subst (λ (n : ℕ). IsInUse n (slot_of disk.seen (segment_slot n)) phase.records) (sym phase.next) phase.in_use;
+  in_use =
+      subst (λ (n : ℕ). IsInUse n (slot_of disk.seen (segment_slot n)) phase.records) (sym phase.next) phase.in_use;
   run = phase.run;
   counted = phase.counted;
   synced = imaging_synced disk phase.former checkpoint.imaged phase.imaging segment.epoch;
   others = λ c left x more after encoded run.
       let e = phase.former in
-      let two = two_segment_changed c e phase.base phase.first phase.records more x (second_left disk segment checkpoint mid state phase c left) (subst (λ (n : ℕ). EncodesSegment n x more) phase.next encoded) in
+      let two =
+      two_segment_changed c e phase.base phase.first phase.records more x
+      (second_left disk segment checkpoint mid state phase c left)
+      (subst (λ (n : ℕ). EncodesSegment n x more) phase.next encoded) in
       subst (λ (n : ℕ). Recovered (as_written (with_slot c (segment_slot n) x)) after) (sym phase.next)
-      (two_recovered (with_slot c (segment_slot (e + 1)) x) e phase.base mid after phase.first more two phase.run_first run);
+      (two_recovered (with_slot c (segment_slot (e + 1)) x) e phase.base mid after phase.first more two phase.run_first
+      run);
 }
 
-has_segment : (disk : View) (segment : Segment) (checkpoint : Option CheckpointValue) (mid state : State) → Keeps disk segment checkpoint mid state → HasSegment disk segment state
+has_segment : (disk : View) (segment : Segment) (checkpoint : Option CheckpointValue) (mid state : State)
+    → Keeps disk segment checkpoint mid state → HasSegment disk segment state
 has_segment disk segment None mid state keeps = kept_has disk segment state keeps
 has_segment disk segment (Some checkpoint) mid state keeps = elim keeps.phase [
   | inl first ↦ first_has disk segment checkpoint state first
   | inr second ↦ second_has disk segment checkpoint mid state second
 ]
 
-pub kept_synced : (disk : View) (segment : Segment) (checkpoint : Option CheckpointValue) (mid state : State) → Keeps disk segment checkpoint mid state → IsSynced disk (segment_slot segment.epoch)
+pub kept_synced : (disk : View) (segment : Segment) (checkpoint : Option CheckpointValue) (mid state : State)
+    → Keeps disk segment checkpoint mid state → IsSynced disk (segment_slot segment.epoch)
 kept_synced disk segment checkpoint mid state keeps = (has_segment disk segment checkpoint mid state keeps).synced
 
 -- a crash while a store is kept leaves one that stands for its state
-pub kept_recovered : (disk : View) (segment : Segment) (checkpoint : Option CheckpointValue) (mid state : State) → Keeps disk segment checkpoint mid state → (c : Slots) → MayLeave disk c → Recovered (as_written c) state
+pub kept_recovered : (disk : View) (segment : Segment) (checkpoint : Option CheckpointValue) (mid state : State)
+    → Keeps disk segment checkpoint mid state → (c : Slots) → MayLeave disk c → Recovered (as_written c) state
 kept_recovered disk segment checkpoint mid state keeps c left =
     let has = has_segment disk segment checkpoint mid state keeps in
     let slot = segment_slot segment.epoch in
     let encoded : EncodesSegment segment.epoch (slot_of c slot) has.records =
-    in_use_encodes segment.epoch (slot_of c slot) has.records (subst (λ (l : List ℕ). IsInUse segment.epoch l has.records) (sym (has.synced c left)) has.in_use) in
-    subst (λ (s : Slots). Recovered (as_written s) state) (with_own slot c) (has.others c left (slot_of c slot) has.records state encoded has.run)
+    in_use_encodes segment.epoch (slot_of c slot) has.records
+    (subst (λ (l : List ℕ). IsInUse segment.epoch l has.records) (sym (has.synced c left)) has.in_use) in
+    subst (λ (s : Slots). Recovered (as_written s) state) (with_own slot c)
+    (has.others c left (slot_of c slot) has.records state encoded has.run)
 
 -- records that are stored after others
-module _ (segment : Segment) (base before after : State) (stored records : List Record) (batch : BatchValue) (run : Run base stored before) (counted : segment.records ≡ length stored) (is : IsReadyBatch before after segment.records records batch) where
+module _ (segment : Segment) (base before after : State) (stored records : List Record) (batch : BatchValue)
+    (run : Run base stored before) (counted : segment.records ≡ length stored)
+    (is : IsReadyBatch before after segment.records records batch) where
   more_run : Run base (stored ++ map canonical_record records) after
-  more_run = run_join base before after stored (map canonical_record records) run ((run_as_canonical before records after is.fit).1 is.run)
+  more_run =
+      run_join base before after stored (map canonical_record records) run
+      ((run_as_canonical before records after is.fit).1 is.run)
 
   more_counted : segment.records + length records ≡ length (stored ++ map canonical_record records)
   more_counted = omega (arith, counted, length-append stored (map canonical_record records), map_long records)
 
   encoding_is : content_of batch ≡ batch_encoding (length stored) (map canonical_record records)
-  encoding_is = holds_kept segment.records records batch is.holds ∙ ap (λ (n : ℕ). batch_encoding n (map canonical_record records)) counted
+  encoding_is =
+      holds_kept segment.records records batch is.holds ∙ ap
+      (λ (n : ℕ). batch_encoding n (map canonical_record records)) counted
 
   more_some : 0 < length (map canonical_record records)
   more_some = omega (arith, is.some, map_long records)
@@ -143,58 +174,87 @@ module _ (segment : Segment) (base before after : State) (stored records : List 
   more_room : length stored + length (map canonical_record records) ≤ MAX_RECORDS
   more_room = omega (arith, is.room, counted, map_long records)
 
-  more_in_use : (e : ℕ) (bytes : List ℕ) → IsInUse e bytes stored → IsInUse e (with_batch bytes (content_of batch)) (stored ++ map canonical_record records)
+  more_in_use : (e : ℕ) (bytes : List ℕ) → IsInUse e bytes stored
+      → IsInUse e (with_batch bytes (content_of batch)) (stored ++ map canonical_record records)
   more_in_use e bytes used =
-      subst (λ (t : List ℕ). IsInUse e (with_batch bytes t) (stored ++ map canonical_record records)) (sym encoding_is) (in_use_with e bytes stored (map canonical_record records) used is.are more_some more_room)
+      subst (λ (t : List ℕ). IsInUse e (with_batch bytes t) (stored ++ map canonical_record records)) (sym encoding_is)
+      (in_use_with e bytes stored (map canonical_record records) used is.are more_some more_room)
 
-  more_mid : (e : ℕ) (bytes now : List ℕ) → IsInUse e bytes stored → IsMidAppend bytes (content_of batch) now → EncodesSegment e now stored ⊎ EncodesSegment e now (stored ++ map canonical_record records)
-  more_mid e bytes now used mid = mid_encodes e bytes now stored (map canonical_record records) used is.are more_some more_room (subst (λ (t : List ℕ). IsMidAppend bytes t now) encoding_is mid)
+  more_mid : (e : ℕ) (bytes now : List ℕ) → IsInUse e bytes stored → IsMidAppend bytes (content_of batch) now
+      → EncodesSegment e now stored ⊎ EncodesSegment e now (stored ++ map canonical_record records)
+  more_mid e bytes now used mid =
+      mid_encodes e bytes now stored (map canonical_record records) used is.are more_some more_room
+      (subst (λ (t : List ℕ). IsMidAppend bytes t now) encoding_is mid)
 
 -- a crash at a moment of the append leaves the state before it or after it
-pub append_mid : (old : View) (segment : Segment) (checkpoint : Option CheckpointValue) (mid before after : State) (records : List Record) (batch : BatchValue) → Keeps old segment checkpoint mid before → IsReadyBatch before after segment.records records batch
-    → (c : Slots) → Follows old (segment_slot segment.epoch) (λ was now. IsMidAppend was (content_of batch) now) c → Recovered (as_written c) before ⊎ Recovered (as_written c) after
+pub append_mid : (old : View) (segment : Segment) (checkpoint : Option CheckpointValue) (mid before after : State)
+    (records : List Record) (batch : BatchValue) → Keeps old segment checkpoint mid before
+    → IsReadyBatch before after segment.records records batch
+    → (c : Slots) → Follows old (segment_slot segment.epoch) (λ was now. IsMidAppend was (content_of batch) now) c
+    → Recovered (as_written c) before ⊎ Recovered (as_written c) after
 append_mid old segment checkpoint mid before after records batch keeps is c made =
     let has = has_segment old segment checkpoint mid before keeps in
     let slot = segment_slot segment.epoch in
     let x = slot_of c slot in
-    let used : IsInUse segment.epoch (slot_of made.0 slot) has.records = subst (λ (l : List ℕ). IsInUse segment.epoch l has.records) (sym (has.synced made.0 made.1)) has.in_use in
-    let stands : (more : List Record) (state : State) → EncodesSegment segment.epoch x more → Run has.base more state → Recovered (as_written c) state =
-    λ more state encoded run. subst (λ (s : Slots). Recovered (as_written s) state) (sym made.3) (has.others made.0 made.1 x more state encoded run) in
-    elim (more_mid segment has.base before after has.records records batch has.run has.counted is segment.epoch (slot_of made.0 slot) x used made.2) [
+    let used : IsInUse segment.epoch (slot_of made.0 slot) has.records =
+    subst (λ (l : List ℕ). IsInUse segment.epoch l has.records) (sym (has.synced made.0 made.1)) has.in_use in
+    let stands : (more : List Record) (state : State) → EncodesSegment segment.epoch x more → Run has.base more state
+    → Recovered (as_written c) state =
+    λ more state encoded run. subst
+    (λ (s : Slots). Recovered (as_written s) state) (sym made.3)
+    (has.others made.0 made.1 x more state encoded run) in
+    elim (more_mid segment has.base before after has.records records batch has.run has.counted is segment.epoch
+    (slot_of made.0 slot) x used made.2) [
       | inl encoded ↦ inl (stands has.records before encoded has.run)
-      | inr encoded ↦ inr (stands (has.records ++ map canonical_record records) after encoded (more_run segment has.base before after has.records records batch has.run has.counted is))
+      | inr encoded ↦ inr (stands (has.records ++ map canonical_record records) after encoded
+          (more_run segment has.base before after has.records records batch has.run has.counted is))
     ]
 
 -- after the append the store is kept, with the records
 
-kept_append : (old new : View) (segment : Segment) (before after : State) (records : List Record) (batch : BatchValue) → IsKept old segment before → IsReadyBatch before after segment.records records batch
-    → IsAppended segment.epoch old.seen new.seen batch → IsSynced new (segment_slot segment.epoch) → PassesAppend segment.epoch old new batch → IsKept new (with_more segment (length records)) after
+kept_append : (old new : View) (segment : Segment) (before after : State) (records : List Record) (batch : BatchValue)
+    → IsKept old segment before → IsReadyBatch before after segment.records records batch
+    → IsAppended segment.epoch old.seen new.seen batch → IsSynced new (segment_slot segment.epoch)
+    → PassesAppend segment.epoch old new batch → IsKept new (with_more segment (length records)) after
 kept_append old new segment before after records batch kept is written synced time =
     let e = segment.epoch in
     let slot = segment_slot e in
     let bytes : List ℕ = with_batch (slot_of old.seen slot) (content_of batch) in
     let more : List Record = kept.records ++ map canonical_record records in
-    let used = more_in_use segment kept.base before after kept.records records batch kept.run kept.counted is e (slot_of old.seen slot) kept.in_use in
+    let used =
+    more_in_use segment kept.base before after kept.records records batch kept.run kept.counted is e
+    (slot_of old.seen slot) kept.in_use in
     record {
-      at_rest = rest_after slot old new (λ was now. IsMidAppend was (content_of batch) now) bytes time written synced kept.at_rest;
+      at_rest =
+          rest_after slot old new (λ was now. IsMidAppend was (content_of batch) now) bytes time written synced
+          kept.at_rest;
       base = kept.base;
       records = more;
-      stands = subst (λ (s : Slots). InOne s e kept.base more) (sym written) (one_segment_changed old.seen e kept.base kept.records more bytes kept.stands (in_use_encodes e bytes more used));
+      stands =
+          subst (λ (s : Slots). InOne s e kept.base more) (sym written)
+          (one_segment_changed old.seen e kept.base kept.records more bytes kept.stands
+          (in_use_encodes e bytes more used));
       in_use = subst (λ (l : List ℕ). IsInUse e l more) (sym (own_of slot old.seen new.seen bytes written)) used;
       run = more_run segment kept.base before after kept.records records batch kept.run kept.counted is;
       counted = more_counted segment kept.base before after kept.records records batch kept.run kept.counted is;
     }
 
-first_append : (old new : View) (segment : Segment) (checkpoint : CheckpointValue) (before after : State) (records : List Record) (batch : BatchValue) → InFirst old segment checkpoint before → IsReadyBatch before after segment.records records batch
-    → IsAppended segment.epoch old.seen new.seen batch → IsSynced new (segment_slot segment.epoch) → PassesAppend segment.epoch old new batch → InFirst new (with_more segment (length records)) checkpoint after
+first_append : (old new : View) (segment : Segment) (checkpoint : CheckpointValue) (before after : State)
+    (records : List Record) (batch : BatchValue) → InFirst old segment checkpoint before
+    → IsReadyBatch before after segment.records records batch
+    → IsAppended segment.epoch old.seen new.seen batch → IsSynced new (segment_slot segment.epoch)
+    → PassesAppend segment.epoch old new batch → InFirst new (with_more segment (length records)) checkpoint after
 first_append old new segment checkpoint before after records batch phase is written synced time =
     let e = segment.epoch in
     let slot = segment_slot e in
     let step : List ℕ → List ℕ → Type 0 = λ was now. IsMidAppend was (content_of batch) now in
     let bytes : List ℕ = with_batch (slot_of old.seen slot) (content_of batch) in
     let more : List Record = phase.records ++ map canonical_record records in
-    let used = more_in_use segment phase.base before after phase.records records batch phase.run phase.counted is e (slot_of old.seen slot) phase.in_use in
-    let next_stays : slot_of new.seen (segment_slot (e + 1)) ≡ slot_of old.seen (segment_slot (e + 1)) = ap (λ (s : Slots). slot_of s (segment_slot (e + 1))) written ∙ (alongside_segment old.seen bytes e).2 in
+    let used =
+    more_in_use segment phase.base before after phase.records records batch phase.run phase.counted is e
+    (slot_of old.seen slot) phase.in_use in
+    let next_stays : slot_of new.seen (segment_slot (e + 1)) ≡ slot_of old.seen (segment_slot (e + 1)) =
+    ap (λ (s : Slots). slot_of s (segment_slot (e + 1))) written ∙ (alongside_segment old.seen bytes e).2 in
     record {
       before = phase.before;
       next = phase.next;
@@ -203,25 +263,35 @@ first_append old new segment checkpoint before after records batch phase is writ
       rolling = subst (λ (l : List ℕ). IsRolling l (e + 1) checkpoint.rolled) (sym next_stays) phase.rolling;
       base = phase.base;
       records = more;
-      stands = subst (λ (s : Slots). InOne s e phase.base more) (sym (without_alongside old new e step bytes time written synced e))
-          (one_segment_changed (without_image old e) e phase.base phase.records more bytes phase.stands (in_use_encodes e bytes more used));
+      stands =
+          subst (λ (s : Slots). InOne s e phase.base more)
+          (sym (without_alongside old new e step bytes time written synced e))
+          (one_segment_changed (without_image old e) e phase.base phase.records more bytes phase.stands
+          (in_use_encodes e bytes more used));
       in_use = subst (λ (l : List ℕ). IsInUse e l more) (sym (own_of slot old.seen new.seen bytes written)) used;
       run = more_run segment phase.base before after phase.records records batch phase.run phase.counted is;
       counted = more_counted segment phase.base before after phase.records records batch phase.run phase.counted is;
     }
 
-second_append : (old new : View) (segment : Segment) (checkpoint : CheckpointValue) (mid before after : State) (records : List Record) (batch : BatchValue) → InSecond old segment checkpoint mid before → IsReadyBatch before after segment.records records batch
-    → IsAppended segment.epoch old.seen new.seen batch → IsSynced new (segment_slot segment.epoch) → PassesAppend segment.epoch old new batch → InSecond new (with_more segment (length records)) checkpoint mid after
+second_append : (old new : View) (segment : Segment) (checkpoint : CheckpointValue) (mid before after : State)
+    (records : List Record) (batch : BatchValue) → InSecond old segment checkpoint mid before
+    → IsReadyBatch before after segment.records records batch
+    → IsAppended segment.epoch old.seen new.seen batch → IsSynced new (segment_slot segment.epoch)
+    → PassesAppend segment.epoch old new batch → InSecond new (with_more segment (length records)) checkpoint mid after
 second_append old new segment checkpoint mid before after records batch phase is appended stays passes =
     let e = phase.former in
     let slot = segment_slot (e + 1) in
     let step : List ℕ → List ℕ → Type 0 = λ was now. IsMidAppend was (content_of batch) now in
     let bytes : List ℕ = with_batch (slot_of old.seen slot) (content_of batch) in
     let more : List Record = phase.records ++ map canonical_record records in
-    let written : new.seen ≡ with_slot old.seen slot bytes = subst (λ (n : ℕ). IsAppended n old.seen new.seen batch) phase.next appended in
+    let written : new.seen ≡ with_slot old.seen slot bytes =
+    subst (λ (n : ℕ). IsAppended n old.seen new.seen batch) phase.next appended in
     let synced : IsSynced new slot = subst (λ (n : ℕ). IsSynced new (segment_slot n)) phase.next stays in
-    let time : Passes old new (Follows old slot step) = subst (λ (n : ℕ). PassesAppend n old new batch) phase.next passes in
-    let used = more_in_use segment mid before after phase.records records batch phase.run phase.counted is (e + 1) (slot_of old.seen slot) phase.in_use in
+    let time : Passes old new (Follows old slot step) =
+    subst (λ (n : ℕ). PassesAppend n old new batch) phase.next passes in
+    let used =
+    more_in_use segment mid before after phase.records records batch phase.run phase.counted is (e + 1)
+    (slot_of old.seen slot) phase.in_use in
     record {
       after = phase.after;
       former = e;
@@ -231,27 +301,37 @@ second_append old new segment checkpoint mid before after records batch phase is
       base = phase.base;
       first = phase.first;
       records = more;
-      stands = subst (λ (s : Slots). InTwo s e phase.base phase.first more) (sym (without_alongside old new (e + 1) step bytes time written synced e))
-          (two_segment_changed (without_image old e) e phase.base phase.first phase.records more bytes phase.stands (in_use_encodes (e + 1) bytes more used));
+      stands =
+          subst (λ (s : Slots). InTwo s e phase.base phase.first more)
+          (sym (without_alongside old new (e + 1) step bytes time written synced e))
+          (two_segment_changed (without_image old e) e phase.base phase.first phase.records more bytes phase.stands
+          (in_use_encodes (e + 1) bytes more used));
       in_use = subst (λ (l : List ℕ). IsInUse (e + 1) l more) (sym (own_of slot old.seen new.seen bytes written)) used;
       run_first = phase.run_first;
       run = more_run segment mid before after phase.records records batch phase.run phase.counted is;
       counted = more_counted segment mid before after phase.records records batch phase.run phase.counted is;
     }
 
-pub append_keeps : (old new : View) (segment : Segment) (checkpoint : Option CheckpointValue) (mid before after : State) (records : List Record) (batch : BatchValue) → Keeps old segment checkpoint mid before → IsReadyBatch before after segment.records records batch
-    → IsAppended segment.epoch old.seen new.seen batch → IsSynced new (segment_slot segment.epoch) → PassesAppend segment.epoch old new batch → Keeps new (with_more segment (length records)) checkpoint mid after
-append_keeps old new segment None mid before after records batch keeps is written synced time = kept_append old new segment before after records batch keeps is written synced time
+pub append_keeps : (old new : View) (segment : Segment) (checkpoint : Option CheckpointValue) (mid before after : State)
+    (records : List Record) (batch : BatchValue) → Keeps old segment checkpoint mid before
+    → IsReadyBatch before after segment.records records batch
+    → IsAppended segment.epoch old.seen new.seen batch → IsSynced new (segment_slot segment.epoch)
+    → PassesAppend segment.epoch old new batch → Keeps new (with_more segment (length records)) checkpoint mid after
+append_keeps old new segment None mid before after records batch keeps is written synced time =
+    kept_append old new segment before after records batch keeps is written synced time
 append_keeps old new segment (Some checkpoint) mid before after records batch keeps is written synced time = record {
   image = keeps.image;
   phase = elim keeps.phase [
     | inl first ↦ inl (first_append old new segment checkpoint before after records batch first is written synced time)
-    | inr second ↦ inr (second_append old new segment checkpoint mid before after records batch second is written synced time)
+    | inr second ↦ inr (second_append old new segment checkpoint mid before after records batch second is written synced
+        time)
   ];
 }
 
 -- a checkpoint begins
-pub begin_keeps : (disk : View) (segment : Segment) (mid state : State) (cut : CutValue) → IsKept disk segment state → segment.epoch + 1 < 2 ^ 64 → cut.epoch ≡ segment.epoch + 1 → IsImageOf cut.encoding mid → Keeps disk segment (Some (begun cut)) mid state
+pub begin_keeps : (disk : View) (segment : Segment) (mid state : State) (cut : CutValue) → IsKept disk segment state
+    → segment.epoch + 1 < 2 ^ 64 → cut.epoch ≡ segment.epoch + 1 → IsImageOf cut.encoding mid
+    → Keeps disk segment (Some (begun cut)) mid state
 begin_keeps disk segment mid state cut kept fits next image =
     let e = segment.epoch in
     record {
@@ -266,7 +346,12 @@ begin_keeps disk segment mid state cut kept fits next image =
           passed = λ _. kept.stands.other_image;
           shut = λ some. absurd (omega (arith, some));
         };
-        rolling = record { begun = λ some. absurd (omega (arith, some)); closed = λ some. absurd (omega (arith, some)); header = λ two. absurd (omega (arith, two)) };
+        rolling =
+            record {
+              begun = λ some. absurd (omega (arith, some));
+              closed = λ some. absurd (omega (arith, some));
+              header = λ two. absurd (omega (arith, two));
+            };
         base = kept.base;
         records = kept.records;
         stands = one_image_changed disk.seen e kept.base kept.records [] kept.stands (shut_image e [] tt);

@@ -24,7 +24,8 @@ use Rattle.store_half.specs.Values.{CheckpointValue}
 -- the first two steps, by what they leave in the next segment's slot
 
 pub closed_rolling : (slot : List ℕ) (epoch : ℕ) → 0 < length slot → IsClosed slot → IsRolling slot epoch 1
-closed_rolling slot epoch begun closed = record { begun = λ _. begun; closed = λ _. closed; header = λ two. absurd (omega (arith, two)) }
+closed_rolling slot epoch begun closed =
+    record { begun = λ _. begun; closed = λ _. closed; header = λ two. absurd (omega (arith, two)) }
 
 long_front : (slot tail : List ℕ) → 0 < length slot → 0 < length (take 1 slot ++ tail)
 long_front [] tail some = absurd (omega (arith, some))
@@ -34,10 +35,14 @@ closed_gate_front : (slot tail : List ℕ) → 0 < length slot → IsClosed slot
 closed_gate_front [] tail some closed = absurd (omega (arith, some))
 closed_gate_front (gate ∷ rest) tail some closed = closed
 
-pub header_closed : (slot : List ℕ) (epoch : ℕ) → IsRolling slot epoch 1 → IsClosed (take 1 slot ++ (epoch_encoding epoch ++ closed_gate ∷ []))
-header_closed slot epoch rolling = closed_gate_front slot (epoch_encoding epoch ++ closed_gate ∷ []) (rolling.begun (omega arith)) (rolling.closed (omega arith))
+pub header_closed : (slot : List ℕ) (epoch : ℕ) → IsRolling slot epoch 1
+    → IsClosed (take 1 slot ++ (epoch_encoding epoch ++ closed_gate ∷ []))
+header_closed slot epoch rolling =
+    closed_gate_front slot (epoch_encoding epoch ++ closed_gate ∷ []) (rolling.begun (omega arith))
+    (rolling.closed (omega arith))
 
-pub header_rolling : (slot : List ℕ) (epoch : ℕ) → IsRolling slot epoch 1 → IsRolling (take 1 slot ++ (epoch_encoding epoch ++ closed_gate ∷ [])) epoch 2
+pub header_rolling : (slot : List ℕ) (epoch : ℕ) → IsRolling slot epoch 1
+    → IsRolling (take 1 slot ++ (epoch_encoding epoch ++ closed_gate ∷ [])) epoch 2
 header_rolling slot epoch rolling =
     let encoding : List ℕ = epoch_encoding epoch ++ closed_gate ∷ [] in
     record {
@@ -46,30 +51,41 @@ header_rolling slot epoch rolling =
       header = λ _. after_first slot encoding (rolling.begun (omega arith));
     }
 
-module _ (old new : View) (segment : Segment) (checkpoint : CheckpointValue) (state : State) (phase : InFirst old segment checkpoint state) where
+module _ (old new : View) (segment : Segment) (checkpoint : CheckpointValue) (state : State)
+    (phase : InFirst old segment checkpoint state) where
   -- the next segment's slot is still passed over
-  pub rolled_keeps : (step : List ℕ → List ℕ → Type 0) (bytes : List ℕ) (rolled : ℕ) → Passes old new (Follows old (segment_slot (segment.epoch + 1)) step) → new.seen ≡ with_slot old.seen (segment_slot (segment.epoch + 1)) bytes
-      → IsSynced new (segment_slot (segment.epoch + 1)) → IsClosed bytes → rolled < 3 → IsRolling bytes (segment.epoch + 1) rolled → InFirst new segment (record checkpoint { rolled = rolled }) state
+  pub rolled_keeps : (step : List ℕ → List ℕ → Type 0) (bytes : List ℕ) (rolled : ℕ)
+      → Passes old new (Follows old (segment_slot (segment.epoch + 1)) step)
+      → new.seen ≡ with_slot old.seen (segment_slot (segment.epoch + 1)) bytes
+      → IsSynced new (segment_slot (segment.epoch + 1)) → IsClosed bytes → rolled < 3
+      → IsRolling bytes (segment.epoch + 1) rolled → InFirst new segment (record checkpoint { rolled = rolled }) state
   rolled_keeps step bytes rolled time is synced closed before rolling =
       let n = segment.epoch in
       let slot = segment_slot (n + 1) in
-      let stays : slot_of new.seen (segment_slot n) ≡ slot_of old.seen (segment_slot n) = ap (λ (s : Slots). slot_of s (segment_slot n)) is ∙ (alongside_next_segment old.seen bytes n).2 in
+      let stays : slot_of new.seen (segment_slot n) ≡ slot_of old.seen (segment_slot n) =
+      ap (λ (s : Slots). slot_of s (segment_slot n)) is ∙ (alongside_next_segment old.seen bytes n).2 in
       record {
         before = before;
         next = phase.next;
         fits = phase.fits;
         imaging = imaging_alongside old new (n + 1) step bytes time is synced n checkpoint.imaged phase.imaging;
-        rolling = subst (λ (l : List ℕ). IsRolling l (n + 1) rolled) (sym (own_of slot old.seen new.seen bytes is)) rolling;
+        rolling =
+            subst (λ (l : List ℕ). IsRolling l (n + 1) rolled) (sym (own_of slot old.seen new.seen bytes is)) rolling;
         base = phase.base;
         records = phase.records;
-        stands = subst (λ (s : Slots). InOne s n phase.base phase.records) (sym (without_alongside old new (n + 1) step bytes time is synced n))
-            (one_next_segment_changed (without_image old n) n phase.base phase.records bytes phase.stands (shut_segment n bytes closed));
+        stands =
+            subst (λ (s : Slots). InOne s n phase.base phase.records)
+            (sym (without_alongside old new (n + 1) step bytes time is synced n))
+            (one_next_segment_changed (without_image old n) n phase.base phase.records bytes phase.stands
+            (shut_segment n bytes closed));
         in_use = subst (λ (l : List ℕ). IsInUse n l phase.records) (sym stays) phase.in_use;
         run = phase.run;
         counted = phase.counted;
       }
 
-  pub rolled_passes : (step : List ℕ → List ℕ → Type 0) → ((was now : List ℕ) → step was now → IsPassedSegment segment.epoch was → IsPassedSegment segment.epoch now) → Passes old new (Follows old (segment_slot (segment.epoch + 1)) step)
+  pub rolled_passes : (step : List ℕ → List ℕ → Type 0)
+      → ((was now : List ℕ) → step was now → IsPassedSegment segment.epoch was → IsPassedSegment segment.epoch now)
+      → Passes old new (Follows old (segment_slot (segment.epoch + 1)) step)
       → Passes old new (λ c. Recovered (as_written c) state)
   rolled_passes step passed time =
       let n = segment.epoch in
@@ -79,15 +95,21 @@ module _ (old new : View) (segment : Segment) (checkpoint : CheckpointValue) (st
       let x = slot_of c slot in
       subst (λ (s : Slots). Recovered (as_written s) state) (sym made.3)
       (one_recovered (with_slot made.0 slot x) n phase.base state phase.records
-      (one_next_segment_changed made.0 n phase.base phase.records x one (passed (slot_of made.0 slot) x made.2 one.other_segment)) phase.run))
+      (one_next_segment_changed made.0 n phase.base phase.records x one
+      (passed (slot_of made.0 slot) x made.2 one.other_segment)) phase.run))
 
   -- after the gate stands all of an empty segment
-  after_gate : checkpoint.rolled ≡ 2 → drop 1 (slot_of old.seen (segment_slot (segment.epoch + 1))) ≡ epoch_encoding (segment.epoch + 1) ++ closed_gate ∷ []
+  after_gate : checkpoint.rolled ≡ 2
+      → drop 1 (slot_of old.seen (segment_slot (segment.epoch + 1))) ≡ epoch_encoding (segment.epoch + 1)
+      ++ closed_gate ∷ []
   after_gate two = phase.rolling.header two
 
   -- it is opened
-  pub opened_keeps : (mid : State) → state ≡ mid → checkpoint.rolled ≡ 2 → Passes old new (Follows old (segment_slot (segment.epoch + 1)) HasSomeGate)
-      → new.seen ≡ with_slot old.seen (segment_slot (segment.epoch + 1)) (open_gate ∷ drop 1 (slot_of old.seen (segment_slot (segment.epoch + 1)))) → IsSynced new (segment_slot (segment.epoch + 1))
+  pub opened_keeps : (mid : State) → state ≡ mid → checkpoint.rolled ≡ 2
+      → Passes old new (Follows old (segment_slot (segment.epoch + 1)) HasSomeGate)
+      → new.seen ≡ with_slot old.seen (segment_slot (segment.epoch + 1))
+      (open_gate ∷ drop 1 (slot_of old.seen (segment_slot (segment.epoch + 1))))
+      → IsSynced new (segment_slot (segment.epoch + 1))
       → InSecond new (record { epoch = checkpoint.epoch; records = 0 }) (record checkpoint { rolled = 3 }) mid state
   opened_keeps mid same two time is synced =
       let n = segment.epoch in
@@ -103,15 +125,20 @@ module _ (old new : View) (segment : Segment) (checkpoint : CheckpointValue) (st
         base = phase.base;
         first = phase.records;
         records = [];
-        stands = subst (λ (s : Slots). InTwo s n phase.base phase.records []) (sym (without_alongside old new (n + 1) HasSomeGate bytes time is synced n))
-            (one_opened (without_image old n) n phase.base phase.records [] bytes phase.stands phase.fits (empty_encodes (n + 1) bytes empty));
+        stands =
+            subst (λ (s : Slots). InTwo s n phase.base phase.records [])
+            (sym (without_alongside old new (n + 1) HasSomeGate bytes time is synced n))
+            (one_opened (without_image old n) n phase.base phase.records [] bytes phase.stands phase.fits
+            (empty_encodes (n + 1) bytes empty));
         in_use = empty_in_use (n + 1) (slot_of new.seen slot) (own_of slot old.seen new.seen bytes is ∙ empty);
         run_first = subst (λ (s : State). Run phase.base phase.records s) same phase.run;
         run = same;
         counted = refl;
       }
 
-  pub opened_passes : checkpoint.rolled ≡ 2 → Passes old new (Follows old (segment_slot (segment.epoch + 1)) HasSomeGate) → Passes old new (λ c. Recovered (as_written c) state)
+  pub opened_passes : checkpoint.rolled ≡ 2
+      → Passes old new (Follows old (segment_slot (segment.epoch + 1)) HasSomeGate)
+      → Passes old new (λ c. Recovered (as_written c) state)
   opened_passes two time =
       let n = segment.epoch in
       let slot = segment_slot (n + 1) in
@@ -119,8 +146,13 @@ module _ (old new : View) (segment : Segment) (checkpoint : CheckpointValue) (st
       let one = first_left old segment checkpoint state phase made.0 made.1 in
       let x = slot_of c slot in
       let behind : drop 1 (slot_of made.0 slot) ≡ epoch_encoding (n + 1) ++ closed_gate ∷ [] =
-      ap (λ (l : List ℕ). drop 1 l) (imaging_synced old n checkpoint.imaged phase.imaging (n + 1) made.0 made.1) ∙ after_gate two in
-      subst (λ (s : Slots). Recovered (as_written s) state) (sym made.3) (elim (gate_opened (epoch_encoding (n + 1) ++ closed_gate ∷ []) (slot_of made.0 slot) x behind made.2) [
-        | inl shut ↦ one_recovered (with_slot made.0 slot x) n phase.base state phase.records (one_next_segment_changed made.0 n phase.base phase.records x one (shut_segment n x shut)) phase.run
-        | inr whole ↦ two_recovered (with_slot made.0 slot x) n phase.base state state phase.records [] (one_opened made.0 n phase.base phase.records [] x one phase.fits (empty_encodes (n + 1) x whole)) phase.run refl
+      ap (λ (l : List ℕ). drop 1 l) (imaging_synced old n checkpoint.imaged phase.imaging (n + 1) made.0 made.1)
+      ∙ after_gate two in
+      subst (λ (s : Slots). Recovered (as_written s) state) (sym made.3)
+      (elim (gate_opened (epoch_encoding (n + 1) ++ closed_gate ∷ []) (slot_of made.0 slot) x behind made.2) [
+        | inl shut ↦ one_recovered (with_slot made.0 slot x) n phase.base state phase.records
+            (one_next_segment_changed made.0 n phase.base phase.records x one (shut_segment n x shut)) phase.run
+        | inr whole ↦ two_recovered (with_slot made.0 slot x) n phase.base state state phase.records []
+            (one_opened made.0 n phase.base phase.records [] x one phase.fits (empty_encodes (n + 1) x whole)) phase.run
+            refl
       ]))

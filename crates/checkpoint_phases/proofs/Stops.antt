@@ -21,37 +21,53 @@ module _ (disk : View) (epoch imaged : ℕ) (imaging : IsImaging disk epoch imag
   -- the next image is passed over
   pub imaging_passed : (c : Slots) → MayLeave disk c → IsPassedImage epoch (slot_of c (image_slot (epoch + 1)))
   imaging_passed c left = elim (cases_eq imaged 0) as (λ _. IsPassedImage epoch (slot_of c (image_slot (epoch + 1)))) [
-    | inl none ↦ subst (IsPassedImage epoch) (sym (ap (λ (s : Slots). slot_of s (image_slot (epoch + 1))) (imaging.untouched none c left))) (imaging.passed none)
+    | inl none ↦ subst (IsPassedImage epoch)
+        (sym (ap (λ (s : Slots). slot_of s (image_slot (epoch + 1))) (imaging.untouched none c left)))
+        (imaging.passed none)
     | inr some ↦ shut_image epoch (slot_of c (image_slot (epoch + 1))) (imaging.shut (omega (arith, some)) c left)
   ]
 
   -- the other slots are as a read gives them
-  pub imaging_left : (c : Slots) → MayLeave disk c → c ≡ with_slot (without_image disk epoch) (image_slot (epoch + 1)) (slot_of c (image_slot (epoch + 1)))
-  imaging_left c left = imaging.rest c left ∙ sym (with_twice (image_slot (epoch + 1)) disk.seen [] (slot_of c (image_slot (epoch + 1))))
+  pub imaging_left : (c : Slots) → MayLeave disk c
+      → c ≡ with_slot (without_image disk epoch) (image_slot (epoch + 1)) (slot_of c (image_slot (epoch + 1)))
+  imaging_left c left =
+      imaging.rest c left ∙ sym (with_twice (image_slot (epoch + 1)) disk.seen [] (slot_of c (image_slot (epoch + 1))))
 
   pub imaging_synced : (number : ℕ) → IsSynced disk (segment_slot number)
   imaging_synced number c left =
-      ap (λ (s : Slots). slot_of s (segment_slot number)) (imaging.rest c left) ∙ segment_stays disk.seen (slot_of c (image_slot (epoch + 1))) (epoch + 1) number
+      ap (λ (s : Slots). slot_of s (segment_slot number)) (imaging.rest c left)
+      ∙ segment_stays disk.seen (slot_of c (image_slot (epoch + 1))) (epoch + 1) number
 
-pub first_left : (disk : View) (segment : Segment) (checkpoint : CheckpointValue) (state : State) → (phase : InFirst disk segment checkpoint state) → (c : Slots) → MayLeave disk c → InOne c segment.epoch phase.base phase.records
+pub first_left : (disk : View) (segment : Segment) (checkpoint : CheckpointValue) (state : State)
+    → (phase : InFirst disk segment checkpoint state) → (c : Slots) → MayLeave disk c
+    → InOne c segment.epoch phase.base phase.records
 first_left disk segment checkpoint state phase c left =
     let e = segment.epoch in
-    subst (λ (s : Slots). InOne s e phase.base phase.records) (sym (imaging_left disk e checkpoint.imaged phase.imaging c left))
-    (one_image_changed (without_image disk e) e phase.base phase.records (slot_of c (image_slot (e + 1))) phase.stands (imaging_passed disk e checkpoint.imaged phase.imaging c left))
+    subst (λ (s : Slots). InOne s e phase.base phase.records)
+    (sym (imaging_left disk e checkpoint.imaged phase.imaging c left))
+    (one_image_changed (without_image disk e) e phase.base phase.records (slot_of c (image_slot (e + 1))) phase.stands
+    (imaging_passed disk e checkpoint.imaged phase.imaging c left))
 
-pub second_left : (disk : View) (segment : Segment) (checkpoint : CheckpointValue) (mid state : State) → (phase : InSecond disk segment checkpoint mid state) → (c : Slots) → MayLeave disk c → InTwo c phase.former phase.base phase.first phase.records
+pub second_left : (disk : View) (segment : Segment) (checkpoint : CheckpointValue) (mid state : State)
+    → (phase : InSecond disk segment checkpoint mid state) → (c : Slots) → MayLeave disk c
+    → InTwo c phase.former phase.base phase.first phase.records
 second_left disk segment checkpoint mid state phase c left =
     let e = phase.former in
-    subst (λ (s : Slots). InTwo s e phase.base phase.first phase.records) (sym (imaging_left disk e checkpoint.imaged phase.imaging c left))
-    (two_image_changed (without_image disk e) e phase.base phase.first phase.records (slot_of c (image_slot (e + 1))) phase.stands (imaging_passed disk e checkpoint.imaged phase.imaging c left))
+    subst (λ (s : Slots). InTwo s e phase.base phase.first phase.records)
+    (sym (imaging_left disk e checkpoint.imaged phase.imaging c left))
+    (two_image_changed (without_image disk e) e phase.base phase.first phase.records
+    (slot_of c (image_slot (e + 1))) phase.stands (imaging_passed disk e checkpoint.imaged phase.imaging c left))
 
 -- which phase a checkpoint is in
-module _ (disk : View) (segment : Segment) (checkpoint : CheckpointValue) (mid state : State) (keeps : IsCheckpointing disk segment checkpoint mid state) where
+module _ (disk : View) (segment : Segment) (checkpoint : CheckpointValue) (mid state : State)
+    (keeps : IsCheckpointing disk segment checkpoint mid state) where
   pub first_phase : checkpoint.rolled < 3 → InFirst disk segment checkpoint state
-  first_phase before = elim keeps.phase [ inl first ↦ first | inr second ↦ absurd (omega (arith, before, second.after)) ]
+  first_phase before =
+      elim keeps.phase [ inl first ↦ first | inr second ↦ absurd (omega (arith, before, second.after)) ]
 
   pub second_phase : checkpoint.rolled ≡ 3 → InSecond disk segment checkpoint mid state
-  second_phase after = elim keeps.phase [ inl first ↦ absurd (omega (arith, after, first.before)) | inr second ↦ second ]
+  second_phase after =
+      elim keeps.phase [ inl first ↦ absurd (omega (arith, after, first.before)) | inr second ↦ second ]
 
   -- what a crash leaves of the next image's slot
 
@@ -69,19 +85,28 @@ module _ (disk : View) (segment : Segment) (checkpoint : CheckpointValue) (mid s
 
   -- and that of the next segment
   pub next_synced : checkpoint.rolled < 3 → IsSynced disk (segment_slot checkpoint.epoch)
-  next_synced before = let phase = first_phase before in imaging_synced disk segment.epoch checkpoint.imaged phase.imaging checkpoint.epoch
+  next_synced before =
+      let phase = first_phase before in
+      imaging_synced disk segment.epoch checkpoint.imaged phase.imaging checkpoint.epoch
 
   pub next_shut : checkpoint.rolled ≡ 1 → IsShut disk (segment_slot checkpoint.epoch)
   next_shut one =
       let phase = first_phase (omega (arith, one)) in
-      let closed : IsClosed (slot_of disk.seen (segment_slot checkpoint.epoch)) = subst (λ (n : ℕ). IsClosed (slot_of disk.seen (segment_slot n))) (sym phase.next) (phase.rolling.closed (omega (arith, one))) in
+      let closed : IsClosed (slot_of disk.seen (segment_slot checkpoint.epoch)) =
+      subst (λ (n : ℕ). IsClosed (slot_of disk.seen (segment_slot n))) (sym phase.next)
+      (phase.rolling.closed (omega (arith, one))) in
       synced_shut (segment_slot checkpoint.epoch) disk (next_synced (omega (arith, one))) closed
 
 -- a store that is kept within a checkpoint
-pub keeps_under_way : (disk : View) (segment : Segment) (found : Option CheckpointValue) (checkpoint : CheckpointValue) (mid state : State) → Keeps disk segment found mid state → found ≡ Some checkpoint → IsCheckpointing disk segment checkpoint mid state
-keeps_under_way disk segment found checkpoint mid state keeps is = subst (λ (o : Option CheckpointValue). Keeps disk segment o mid state) is keeps
+pub keeps_under_way : (disk : View) (segment : Segment) (found : Option CheckpointValue) (checkpoint : CheckpointValue)
+    (mid state : State) → Keeps disk segment found mid state → found ≡ Some checkpoint
+    → IsCheckpointing disk segment checkpoint mid state
+keeps_under_way disk segment found checkpoint mid state keeps is =
+    subst (λ (o : Option CheckpointValue). Keeps disk segment o mid state) is keeps
 
-pub keeps_on : (disk : View) (now segment : Segment) (found : Option CheckpointValue) (checkpoint : CheckpointValue) (mid state : State) → now ≡ segment → found ≡ Some checkpoint → IsCheckpointing disk segment checkpoint mid state
+pub keeps_on : (disk : View) (now segment : Segment) (found : Option CheckpointValue) (checkpoint : CheckpointValue)
+    (mid state : State) → now ≡ segment → found ≡ Some checkpoint → IsCheckpointing disk segment checkpoint mid state
     → Keeps disk now found mid state
 keeps_on disk now segment found checkpoint mid state same is keeps =
-    subst (λ (o : Option CheckpointValue). Keeps disk now o mid state) (sym is) (subst (λ (g : Segment). IsCheckpointing disk g checkpoint mid state) (sym same) keeps)
+    subst (λ (o : Option CheckpointValue). Keeps disk now o mid state) (sym is)
+    (subst (λ (g : Segment). IsCheckpointing disk g checkpoint mid state) (sym same) keeps)

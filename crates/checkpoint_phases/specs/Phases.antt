@@ -68,7 +68,8 @@ pub record InSecond (disk : View) (segment : Segment) (checkpoint : CheckpointVa
   pub counted : segment.records ≡ length records
 
 -- a checkpoint under way, whose image is of this state
-pub record IsCheckpointing (disk : View) (segment : Segment) (checkpoint : CheckpointValue) (mid state : State) : Type 0 where
+pub record IsCheckpointing (disk : View) (segment : Segment) (checkpoint : CheckpointValue)
+    (mid state : State) : Type 0 where
   pub image : IsImageOf checkpoint.encoding mid
   pub phase : InFirst disk segment checkpoint state ⊎ InSecond disk segment checkpoint mid state
 

@@ -33,7 +33,8 @@ pub fn question_in(words: Option<&[String]>) -> Option<Question>
 /// Writes what a program with this name and help is asked for, and flushes it. It returns the status to end with: 0, or
 /// 1 if the output can't be written, and then some first bytes may have been.
 pub fn tell_about<W: Write>(question: Question, name: &str, help: &str, output: &mut W) -> u8
-    ensures ok { result ≡ 0 → Appends (W.contents output.old) (W.contents output.new) (told name.now help.now question) }
+    ensures ok { result ≡ 0 → Appends (W.contents output.old) (W.contents output.new)
+        (told name.now help.now question) }
     ensures part { AppendsPart (W.contents output.old) (W.contents output.new) (told name.now help.now question) }
     ensures status { result ≤ 1 }
 {
@@ -61,7 +62,8 @@ fn send<W: Write>(output: &mut W, text: &str) -> Result<(), WireFault>
 
 fn send_version<W: Write>(output: &mut W, name: &str) -> Result<(), WireFault>
     ensures ok { OnOk result (Appends (W.contents output.old) (W.contents output.new) (name.now ++ version_lines)) }
-    ensures part { OnErr result (AppendsPart (W.contents output.old) (W.contents output.new) (name.now ++ version_lines)) }
+    ensures part { OnErr result (AppendsPart (W.contents output.old) (W.contents output.new)
+        (name.now ++ version_lines)) }
 {
     write_bytes(output, name.as_bytes())?;
     send(

@@ -18,8 +18,10 @@ pub fn read_words<R: Env + AllocGlobal>(rt: &R) -> Option<Vec<String>> {
 
 /// The word, if there is exactly one.
 pub fn one_word(words: Option<&[String]>) -> Option<&str>
-    ensures one { IfSome result (λ word. option_map (λ texts. map string_bytes texts.now) words.entry ≡ Some (word.now ∷ [])) }
-    ensures other { IfNone result ((word : List ℕ) → option_map (λ texts. map string_bytes texts.now) words.entry ≢ Some (word ∷ [])) }
+    ensures one { IfSome result (λ word. option_map (λ texts. map string_bytes texts.now) words.entry
+        ≡ Some (word.now ∷ [])) }
+    ensures other { IfNone result ((word : List ℕ)
+        → option_map (λ texts. map string_bytes texts.now) words.entry ≢ Some (word ∷ [])) }
 {
     match words {
         Some([word]) => Some(word.as_str()),

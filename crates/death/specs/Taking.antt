@@ -7,4 +7,5 @@ use Rattle.ipc_model.specs.state.State.{State, lives}
 -- right would not come back to the port's own queue.
 abbrev pub taker : State → ℕ → Option ℕ → Option ℕ
 taker state serial None = None
-taker state serial (Some target) = if lives state target && not (is_circular state serial target) then Some target else None
+taker state serial (Some target) =
+    if lives state target && not (is_circular state serial target) then Some target else None

@@ -19,8 +19,10 @@ pub fn release_receive(
     serial: u64,
     effects: &mut Effects,
 ) -> Result<(), AllocError>
-    ensures state { OnOk result (state.new.current ≡ (released_if_live state.old.current serial RightKind.Receive (map.get state.old.current.ports serial)).0) }
-    ensures effects { OnOk result (effects.new ≡ effects.old ++ (released_if_live state.old.current serial RightKind.Receive (map.get state.old.current.ports serial)).1) }
+    ensures state { OnOk result (state.new.current
+        ≡ (released_if_live state.old.current serial RightKind.Receive (map.get state.old.current.ports serial)).0) }
+    ensures effects { OnOk result (effects.new ≡ effects.old
+        ++ (released_if_live state.old.current serial RightKind.Receive (map.get state.old.current.ports serial)).1) }
     ensures before { state.new.before ≡ state.old.before }
 {
     let Some(numbers) = state.numbers(serial) else {
@@ -74,7 +76,8 @@ fn die(
     effects: &mut Effects,
 ) -> Result<(), AllocError>
     ensures state { OnOk result (state.new.current ≡ after_death state.old.current serial) }
-    ensures effects { OnOk result ((port : PortState) → map.get state.old.current.ports serial ≡ Some port → port.no_senders_target ≡ numbers.no_senders_target
+    ensures effects { OnOk result ((port : PortState) → map.get state.old.current.ports serial ≡ Some port
+        → port.no_senders_target ≡ numbers.no_senders_target
         → effects.new ≡ effects.old ++ effects_of_death state.old.current serial port) }
     ensures before { state.new.before ≡ state.old.before }
 {

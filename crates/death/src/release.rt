@@ -10,7 +10,8 @@ use transit::{IpcState, PortNumbers};
 
 /// A send right was released. If none is left, a no-senders request is taken, and its notice goes out.
 pub fn release_send(alloc: Global, state: &mut IpcState, serial: u64) -> Result<(), AllocError>
-    ensures ok { OnOk result (state.new.current ≡ (released_if_live state.old.current serial RightKind.Send (map.get state.old.current.ports serial)).0) }
+    ensures ok { OnOk result (state.new.current
+        ≡ (released_if_live state.old.current serial RightKind.Send (map.get state.old.current.ports serial)).0) }
     ensures before { state.new.before ≡ state.old.before }
 {
     let Some(numbers) = state.numbers(serial) else {
@@ -33,7 +34,8 @@ pub fn release_send(alloc: Global, state: &mut IpcState, serial: u64) -> Result<
 
 /// A send-once right was released. It is used to send a send-once notice.
 pub fn release_send_once(alloc: Global, state: &mut IpcState, serial: u64) -> Result<(), AllocError>
-    ensures ok { OnOk result (state.new.current ≡ (released_if_live state.old.current serial RightKind.SendOnce (map.get state.old.current.ports serial)).0) }
+    ensures ok { OnOk result (state.new.current
+        ≡ (released_if_live state.old.current serial RightKind.SendOnce (map.get state.old.current.ports serial)).0) }
     ensures before { state.new.before ≡ state.old.before }
 {
     notify(alloc, state, serial, Notice::SendOnce)

@@ -48,8 +48,10 @@ fn release(
     port: u64,
     effects: &mut Effects,
 ) -> Result<(), AllocError>
-    ensures state { OnOk result (state.new.current ≡ (released_if_live state.old.current port kind (map.get state.old.current.ports port)).0) }
-    ensures effects { OnOk result (effects.new ≡ effects.old ++ (released_if_live state.old.current port kind (map.get state.old.current.ports port)).1) }
+    ensures state { OnOk result (state.new.current
+        ≡ (released_if_live state.old.current port kind (map.get state.old.current.ports port)).0) }
+    ensures effects { OnOk result (effects.new ≡ effects.old
+        ++ (released_if_live state.old.current port kind (map.get state.old.current.ports port)).1) }
     ensures before { state.new.before ≡ state.old.before }
 {
     match kind {

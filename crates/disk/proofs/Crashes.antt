@@ -22,34 +22,114 @@ pub record IsMixed (left seen c : Slots) : Type 0 where
 abbrev StepOn : Slot → (List ℕ → List ℕ → Type 0) → (Slots → Type 0) → Slots → Type 0
 StepOn slot R P c = (d : Slots) × P d × R (slot_of d slot) (slot_of c slot) × (c ≡ with_slot d slot (slot_of c slot))
 
-step_on : (slot : Slot) (R : List ℕ → List ℕ → Type 0) (P : Slots → Type 0) (left seen : Slots) (y z : List ℕ) → R (slot_of left slot) y → R (slot_of seen slot) z → ((c : Slots) → IsMixed left seen c → P c) → (c : Slots) → IsMixed (with_slot left slot y) (with_slot seen slot z) c → StepOn slot R P c
+step_on : (slot : Slot) (R : List ℕ → List ℕ → Type 0) (P : Slots → Type 0) (left seen : Slots) (y z : List ℕ)
+    → R (slot_of left slot) y → R (slot_of seen slot) z → ((c : Slots) → IsMixed left seen c → P c) → (c : Slots)
+    → IsMixed (with_slot left slot y) (with_slot seen slot z) c → StepOn slot R P c
 step_on Image0 R P left seen y z torn done all c mixed = elim mixed.image0 [
-  | inl is ↦ (record c { image0 = left.image0 }, all _ (record { image0 = inl refl; image1 = mixed.image1; segment0 = mixed.segment0; segment1 = mixed.segment1 }), subst (R left.image0) (sym is) torn, refl)
-  | inr is ↦ (record c { image0 = seen.image0 }, all _ (record { image0 = inr refl; image1 = mixed.image1; segment0 = mixed.segment0; segment1 = mixed.segment1 }), subst (R seen.image0) (sym is) done, refl)
+  | inl is ↦ (
+    record c { image0 = left.image0 },
+    all _ (record { image0 = inl refl; image1 = mixed.image1; segment0 = mixed.segment0; segment1 = mixed.segment1 }),
+    subst (R left.image0) (sym is) torn,
+    refl,
+  )
+  | inr is ↦ (
+    record c { image0 = seen.image0 },
+    all _ (record { image0 = inr refl; image1 = mixed.image1; segment0 = mixed.segment0; segment1 = mixed.segment1 }),
+    subst (R seen.image0) (sym is) done,
+    refl,
+  )
 ]
 step_on Image1 R P left seen y z torn done all c mixed = elim mixed.image1 [
-  | inl is ↦ (record c { image1 = left.image1 }, all _ (record { image0 = mixed.image0; image1 = inl refl; segment0 = mixed.segment0; segment1 = mixed.segment1 }), subst (R left.image1) (sym is) torn, refl)
-  | inr is ↦ (record c { image1 = seen.image1 }, all _ (record { image0 = mixed.image0; image1 = inr refl; segment0 = mixed.segment0; segment1 = mixed.segment1 }), subst (R seen.image1) (sym is) done, refl)
+  | inl is ↦ (
+    record c { image1 = left.image1 },
+    all _ (record { image0 = mixed.image0; image1 = inl refl; segment0 = mixed.segment0; segment1 = mixed.segment1 }),
+    subst (R left.image1) (sym is) torn,
+    refl,
+  )
+  | inr is ↦ (
+    record c { image1 = seen.image1 },
+    all _ (record { image0 = mixed.image0; image1 = inr refl; segment0 = mixed.segment0; segment1 = mixed.segment1 }),
+    subst (R seen.image1) (sym is) done,
+    refl,
+  )
 ]
 step_on Segment0 R P left seen y z torn done all c mixed = elim mixed.segment0 [
-  | inl is ↦ (record c { segment0 = left.segment0 }, all _ (record { image0 = mixed.image0; image1 = mixed.image1; segment0 = inl refl; segment1 = mixed.segment1 }), subst (R left.segment0) (sym is) torn, refl)
-  | inr is ↦ (record c { segment0 = seen.segment0 }, all _ (record { image0 = mixed.image0; image1 = mixed.image1; segment0 = inr refl; segment1 = mixed.segment1 }), subst (R seen.segment0) (sym is) done, refl)
+  | inl is ↦ (
+    record c { segment0 = left.segment0 },
+    all _ (record { image0 = mixed.image0; image1 = mixed.image1; segment0 = inl refl; segment1 = mixed.segment1 }),
+    subst (R left.segment0) (sym is) torn,
+    refl,
+  )
+  | inr is ↦ (
+    record c { segment0 = seen.segment0 },
+    all _ (record { image0 = mixed.image0; image1 = mixed.image1; segment0 = inr refl; segment1 = mixed.segment1 }),
+    subst (R seen.segment0) (sym is) done,
+    refl,
+  )
 ]
 step_on Segment1 R P left seen y z torn done all c mixed = elim mixed.segment1 [
-  | inl is ↦ (record c { segment1 = left.segment1 }, all _ (record { image0 = mixed.image0; image1 = mixed.image1; segment0 = mixed.segment0; segment1 = inl refl }), subst (R left.segment1) (sym is) torn, refl)
-  | inr is ↦ (record c { segment1 = seen.segment1 }, all _ (record { image0 = mixed.image0; image1 = mixed.image1; segment0 = mixed.segment0; segment1 = inr refl }), subst (R seen.segment1) (sym is) done, refl)
+  | inl is ↦ (
+    record c { segment1 = left.segment1 },
+    all _ (record { image0 = mixed.image0; image1 = mixed.image1; segment0 = mixed.segment0; segment1 = inl refl }),
+    subst (R left.segment1) (sym is) torn,
+    refl,
+  )
+  | inr is ↦ (
+    record c { segment1 = seen.segment1 },
+    all _ (record { image0 = mixed.image0; image1 = mixed.image1; segment0 = mixed.segment0; segment1 = inr refl }),
+    subst (R seen.segment1) (sym is) done,
+    refl,
+  )
 ]
 
 -- a synced slot has what a read gives
-sync_on : (slot : Slot) (P : Slots → Type 0) (left seen : Slots) → ((c : Slots) → IsMixed left seen c → P c) → (c : Slots) → IsMixed (with_slot left slot (slot_of seen slot)) seen c → P c × (slot_of c slot ≡ slot_of seen slot)
+sync_on : (slot : Slot) (P : Slots → Type 0) (left seen : Slots) → ((c : Slots) → IsMixed left seen c → P c)
+    → (c : Slots) → IsMixed (with_slot left slot (slot_of seen slot)) seen c → P c
+    × (slot_of c slot ≡ slot_of seen slot)
 sync_on Image0 P left seen all c mixed =
-    let same : c.image0 ≡ seen.image0 = elim mixed.image0 [ inl is ↦ is | inr is ↦ is ] in (all c (record { image0 = inr same; image1 = mixed.image1; segment0 = mixed.segment0; segment1 = mixed.segment1 }), same)
+    let same : c.image0 ≡ seen.image0 =
+    elim mixed.image0 [ inl is ↦ is | inr is ↦ is ] in (
+      all c (record {
+        image0 = inr same;
+        image1 = mixed.image1;
+        segment0 = mixed.segment0;
+        segment1 = mixed.segment1;
+      }),
+      same,
+    )
 sync_on Image1 P left seen all c mixed =
-    let same : c.image1 ≡ seen.image1 = elim mixed.image1 [ inl is ↦ is | inr is ↦ is ] in (all c (record { image0 = mixed.image0; image1 = inr same; segment0 = mixed.segment0; segment1 = mixed.segment1 }), same)
+    let same : c.image1 ≡ seen.image1 =
+    elim mixed.image1 [ inl is ↦ is | inr is ↦ is ] in (
+      all c (record {
+        image0 = mixed.image0;
+        image1 = inr same;
+        segment0 = mixed.segment0;
+        segment1 = mixed.segment1;
+      }),
+      same,
+    )
 sync_on Segment0 P left seen all c mixed =
-    let same : c.segment0 ≡ seen.segment0 = elim mixed.segment0 [ inl is ↦ is | inr is ↦ is ] in (all c (record { image0 = mixed.image0; image1 = mixed.image1; segment0 = inr same; segment1 = mixed.segment1 }), same)
+    let same : c.segment0 ≡ seen.segment0 =
+    elim mixed.segment0 [ inl is ↦ is | inr is ↦ is ] in (
+      all c (record {
+        image0 = mixed.image0;
+        image1 = mixed.image1;
+        segment0 = inr same;
+        segment1 = mixed.segment1;
+      }),
+      same,
+    )
 sync_on Segment1 P left seen all c mixed =
-    let same : c.segment1 ≡ seen.segment1 = elim mixed.segment1 [ inl is ↦ is | inr is ↦ is ] in (all c (record { image0 = mixed.image0; image1 = mixed.image1; segment0 = mixed.segment0; segment1 = inr same }), same)
+    let same : c.segment1 ≡ seen.segment1 =
+    elim mixed.segment1 [ inl is ↦ is | inr is ↦ is ] in (
+      all c (record {
+        image0 = mixed.image0;
+        image1 = mixed.image1;
+        segment0 = mixed.segment0;
+        segment1 = inr same;
+      }),
+      same,
+    )
 
 with_same : (slot : Slot) (seen : Slots) → with_slot seen slot (slot_of seen slot) ≡ seen
 with_same Image0 seen = refl
@@ -61,18 +141,23 @@ with_same Segment1 seen = refl
 pub write_lost : (at n : ℕ) (old : List ℕ) → TornWrite at n old old
 write_lost at n old = record { before = refl; after = refl; no_shorter = omega arith; no_longer = omega arith }
 
-pub write_kept : (at n : ℕ) (old bytes : List ℕ) → at ≤ length old → length bytes ≡ n → TornWrite at n old (written_at old at bytes)
+pub write_kept : (at n : ℕ) (old bytes : List ℕ) → at ≤ length old → length bytes ≡ n
+    → TornWrite at n old (written_at old at bytes)
 write_kept at n old bytes le long =
     let front : length (take at old) ≡ at = omega (arith, length-take at old) in
     let back = drop (at + length bytes) old in
-    let written : length (take at old ++ bytes) ≡ at + length bytes = omega (arith, front, length-append (take at old) bytes) in
-    let parts : length (written_at old at bytes) ≡ at + length bytes + length back = omega (arith, written, length-append (take at old ++ bytes) back) in
+    let written : length (take at old ++ bytes) ≡ at + length bytes =
+    omega (arith, front, length-append (take at old) bytes) in
+    let parts : length (written_at old at bytes) ≡ at + length bytes + length back =
+    omega (arith, written, length-append (take at old ++ bytes) back) in
     let rest : length back ≡ length old - (at + length bytes) = length-drop (at + length bytes) old in
     let begins : take at (written_at old at bytes) ≡ take at old =
     ap (take at) (append_assoc (take at old) bytes back) ∙ take_at (take at old) (bytes ++ back) at front in
     record {
       before = begins;
-      after = subst (λ k. drop (at + k) (written_at old at bytes) ≡ drop (at + k) old) long (drop_at (take at old ++ bytes) back (at + length bytes) written);
+      after =
+          subst (λ k. drop (at + k) (written_at old at bytes) ≡ drop (at + k) old) long
+          (drop_at (take at old ++ bytes) back (at + length bytes) written);
       no_shorter = omega arith;
       no_longer = omega arith;
     }
@@ -88,21 +173,32 @@ cut_kept n old = record {
 }
 
 module _ (P : Slots → Type 0) (left seen new : Slots) (all : (c : Slots) → IsMixed left seen c → P c) where
-  mixed_on : (slot : Slot) (R : List ℕ → List ℕ → Type 0) (y z : List ℕ) (now : Slots) → R (slot_of left slot) y → R (slot_of seen slot) z → new ≡ with_slot left slot y → now ≡ with_slot seen slot z → (c : Slots) → IsMixed new now c → StepOn slot R P c
+  mixed_on : (slot : Slot) (R : List ℕ → List ℕ → Type 0) (y z : List ℕ) (now : Slots) → R (slot_of left slot) y
+      → R (slot_of seen slot) z → new ≡ with_slot left slot y → now ≡ with_slot seen slot z → (c : Slots)
+      → IsMixed new now c → StepOn slot R P c
   mixed_on slot R y z now torn done is becomes c mixed =
-      step_on slot R P left seen y z torn done all c (subst (λ s. IsMixed (with_slot left slot y) s c) becomes (subst (λ s. IsMixed s now c) is mixed))
+      step_on slot R P left seen y z torn done all c
+      (subst (λ s. IsMixed (with_slot left slot y) s c) becomes (subst (λ s. IsMixed s now c) is mixed))
 
   -- one more call
-  pub tears_on : (call : LoggedCall) → Tears call seen left new → (c : Slots) → IsMixed new (seen_after call seen) c → left_after call seen P c
+  pub tears_on : (call : LoggedCall) → Tears call seen left new → (c : Slots) → IsMixed new (seen_after call seen) c
+      → left_after call seen P c
   tears_on (Write slot at bytes true) torn c mixed =
       let begins : within seen slot at ≤ length (slot_of seen slot) = omega arith in
-      mixed_on slot (TornWrite (within seen slot at) (length bytes.items)) torn.0 (written_at (slot_of seen slot) (within seen slot at) bytes.items) _ torn.1 (write_kept (within seen slot at) (length bytes.items) (slot_of seen slot) bytes.items begins refl) torn.2 refl c mixed
+      mixed_on slot (TornWrite (within seen slot at) (length bytes.items)) torn.0
+      (written_at (slot_of seen slot) (within seen slot at) bytes.items) _ torn.1
+      (write_kept (within seen slot at) (length bytes.items) (slot_of seen slot) bytes.items begins refl) torn.2
+      refl c mixed
   tears_on (Write slot at bytes false) torn c mixed =
-      mixed_on slot (TornWrite (within seen slot at) (length bytes.items)) torn.0 (slot_of seen slot) seen torn.1 (write_lost (within seen slot at) (length bytes.items) (slot_of seen slot)) torn.2 (sym (with_same slot seen)) c mixed
+      mixed_on slot (TornWrite (within seen slot at) (length bytes.items)) torn.0 (slot_of seen slot) seen torn.1
+      (write_lost (within seen slot at) (length bytes.items) (slot_of seen slot)) torn.2
+      (sym (with_same slot seen)) c mixed
   tears_on (Cut slot len true) torn c mixed =
-      mixed_on slot (TornCut len) torn.0 (take len (slot_of seen slot)) _ torn.1 (cut_kept len (slot_of seen slot)) torn.2 refl c mixed
+      mixed_on slot (TornCut len) torn.0 (take len (slot_of seen slot)) _ torn.1
+      (cut_kept len (slot_of seen slot)) torn.2 refl c mixed
   tears_on (Cut slot len false) torn c mixed =
-      mixed_on slot (TornCut len) torn.0 (slot_of seen slot) seen torn.1 (cut_lost len (slot_of seen slot)) torn.2 (sym (with_same slot seen)) c mixed
+      mixed_on slot (TornCut len) torn.0 (slot_of seen slot) seen torn.1 (cut_lost len (slot_of seen slot)) torn.2
+      (sym (with_same slot seen)) c mixed
   tears_on (Sync slot) torn c mixed = sync_on slot P left seen all c (subst (λ s. IsMixed s seen c) torn mixed)
 
 -- The torn bytes and what a read gives, after the first calls of a log: each mixture of them is what a crash then may
@@ -123,20 +219,32 @@ pub torn_replay_none : (first left seen : Slots) → left ≡ first → seen ≡
 unfolding replayed outcomes
 torn_replay_none first left seen left_is seen_is = record {
   is_replay = seen_is;
-  all = λ c mixed. mixed_same first c (subst (λ s. IsMixed first s c) seen_is (subst (λ s. IsMixed s seen c) left_is mixed));
+  all =
+      λ c mixed. mixed_same first c (subst
+      (λ s. IsMixed first s c) seen_is (subst (λ s. IsMixed s seen c) left_is mixed));
 }
 
-pub torn_replay_on : (first : Slots) (log new_log : List LoggedCall) (call : LoggedCall) (left seen new_left new_seen : Slots) → IsTornReplay first log left seen → new_log ≡ log ++ call ∷ [] → new_seen ≡ seen_after call seen → Tears call seen left new_left → IsTornReplay first new_log new_left new_seen
+pub torn_replay_on : (first : Slots) (log new_log : List LoggedCall) (call : LoggedCall)
+    (left seen new_left new_seen : Slots) → IsTornReplay first log left seen → new_log ≡ log ++ call ∷ []
+    → new_seen ≡ seen_after call seen → Tears call seen left new_left → IsTornReplay first new_log new_left new_seen
 torn_replay_on first log new_log call left seen new_left new_seen so_far logged after torn = record {
-  is_replay = after ∙ ap (seen_after call) so_far.is_replay ∙ sym (replayed-push first log call) ∙ ap (replayed first) (sym logged);
+  is_replay =
+      after ∙ ap (seen_after call) so_far.is_replay ∙ sym (replayed-push first log call)
+      ∙ ap (replayed first) (sym logged);
   all = λ c mixed.
-      let step = tears_on (outcomes (λ d. d ≡ first) first log) left seen new_left so_far.all call torn c (subst (λ s. IsMixed new_left s c) after mixed) in
-      let step_from_replay = subst (λ s. left_after call s (outcomes (λ d. d ≡ first) first log) c) so_far.is_replay step in
-      subst (λ l. outcomes (λ d. d ≡ first) first l c) (sym logged) (outcomes_of_left (λ d. d ≡ first) first log call c step_from_replay);
+      let step =
+      tears_on (outcomes (λ d. d ≡ first) first log) left seen new_left so_far.all call torn c
+      (subst (λ s. IsMixed new_left s c) after mixed) in
+      let step_from_replay =
+      subst (λ s. left_after call s (outcomes (λ d. d ≡ first) first log) c) so_far.is_replay step in
+      subst (λ l. outcomes (λ d. d ≡ first) first l c) (sym logged)
+      (outcomes_of_left (λ d. d ≡ first) first log call c step_from_replay);
 }
 
-pub left_is_left : (first left seen : Slots) (log : List LoggedCall) → IsTornReplay first log left seen → outcomes (λ d. d ≡ first) first log left
-left_is_left first left seen log torn = torn.all left (record { image0 = inl refl; image1 = inl refl; segment0 = inl refl; segment1 = inl refl })
+pub left_is_left : (first left seen : Slots) (log : List LoggedCall) → IsTornReplay first log left seen
+    → outcomes (λ d. d ≡ first) first log left
+left_is_left first left seen log torn =
+    torn.all left (record { image0 = inl refl; image1 = inl refl; segment0 = inl refl; segment1 = inl refl })
 
 of_with : (slot : Slot) (s : Slots) (bytes : List ℕ) → slot_of (with_slot s slot bytes) slot ≡ bytes
 of_with Image0 s bytes = refl
@@ -145,28 +253,43 @@ of_with Segment0 s bytes = refl
 of_with Segment1 s bytes = refl
 
 -- a call leaves what a read then gives
-step_seen : (slot : Slot) (R : List ℕ → List ℕ → Type 0) (P : Slots → Type 0) (seen : Slots) (z : List ℕ) → R (slot_of seen slot) z → P seen → StepOn slot R P (with_slot seen slot z)
-step_seen slot R P seen z done left = (seen, left, subst (R (slot_of seen slot)) (sym (of_with slot seen z)) done, ap (with_slot seen slot) (sym (of_with slot seen z)))
+step_seen : (slot : Slot) (R : List ℕ → List ℕ → Type 0) (P : Slots → Type 0) (seen : Slots) (z : List ℕ)
+    → R (slot_of seen slot) z → P seen → StepOn slot R P (with_slot seen slot z)
+step_seen slot R P seen z done left = (
+  seen,
+  left,
+  subst (R (slot_of seen slot)) (sym (of_with slot seen z)) done,
+  ap (with_slot seen slot) (sym (of_with slot seen z)),
+)
 
-stay_seen : (slot : Slot) (R : List ℕ → List ℕ → Type 0) (P : Slots → Type 0) (seen : Slots) → R (slot_of seen slot) (slot_of seen slot) → P seen → StepOn slot R P seen
+stay_seen : (slot : Slot) (R : List ℕ → List ℕ → Type 0) (P : Slots → Type 0) (seen : Slots)
+    → R (slot_of seen slot) (slot_of seen slot) → P seen → StepOn slot R P seen
 stay_seen slot R P seen lost left = (seen, left, lost, sym (with_same slot seen))
 
-left_seen : (P : Slots → Type 0) (seen : Slots) → P seen → (call : LoggedCall) → left_after call seen P (seen_after call seen)
+left_seen : (P : Slots → Type 0) (seen : Slots) → P seen → (call : LoggedCall)
+    → left_after call seen P (seen_after call seen)
 left_seen P seen left (Write slot at bytes true) =
     let begins : within seen slot at ≤ length (slot_of seen slot) = omega arith in
-    step_seen slot (TornWrite (within seen slot at) (length bytes.items)) P seen _ (write_kept (within seen slot at) (length bytes.items) (slot_of seen slot) bytes.items begins refl) left
+    step_seen slot (TornWrite (within seen slot at) (length bytes.items)) P seen _
+    (write_kept (within seen slot at) (length bytes.items) (slot_of seen slot) bytes.items begins refl) left
 left_seen P seen left (Write slot at bytes false) =
-    stay_seen slot (TornWrite (within seen slot at) (length bytes.items)) P seen (write_lost (within seen slot at) (length bytes.items) (slot_of seen slot)) left
-left_seen P seen left (Cut slot len true) = step_seen slot (TornCut len) P seen _ (cut_kept len (slot_of seen slot)) left
+    stay_seen slot (TornWrite (within seen slot at) (length bytes.items)) P seen
+    (write_lost (within seen slot at) (length bytes.items) (slot_of seen slot)) left
+left_seen P seen left (Cut slot len true) =
+    step_seen slot (TornCut len) P seen _ (cut_kept len (slot_of seen slot)) left
 left_seen P seen left (Cut slot len false) = stay_seen slot (TornCut len) P seen (cut_lost len (slot_of seen slot)) left
 left_seen P seen left (Sync slot) = (left, refl)
 
-outcomes_seen : (P : Slots → Type 0) (seen : Slots) (log : List LoggedCall) → P seen → outcomes P seen log (replayed seen log)
+outcomes_seen : (P : Slots → Type 0) (seen : Slots) (log : List LoggedCall) → P seen
+    → outcomes P seen log (replayed seen log)
 unfolding replayed outcomes
 outcomes_seen P seen [] left = left
-outcomes_seen P seen (call ∷ log) left = outcomes_seen (left_after call seen P) (seen_after call seen) log (left_seen P seen left call)
+outcomes_seen P seen (call ∷ log) left =
+    outcomes_seen (left_after call seen P) (seen_after call seen) log (left_seen P seen left call)
 
-pub seen_may_be_left : (first seen : Slots) (log : List LoggedCall) → seen ≡ replayed first log → outcomes (λ d. d ≡ first) first (take (length log) log) seen
+pub seen_may_be_left : (first seen : Slots) (log : List LoggedCall) → seen ≡ replayed first log
+    → outcomes (λ d. d ≡ first) first (take (length log) log) seen
 seen_may_be_left first seen log is =
     let all : log ≡ take (length log) log = sym (take_all (length log) log (omega arith)) in
-    subst (λ l. outcomes (λ d. d ≡ first) first l seen) all (subst (outcomes (λ d. d ≡ first) first log) (sym is) (outcomes_seen (λ d. d ≡ first) first log refl))
+    subst (λ l. outcomes (λ d. d ≡ first) first l seen) all
+    (subst (outcomes (λ d. d ≡ first) first log) (sym is) (outcomes_seen (λ d. d ≡ first) first log refl))

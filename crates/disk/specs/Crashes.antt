@@ -9,6 +9,8 @@ use Rattle.disk.specs.Log.{within}
 -- what a read gives into its slot.
 abbrev pub Tears : LoggedCall → Slots → Slots → Slots → Type 0
 Tears (Write slot at bytes is_done) seen old new =
-    (y : List ℕ) × TornWrite (within seen slot at) (length bytes.items) (slot_of old slot) y × (new ≡ with_slot old slot y)
-Tears (Cut slot len is_done) seen old new = (y : List ℕ) × TornCut len (slot_of old slot) y × (new ≡ with_slot old slot y)
+    (y : List ℕ) × TornWrite (within seen slot at) (length bytes.items) (slot_of old slot) y
+    × (new ≡ with_slot old slot y)
+Tears (Cut slot len is_done) seen old new =
+    (y : List ℕ) × TornCut len (slot_of old slot) y × (new ≡ with_slot old slot y)
 Tears (Sync slot) seen old new = new ≡ with_slot old slot (slot_of seen slot)

@@ -31,7 +31,8 @@ seen_after (Sync slot) seen = seen
 -- satisfy P.
 abbrev pub left_after : LoggedCall → Slots → (Slots → Type 0) → Slots → Type 0
 left_after (Write slot at bytes is_done) seen P c =
-    (d : Slots) × P d × TornWrite (within seen slot at) (length bytes.items) (slot_of d slot) (slot_of c slot) × (c ≡ with_slot d slot (slot_of c slot))
+    (d : Slots) × P d × TornWrite (within seen slot at) (length bytes.items) (slot_of d slot) (slot_of c slot)
+    × (c ≡ with_slot d slot (slot_of c slot))
 left_after (Cut slot len is_done) seen P c =
     (d : Slots) × P d × TornCut len (slot_of d slot) (slot_of c slot) × (c ≡ with_slot d slot (slot_of c slot))
 left_after (Sync slot) seen P c = P c × (slot_of c slot ≡ slot_of seen slot)

@@ -26,7 +26,8 @@ pub record Passes (old new : View) (P : Slots → Type 0) : Type 0 where
 
 -- what a step on the bytes of one slot may make of the post-crash contents before it; the other slots stay
 abbrev pub Follows : View → Slot → (List ℕ → List ℕ → Type 0) → Slots → Type 0
-Follows old slot step c = (d : Slots) × MayLeave old d × step (slot_of d slot) (slot_of c slot) × (c ≡ with_slot d slot (slot_of c slot))
+Follows old slot step c =
+    (d : Slots) × MayLeave old d × step (slot_of d slot) (slot_of c slot) × (c ≡ with_slot d slot (slot_of c slot))
 
 -- after a crash this slot holds what a read gives now
 abbrev pub IsSynced : View → Slot → Type 0

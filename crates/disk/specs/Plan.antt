@@ -9,4 +9,6 @@ no_plan = record { stop_at = None; fail_at = None; torn = Old; calls = 0 }
 
 -- the call counted last comes before the crash, and isn't the one that fails
 abbrev pub IsAdmitted : Plan → Type 0
-IsAdmitted plan = MatchOption plan.stop_at ⊤ (λ stop_at. plan.calls < stop_at) × MatchOption plan.fail_at ⊤ (λ fail_at. plan.calls ≢ fail_at)
+IsAdmitted plan =
+    MatchOption plan.stop_at ⊤ (λ stop_at. plan.calls < stop_at)
+    × MatchOption plan.fail_at ⊤ (λ fail_at. plan.calls ≢ fail_at)

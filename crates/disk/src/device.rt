@@ -42,9 +42,11 @@ pub trait Disk {
     /// Reads from `at` on into the buffer, and returns how many bytes came. It returns less than the buffer has room
     /// for only at the slot's end.
     fn read(&mut self, slot: Slot, at: u64, buffer: &mut [u8]) -> Result<usize, DiskFault>
-        ensures count { honest → IfOk result (λ n. n ≡ min (length buffer.old) (length (slot_of (view self.old).seen slot) - at)) }
+        ensures count { honest → IfOk result
+            (λ n. n ≡ min (length buffer.old) (length (slot_of (view self.old).seen slot) - at)) }
         ensures within { IfOk result (λ n. n ≤ length buffer.old) }
-        ensures bytes { honest → IfOk result (λ n. buffer.new ≡ take n (drop at (slot_of (view self.old).seen slot)) ++ drop n buffer.old) }
+        ensures bytes { honest → IfOk result
+            (λ n. buffer.new ≡ take n (drop at (slot_of (view self.old).seen slot)) ++ drop n buffer.old) }
         ensures seen { honest → (view self.new).seen ≡ (view self.old).seen }
         ensures time { honest → Passes (view self.old) (view self.new) (MayLeave (view self.old)) }
         ensures failures { CountsFailure (failed_calls self.old) (failed_calls self.new) result };
@@ -55,7 +57,8 @@ pub trait Disk {
         requires { honest → at ≤ length (slot_of (view self.old).seen slot) }
         ensures written { honest → OnOk result ((view self.new).seen
             ≡ with_slot (view self.old).seen slot (written_at (slot_of (view self.old).seen slot) at bytes.now)) }
-        ensures time { honest → Passes (view self.old) (view self.new) (Follows (view self.old) slot (TornWrite at (length bytes.now))) }
+        ensures time { honest → Passes (view self.old) (view self.new)
+            (Follows (view self.old) slot (TornWrite at (length bytes.now))) }
         ensures failures { CountsFailure (failed_calls self.old) (failed_calls self.new) result };
 
     /// Truncates a slot to a length.

@@ -189,8 +189,10 @@ impl MemDisk {
         ensures seen { OnOk result (slots_of self.new.seen ≡ (if is_done
             then with_slot (slots_of self.old.seen) slot (written_at (slot_of (slots_of self.old.seen) slot) at bytes.now)
             else slots_of self.old.seen)) }
-        ensures time { Passes (memory_view self.old) (memory_view self.new) (Follows (memory_view self.old) slot (TornWrite at (length bytes.now))) }
-        ensures whole { OnOk result ((c : Slots) → Follows (memory_view self.old) slot (TornWrite at (length bytes.now)) c
+        ensures time { Passes (memory_view self.old) (memory_view self.new)
+            (Follows (memory_view self.old) slot (TornWrite at (length bytes.now))) }
+        ensures whole { OnOk result ((c : Slots)
+            → Follows (memory_view self.old) slot (TornWrite at (length bytes.now)) c
             → MayLeave (memory_view self.new) c) }
         ensures failures { self.new.failures ≡ self.old.failures }
     {
@@ -213,8 +215,10 @@ impl MemDisk {
         ensures seen { OnOk result (slots_of self.new.seen ≡ (if is_done
             then with_slot (slots_of self.old.seen) slot (take len (slot_of (slots_of self.old.seen) slot))
             else slots_of self.old.seen)) }
-        ensures time { Passes (memory_view self.old) (memory_view self.new) (Follows (memory_view self.old) slot (TornCut len)) }
-        ensures whole { OnOk result ((c : Slots) → Follows (memory_view self.old) slot (TornCut len) c → MayLeave (memory_view self.new) c) }
+        ensures time { Passes (memory_view self.old) (memory_view self.new)
+            (Follows (memory_view self.old) slot (TornCut len)) }
+        ensures whole { OnOk result ((c : Slots) → Follows (memory_view self.old) slot (TornCut len) c
+            → MayLeave (memory_view self.new) c) }
         ensures failures { self.new.failures ≡ self.old.failures }
     {
         let left = front(self.alloc, self.seen.slot(slot), len)?;

@@ -46,7 +46,8 @@ impl Effects {
 
     /// Takes the first effect out, if there is one.
     pub fn take(&mut self) -> Option<Effect>
-        ensures { MatchOption result ((self.old ≡ []) × (self.new ≡ [])) (λ first. self.old ≡ effect_meant first ∷ self.new) }
+        ensures { MatchOption result ((self.old ≡ []) × (self.new ≡ []))
+            (λ first. self.old ≡ effect_meant first ∷ self.new) }
     {
         self.waiting.pop_front()
     }

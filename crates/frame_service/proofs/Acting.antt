@@ -11,44 +11,73 @@ use Rattle.words.specs.Words.{frame_encoding}
 
 pub frames_both : {T : Type 0} (acts more : List (Act T)) → frames_of (acts ++ more) ≡ frames_of acts ++ frames_of more
 frames_both [] more = refl
-frames_both (took content pending ∷ acts) more = ap (λ l. frame_encoding content ++ l) (frames_both acts more) ∙ sym (append_assoc (frame_encoding content) (frames_of acts) (frames_of more))
+frames_both (took content pending ∷ acts) more =
+    ap (λ l. frame_encoding content ++ l) (frames_both acts more)
+    ∙ sym (append_assoc (frame_encoding content) (frames_of acts) (frames_of more))
 frames_both (acknowledged reply ∷ acts) more = frames_both acts more
 
-pub replies_both : {T : Type 0} (acts more : List (Act T)) → replies_of (acts ++ more) ≡ replies_of acts ++ replies_of more
+pub replies_both : {T : Type 0} (acts more : List (Act T))
+    → replies_of (acts ++ more) ≡ replies_of acts ++ replies_of more
 replies_both [] more = refl
 replies_both (took content pending ∷ acts) more = replies_both acts more
-replies_both (acknowledged reply ∷ acts) more = ap (λ l. frame_encoding (reply_encoding reply) ++ l) (replies_both acts more) ∙ sym (append_assoc (frame_encoding (reply_encoding reply)) (replies_of acts) (replies_of more))
+replies_both (acknowledged reply ∷ acts) more =
+    ap (λ l. frame_encoding (reply_encoding reply) ++ l) (replies_both acts more)
+    ∙ sym (append_assoc (frame_encoding (reply_encoding reply)) (replies_of acts) (replies_of more))
 
-module _ {C T : Type 0} (answer : T → Reply) (makes : C → Call → T → C → Type 0) (lacks : C → Call → C → Type 0) (acknowledges : C → T → C → Type 0) (fails : C → T → StoreFault → C → Type 0) where
-  pub acted_both : (old mid new : C) (queue between left : List (PendingFrame T)) (acts more : List (Act T)) → Acted answer makes lacks acknowledges fails old queue acts between mid → Acted answer makes lacks acknowledges fails mid between more left new
+module _ {C T : Type 0} (answer : T → Reply) (makes : C → Call → T → C → Type 0) (lacks : C → Call → C → Type 0)
+    (acknowledges : C → T → C → Type 0) (fails : C → T → StoreFault → C → Type 0) where
+  pub acted_both : (old mid new : C) (queue between left : List (PendingFrame T)) (acts more : List (Act T))
+      → Acted answer makes lacks acknowledges fails old queue acts between mid
+      → Acted answer makes lacks acknowledges fails mid between more left new
       → Acted answer makes lacks acknowledges fails old queue (acts ++ more) left new
   acted_both old mid new queue between left [] more first second =
-      subst (λ c. Acted answer makes lacks acknowledges fails c queue more left new) first.1 (subst (λ q. Acted answer makes lacks acknowledges fails mid q more left new) first.0 second)
-  acted_both old mid new queue between left (took content pending ∷ acts) more first second = (first.0, first.1, acted_both first.0 mid new (queue ++ pending ∷ []) between left acts more first.2 second)
+      subst (λ c. Acted answer makes lacks acknowledges fails c queue more left new) first.1
+      (subst (λ q. Acted answer makes lacks acknowledges fails mid q more left new) first.0 second)
+  acted_both old mid new queue between left (took content pending ∷ acts) more first second =
+      (first.0, first.1, acted_both first.0 mid new (queue ++ pending ∷ []) between left acts more first.2 second)
   acted_both old mid new [] between left (acknowledged reply ∷ acts) more first second = absurd first
-  acted_both old mid new (pending ∷ queue) between left (acknowledged reply ∷ acts) more first second = (first.0, first.1, acted_both first.0 mid new queue between left acts more first.2 second)
+  acted_both old mid new (pending ∷ queue) between left (acknowledged reply ∷ acts) more first second =
+      (first.0, first.1, acted_both first.0 mid new queue between left acts more first.2 second)
 
   -- So far, and then further.
-  pub went_both : (old mid new : C) (queue between left : List (PendingFrame T)) (input before rest sent further out : List ℕ) → Went answer makes lacks acknowledges fails old queue mid input before rest sent between → Went answer makes lacks acknowledges fails mid between new rest sent further out left
+  pub went_both : (old mid new : C) (queue between left : List (PendingFrame T))
+      (input before rest sent further out : List ℕ)
+      → Went answer makes lacks acknowledges fails old queue mid input before rest sent between
+      → Went answer makes lacks acknowledges fails mid between new rest sent further out left
       → Went answer makes lacks acknowledges fails old queue new input before further out left
   went_both old mid new queue between left input before rest sent further out first second = record {
     acts = first.acts ++ second.acts;
     acted = acted_both old mid new queue between left first.acts second.acts first.acted second.acted;
-    read = first.read ∙ ap (λ l. frames_of first.acts ++ l) second.read ∙ sym (append_assoc (frames_of first.acts) (frames_of second.acts) further) ∙ ap (λ l. l ++ further) (sym (frames_both first.acts second.acts));
-    acknowledged_is = second.acknowledged_is ∙ ap (λ l. l ++ replies_of second.acts) first.acknowledged_is ∙ append_assoc before (replies_of first.acts) (replies_of second.acts) ∙ ap (λ l. before ++ l) (sym (replies_both first.acts second.acts));
+    read =
+        first.read ∙ ap (λ l. frames_of first.acts ++ l) second.read
+        ∙ sym (append_assoc (frames_of first.acts) (frames_of second.acts) further) ∙ ap
+        (λ l. l ++ further) (sym (frames_both first.acts second.acts));
+    acknowledged_is =
+        second.acknowledged_is ∙ ap (λ l. l ++ replies_of second.acts) first.acknowledged_is
+        ∙ append_assoc before (replies_of first.acts) (replies_of second.acts) ∙ ap
+        (λ l. before ++ l) (sym (replies_both first.acts second.acts));
   }
 
-  pub acts_both : (old mid new : C) (queue between left : List (PendingFrame T)) (input before rest sent further out : List ℕ) (first : Went answer makes lacks acknowledges fails old queue mid input before rest sent between) (second : Went answer makes lacks acknowledges fails mid between new rest sent further out left)
-      → length (went_both old mid new queue between left input before rest sent further out first second).acts ≡ length first.acts + length second.acts
+  pub acts_both : (old mid new : C) (queue between left : List (PendingFrame T))
+      (input before rest sent further out : List ℕ)
+      (first : Went answer makes lacks acknowledges fails old queue mid input before rest sent between)
+      (second : Went answer makes lacks acknowledges fails mid between new rest sent further out left)
+      → length (went_both old mid new queue between left input before rest sent further out first second).acts
+      ≡ length first.acts + length second.acts
   unfolding went_both
-  acts_both old mid new queue between left input before rest sent further out first second = length-append first.acts second.acts
+  acts_both old mid new queue between left input before rest sent further out first second =
+      length-append first.acts second.acts
 
   -- Nothing was done yet.
-  pub begun : (old : C) (queue : List (PendingFrame T)) (input before : List ℕ) → Went answer makes lacks acknowledges fails old queue old input before input before queue
-  begun old queue input before = record { acts = []; acted = (refl, refl); read = refl; acknowledged_is = sym (append-nil before) }
+  pub begun : (old : C) (queue : List (PendingFrame T)) (input before : List ℕ)
+      → Went answer makes lacks acknowledges fails old queue old input before input before queue
+  begun old queue input before =
+      record { acts = []; acted = (refl, refl); read = refl; acknowledged_is = sym (append-nil before) }
 
   -- The first frame in hand was answered.
-  pub one_told : (old new : C) (pending : PendingFrame T) (all_pending : List (PendingFrame T)) (reply : Reply) (input before sent : List ℕ) → IsAcknowledged answer makes lacks acknowledges fails old pending reply new → sent ≡ before ++ frame_encoding (reply_encoding reply)
+  pub one_told : (old new : C) (pending : PendingFrame T) (all_pending : List (PendingFrame T)) (reply : Reply)
+      (input before sent : List ℕ) → IsAcknowledged answer makes lacks acknowledges fails old pending reply new
+      → sent ≡ before ++ frame_encoding (reply_encoding reply)
       → Went answer makes lacks acknowledges fails old (pending ∷ all_pending) new input before input sent all_pending
   one_told old new pending all_pending reply input before sent is out = record {
     acts = acknowledged reply ∷ [];
@@ -58,7 +87,8 @@ module _ {C T : Type 0} (answer : T → Reply) (makes : C → Call → T → C �
   }
 
   -- Frames were taken so far, this many.
-  pub record Taking (old now : C) (all_pending : List (PendingFrame T)) (input : List ℕ) (left : Option (List ℕ)) (count : ℕ) : Type 0 where
+  pub record Taking (old now : C) (all_pending : List (PendingFrame T)) (input : List ℕ) (left : Option (List ℕ))
+      (count : ℕ) : Type 0 where
     pub acts : List (Act T)
     pub rest : List ℕ
     pub acted : Acted answer makes lacks acknowledges fails old [] acts all_pending now
@@ -67,19 +97,28 @@ module _ {C T : Type 0} (answer : T → Reply) (makes : C → Call → T → C �
     pub counted : length acts ≡ count
     pub left_is : left ≡ Some rest
 
-  pub none_taken : (old : C) (all_pending : List (PendingFrame T)) (input : List ℕ) (left : Option (List ℕ)) → all_pending ≡ [] → left ≡ Some input → Taking old old all_pending input left 0
-  none_taken old all_pending input left none is = record { acts = []; rest = input; acted = (none, refl); read = refl; silent = refl; counted = refl; left_is = is }
+  pub none_taken : (old : C) (all_pending : List (PendingFrame T)) (input : List ℕ) (left : Option (List ℕ))
+      → all_pending ≡ [] → left ≡ Some input → Taking old old all_pending input left 0
+  none_taken old all_pending input left none is =
+      record { acts = []; rest = input; acted = (none, refl); read = refl; silent = refl; counted = refl; left_is = is }
 
-  pub one_taken : (old mid new : C) (all_pending more : List (PendingFrame T)) (pending : PendingFrame T) (input content behind : List ℕ) (left now : Option (List ℕ)) (count : ℕ) (so_far : Taking old mid all_pending input left count)
-      → so_far.rest ≡ frame_encoding content ++ behind → now ≡ Some behind → IsTaken answer makes lacks mid content pending new → more ≡ all_pending ++ pending ∷ [] → Taking old new more input now (count + 1)
+  pub one_taken : (old mid new : C) (all_pending more : List (PendingFrame T)) (pending : PendingFrame T)
+      (input content behind : List ℕ) (left now : Option (List ℕ)) (count : ℕ)
+      (so_far : Taking old mid all_pending input left count)
+      → so_far.rest ≡ frame_encoding content ++ behind → now ≡ Some behind
+      → IsTaken answer makes lacks mid content pending new → more ≡ all_pending ++ pending ∷ []
+      → Taking old new more input now (count + 1)
   one_taken old mid new all_pending more pending input content behind left now count so_far front is taken pushed =
       let one : List (Act T) = took content pending ∷ [] in
       record {
         acts = so_far.acts ++ one;
         rest = behind;
         acted = acted_both old mid new [] all_pending more so_far.acts one so_far.acted (new, taken, (pushed, refl));
-        read = so_far.read ∙ ap (λ l. frames_of so_far.acts ++ l) front ∙ sym (append_assoc (frames_of so_far.acts) (frame_encoding content) behind)
-            ∙ ap (λ l. l ++ behind) (ap (λ l. frames_of so_far.acts ++ l) (sym (append-nil (frame_encoding content))) ∙ sym (frames_both so_far.acts one));
+        read =
+            so_far.read ∙ ap (λ l. frames_of so_far.acts ++ l) front
+            ∙ sym (append_assoc (frames_of so_far.acts) (frame_encoding content) behind)
+            ∙ ap (λ l. l ++ behind) (ap (λ l. frames_of so_far.acts ++ l) (sym (append-nil (frame_encoding content)))
+            ∙ sym (frames_both so_far.acts one));
         silent = replies_both so_far.acts one ∙ ap (λ l. l ++ []) so_far.silent;
         counted = omega (arith, so_far.counted, length-append so_far.acts one);
         left_is = is;

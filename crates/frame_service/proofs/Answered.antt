@@ -31,22 +31,36 @@ pub short_message : (code : KernReturn) → IsShort (without_message code 0 0)
 unfolding reply_encoding
 short_message code =
     let results : List ℕ = word 0 ++ (word 0 ++ []) in
-    omega (arith, length-append (word 19) (word (number_of code) ++ results), length-append (word (number_of code)) results, length-append (word 0) (word 0 ++ []), length-append (word 0) [], length-word 19, length-word (number_of code), length-word 0)
+    omega (
+      arith,
+      length-append (word 19) (word (number_of code) ++ results),
+      length-append (word (number_of code)) results,
+      length-append (word 0) (word 0 ++ []),
+      length-append (word 0) [],
+      length-word 19,
+      length-word (number_of code),
+      length-word 0,
+    )
 
 pub short_shortage : (c : Call) → IsShort (shortage_of c)
 short_shortage (call.Send message) = short_message _
 short_shortage (call.Receive limit large name waited) = short_message _
 short_shortage c = short_refusal (number_of_call c) _
 
-pub message_fits : (code : KernReturn) (answer : Reply) → answer ≡ without_message code 0 0 → length (reply_encoding answer) ≤ MAX_FRAME_CONTENT
-message_fits code answer is = let fits : IsShort answer = subst IsShort (sym is) (short_message code) in omega (arith, fits)
+pub message_fits : (code : KernReturn) (answer : Reply) → answer ≡ without_message code 0 0
+    → length (reply_encoding answer) ≤ MAX_FRAME_CONTENT
+message_fits code answer is =
+    let fits : IsShort answer = subst IsShort (sym is) (short_message code) in omega (arith, fits)
 
-short_by_number : (mach_msg : Bool) (n : ℕ) (code : KernReturn) → IsShort (cond mach_msg (without_message code 0 0) (reply.Refused n code))
+short_by_number : (mach_msg : Bool) (n : ℕ) (code : KernReturn)
+    → IsShort (cond mach_msg (without_message code 0 0) (reply.Refused n code))
 short_by_number true n code = short_message code
 short_by_number false n code = short_refusal n code
 
-pub refusal_fits : (n : ℕ) (code : KernReturn) (answer : Reply) → answer ≡ refused_of n code → length (reply_encoding answer) ≤ MAX_FRAME_CONTENT
-refusal_fits n code answer is = let fits : IsShort answer = subst IsShort (sym is) (short_by_number (n == 19) n code) in omega (arith, fits)
+pub refusal_fits : (n : ℕ) (code : KernReturn) (answer : Reply) → answer ≡ refused_of n code
+    → length (reply_encoding answer) ≤ MAX_FRAME_CONTENT
+refusal_fits n code answer is =
+    let fits : IsShort answer = subst IsShort (sym is) (short_by_number (n == 19) n code) in omega (arith, fits)
 
 short : (given answer : Reply) → answer ≡ given → IsShort given → IsShort answer
 short given answer is holds = subst IsShort (sym is) holds
@@ -56,8 +70,10 @@ pub refused_fits : (n : ℕ) (code : KernReturn) → length (reply_encoding (rep
 refused_fits n code = let fits : IsShort (reply.Refused n code) = short_refusal n code in omega (arith, fits)
 
 -- The reply to a shortage fits in a frame.
-pub shortage_fits : (c : Call) (answer : Reply) → answer ≡ shortage_of c → length (reply_encoding answer) ≤ MAX_FRAME_CONTENT
-shortage_fits c answer is = let fits : IsShort answer = short (shortage_of c) answer is (short_shortage c) in omega (arith, fits)
+pub shortage_fits : (c : Call) (answer : Reply) → answer ≡ shortage_of c
+    → length (reply_encoding answer) ≤ MAX_FRAME_CONTENT
+shortage_fits c answer is =
+    let fits : IsShort answer = short (shortage_of c) answer is (short_shortage c) in omega (arith, fits)
 
 -- Answers.
 

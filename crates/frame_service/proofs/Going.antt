@@ -12,7 +12,8 @@ use Rattle.wire.specs.declared.fault.WireFault.TheVariants.{Short, TooLong}
 use Rattle.wire.specs.Frame.{Front, ended, whole, faulty, front_of, content_at}
 use Rattle.frame_service.specs.Serving.{Exchanges, Answers, IsAnswered, ServesAll, requests_encoding, replies_encoding}
 
-pub appends_is : (out bytes : List ℕ) (old new : Option (List ℕ)) → old ≡ Some out → Appends old new bytes → new ≡ Some (out ++ bytes)
+pub appends_is : (out bytes : List ℕ) (old new : Option (List ℕ)) → old ≡ Some out → Appends old new bytes
+    → new ≡ Some (out ++ bytes)
 appends_is out bytes old new e is = known new (subst (λ o. Appends o new bytes) e is)
   where
     known : (now : Option (List ℕ)) → Appends (Some out) now bytes → now ≡ Some (out ++ bytes)
@@ -37,46 +38,95 @@ module _ {C : Type 0} (answers : C → Call → Reply → C → Type 0) (rests :
     pub replies : written ≡ Some (before ++ replies_encoding exchanges)
     pub counted : length exchanges ≡ count
 
-  pub begun : (old : C) (input before : List ℕ) (left written : Option (List ℕ)) → left ≡ Some input → written ≡ Some before → Going old old input before left written 0
+  pub begun : (old : C) (input before : List ℕ) (left written : Option (List ℕ)) → left ≡ Some input
+      → written ≡ Some before → Going old old input before left written 0
   begun old input before left written e f =
-      record { exchanges = []; rest = input; calls = refl; read = refl; rest_is = e; replies = f ∙ ap (λ l. Some l) (sym (append-nil before)); counted = refl }
+      record {
+        exchanges = [];
+        rest = input;
+        calls = refl;
+        read = refl;
+        rest_is = e;
+        replies = f ∙ ap (λ l. Some l) (sym (append-nil before));
+        counted = refl;
+      }
 
-  answers-push : (old mid later new : C) (exchanges : Exchanges) (exchange : List ℕ × Reply) → Answers answers rests old exchanges mid → IsAnswered answers mid exchange.0 exchange.1 later → rests later new → Answers answers rests old (exchanges ++ exchange ∷ []) new
-  answers-push old mid later new [] exchange so_far is rested = (later, new, subst (λ c. IsAnswered answers c exchange.0 exchange.1 later) so_far is, rested, refl)
-  answers-push old mid later new (first ∷ exchanges) exchange so_far is rested = (so_far.0, so_far.1, so_far.2, so_far.3, answers-push so_far.1 mid later new exchanges exchange so_far.4 is rested)
+  answers-push : (old mid later new : C) (exchanges : Exchanges) (exchange : List ℕ × Reply)
+      → Answers answers rests old exchanges mid → IsAnswered answers mid exchange.0 exchange.1 later → rests later new
+      → Answers answers rests old (exchanges ++ exchange ∷ []) new
+  answers-push old mid later new [] exchange so_far is rested =
+      (later, new, subst (λ c. IsAnswered answers c exchange.0 exchange.1 later) so_far is, rested, refl)
+  answers-push old mid later new (first ∷ exchanges) exchange so_far is rested = (
+    so_far.0,
+    so_far.1,
+    so_far.2,
+    so_far.3,
+    answers-push so_far.1 mid later new exchanges exchange so_far.4 is rested,
+  )
 
-  requests_encoding-push : (exchanges : Exchanges) (exchange : List ℕ × Reply) → requests_encoding (exchanges ++ exchange ∷ []) ≡ requests_encoding exchanges ++ frame_encoding exchange.0
+  requests_encoding-push : (exchanges : Exchanges) (exchange : List ℕ × Reply)
+      → requests_encoding (exchanges ++ exchange ∷ []) ≡ requests_encoding exchanges ++ frame_encoding exchange.0
   requests_encoding-push [] exchange = append-nil (frame_encoding exchange.0)
-  requests_encoding-push (first ∷ exchanges) exchange = ap (λ l. frame_encoding first.0 ++ l) (requests_encoding-push exchanges exchange) ∙ sym (append_assoc (frame_encoding first.0) (requests_encoding exchanges) (frame_encoding exchange.0))
+  requests_encoding-push (first ∷ exchanges) exchange =
+      ap (λ l. frame_encoding first.0 ++ l) (requests_encoding-push exchanges exchange)
+      ∙ sym (append_assoc (frame_encoding first.0) (requests_encoding exchanges) (frame_encoding exchange.0))
 
-  replies_encoding-push : (exchanges : Exchanges) (exchange : List ℕ × Reply) → replies_encoding (exchanges ++ exchange ∷ []) ≡ replies_encoding exchanges ++ frame_encoding (reply_encoding exchange.1)
+  replies_encoding-push : (exchanges : Exchanges) (exchange : List ℕ × Reply)
+      → replies_encoding (exchanges ++ exchange ∷ []) ≡ replies_encoding exchanges
+      ++ frame_encoding (reply_encoding exchange.1)
   replies_encoding-push [] exchange = append-nil (frame_encoding (reply_encoding exchange.1))
-  replies_encoding-push (first ∷ exchanges) exchange = ap (λ l. frame_encoding (reply_encoding first.1) ++ l) (replies_encoding-push exchanges exchange) ∙ sym (append_assoc (frame_encoding (reply_encoding first.1)) (replies_encoding exchanges) (frame_encoding (reply_encoding exchange.1)))
+  replies_encoding-push (first ∷ exchanges) exchange =
+      ap (λ l. frame_encoding (reply_encoding first.1) ++ l) (replies_encoding-push exchanges exchange)
+      ∙ sym (append_assoc (frame_encoding (reply_encoding first.1)) (replies_encoding exchanges)
+      (frame_encoding (reply_encoding exchange.1)))
 
   -- at the end of the input
-  pub ended_whole : (old now : C) (input before : List ℕ) (left written after : Option (List ℕ)) (count : ℕ) (so_far : Going old now input before left written count) → (so_far.rest ≡ []) × (after ≡ Some []) → ServesAll answers rests old now input before after written
+  pub ended_whole : (old now : C) (input before : List ℕ) (left written after : Option (List ℕ)) (count : ℕ)
+      (so_far : Going old now input before left written count) → (so_far.rest ≡ []) × (after ≡ Some [])
+      → ServesAll answers rests old now input before after written
   ended_whole old now input before left written after count so_far is =
-      record { exchanges = so_far.exchanges; calls = so_far.calls; read = so_far.read ∙ ap (λ l. requests_encoding so_far.exchanges ++ l) is.0 ∙ append-nil (requests_encoding so_far.exchanges); all = is.1; replies = so_far.replies }
+      record {
+        exchanges = so_far.exchanges;
+        calls = so_far.calls;
+        read = so_far.read ∙ ap (λ l. requests_encoding so_far.exchanges ++ l) is.0
+            ∙ append-nil (requests_encoding so_far.exchanges);
+        all = is.1;
+        replies = so_far.replies;
+      }
 
   -- one more frame, and the time after it
-  pub goes_on : (old mid later new : C) (input before content after : List ℕ) (answer : Reply) (left now written sent : Option (List ℕ)) (count : ℕ) (so_far : Going old mid input before left written count) → so_far.rest ≡ frame_encoding content ++ after → now ≡ Some after → IsAnswered answers mid content answer later → rests later new
-      → sent ≡ Some ((before ++ replies_encoding so_far.exchanges) ++ frame_encoding (reply_encoding answer)) → Going old new input before now sent (count + 1)
-  goes_on old mid later new input before content after answer left now written sent count so_far frame now_is answered rested out =
+  pub goes_on : (old mid later new : C) (input before content after : List ℕ) (answer : Reply)
+      (left now written sent : Option (List ℕ)) (count : ℕ) (so_far : Going old mid input before left written count)
+      → so_far.rest ≡ frame_encoding content ++ after → now ≡ Some after
+      → IsAnswered answers mid content answer later → rests later new
+      → sent ≡ Some ((before ++ replies_encoding so_far.exchanges) ++ frame_encoding (reply_encoding answer))
+      → Going old new input before now sent (count + 1)
+  goes_on old mid later new input before content after answer left now written sent count so_far frame now_is answered
+      rested out =
       let exchange : List ℕ × Reply = (content, answer) in
       record {
         exchanges = so_far.exchanges ++ exchange ∷ [];
         rest = after;
         calls = answers-push old mid later new so_far.exchanges exchange so_far.calls answered rested;
-        read = so_far.read ∙ ap (λ l. requests_encoding so_far.exchanges ++ l) frame ∙ sym (append_assoc (requests_encoding so_far.exchanges) (frame_encoding content) after) ∙ ap (λ l. l ++ after) (sym (requests_encoding-push so_far.exchanges exchange));
+        read =
+            so_far.read ∙ ap (λ l. requests_encoding so_far.exchanges ++ l) frame
+            ∙ sym (append_assoc (requests_encoding so_far.exchanges) (frame_encoding content) after) ∙ ap
+            (λ l. l ++ after) (sym (requests_encoding-push so_far.exchanges exchange));
         rest_is = now_is;
-        replies = out ∙ ap (λ l. Some l) (append_assoc before (replies_encoding so_far.exchanges) (frame_encoding (reply_encoding answer)) ∙ ap (λ l. before ++ l) (sym (replies_encoding-push so_far.exchanges exchange)));
+        replies =
+            out ∙ ap (λ l. Some l) (append_assoc before (replies_encoding so_far.exchanges)
+            (frame_encoding (reply_encoding answer)) ∙ ap
+            (λ l. before ++ l) (sym (replies_encoding-push so_far.exchanges exchange)));
         counted = omega (arith, so_far.counted, length-append so_far.exchanges (exchange ∷ []));
       }
 
 -- what was read of known bytes
-pub frame_read : (old new : Option (List ℕ)) (rest content : List ℕ) → old ≡ Some rest → IfSome old (λ input. (after : List ℕ) × (input ≡ frame_encoding content ++ after) × (new ≡ Some after))
+pub frame_read : (old new : Option (List ℕ)) (rest content : List ℕ) → old ≡ Some rest
+    → IfSome old (λ input. (after : List ℕ) × (input ≡ frame_encoding content ++ after) × (new ≡ Some after))
     → (after : List ℕ) × (rest ≡ frame_encoding content ++ after) × (new ≡ Some after)
-frame_read old new rest content e found = subst (λ o. IfSome o (λ input. (after : List ℕ) × (input ≡ frame_encoding content ++ after) × (new ≡ Some after))) e found
+frame_read old new rest content e found =
+    subst (λ o. IfSome o (λ input. (after : List ℕ) × (input ≡ frame_encoding content ++ after) × (new ≡ Some after))) e
+    found
 
 -- an input whose front is its end has nothing left
 is_ended : Front → Bool
@@ -88,7 +138,9 @@ goes_past : (n : ℕ) (rest : List ℕ) → is_ended (content_at n rest) ≡ fal
 unfolding is_ended
 goes_past n rest = by_tests (nat_lt n 4) (nat_lt 65532 n) (nat_lt (length rest) n)
   where
-    by_tests : (a b c : Bool) → is_ended (cond a (faulty Short rest) (cond b (faulty TooLong rest) (cond c (faulty Short []) (whole (take n rest) (drop n rest))))) ≡ false
+    by_tests : (a b c : Bool) → is_ended
+        (cond a (faulty Short rest) (cond b (faulty TooLong rest)
+        (cond c (faulty Short []) (whole (take n rest) (drop n rest))))) ≡ false
     by_tests true b c = refl
     by_tests false true c = refl
     by_tests false false true = refl
@@ -99,7 +151,8 @@ unfolding is_ended
 past_end a rest =
     let n = little_number 4 (a ∷ rest) in
     let behind = drop 4 (a ∷ rest) in
-    ap (λ (b : Bool). is_ended (cond b ended (cond (nat_lt (length (a ∷ rest)) 4) (faulty Short []) (content_at n behind)))) (eqb-suc-zero (length rest))
+    ap (λ (b : Bool). is_ended (cond b ended
+    (cond (nat_lt (length (a ∷ rest)) 4) (faulty Short []) (content_at n behind)))) (eqb-suc-zero (length rest))
     ∙ by_length (nat_lt (length (a ∷ rest)) 4) n behind
   where
     by_length : (c : Bool) (n : ℕ) (behind : List ℕ) → is_ended (cond c (faulty Short []) (content_at n behind)) ≡ false
@@ -111,13 +164,16 @@ unfolding is_ended
 nothing_left [] is = refl
 nothing_left (a ∷ rest) is = absurd (cc (sym (past_end a rest) ∙ ap is_ended is))
 
-pub end_read : (old new : Option (List ℕ)) (rest : List ℕ) → old ≡ Some rest → IfSome old (λ input. (front_of input ≡ ended) × (new ≡ Some [])) → (rest ≡ []) × (new ≡ Some [])
+pub end_read : (old new : Option (List ℕ)) (rest : List ℕ) → old ≡ Some rest
+    → IfSome old (λ input. (front_of input ≡ ended) × (new ≡ Some [])) → (rest ≡ []) × (new ≡ Some [])
 end_read old new rest e found =
     let known = subst (λ o. IfSome o (λ input. (front_of input ≡ ended) × (new ≡ Some []))) e found in
     (nothing_left rest known.0, known.1)
 
 -- a fact for bytes that are known on both sides
-pub both_known : (o p : Option (List ℕ)) (P : List ℕ → List ℕ → Type 0) → ((input before : List ℕ) → o ≡ Some input → p ≡ Some before → P input before) → IfSome o (λ input. IfSome p (λ before. P input before))
+pub both_known : (o p : Option (List ℕ)) (P : List ℕ → List ℕ → Type 0)
+    → ((input before : List ℕ) → o ≡ Some input → p ≡ Some before → P input before)
+    → IfSome o (λ input. IfSome p (λ before. P input before))
 both_known None p P f = tt
 both_known (Some input) None P f = tt
 both_known (Some input) (Some before) P f = f input before refl refl

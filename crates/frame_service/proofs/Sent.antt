@@ -10,6 +10,8 @@ use Rattle.frame_service.specs.declared.asking.Ready.TheVariants.{Known, Made}
 
 module _ {C T : Type 0} (answer : T → Reply) (makes : C → Call → T → C → Type 0) (lacks : C → Call → C → Type 0) where
   -- a send that was done was made
-  pub sent_is_made : (old new : C) (c : Call) (ready : Ready T) → AsksOne answer makes lacks old c ready new → is_sent answer makes lacks c (Settled ready) ≡ true → (ticket : T) × makes old c ticket new × (succeeded c (answer ticket) ≡ true)
+  pub sent_is_made : (old new : C) (c : Call) (ready : Ready T) → AsksOne answer makes lacks old c ready new
+      → is_sent answer makes lacks c (Settled ready) ≡ true → (ticket : T) × makes old c ticket new
+      × (succeeded c (answer ticket) ≡ true)
   sent_is_made old new c (Made ticket) made sent = (ticket, made, sent)
   sent_is_made old new c (Known known) made sent = absurd (cc sent)

@@ -53,7 +53,8 @@ is_patient (Some milliseconds) = true
 
 -- what is left of a mach_msg: these halves are still to be made
 abbrev pub left_of : Option Call → Option Call → Option ℕ → Option ℕ → MessageRequest
-left_of send receive send_timeout receive_timeout = record { send = send; receive = receive; send_timeout = send_timeout; receive_timeout = receive_timeout }
+left_of send receive send_timeout receive_timeout =
+    record { send = send; receive = receive; send_timeout = send_timeout; receive_timeout = receive_timeout }
 
 -- What a connection did: a frame with this content was taken in hand, or the first frame in hand was answered.
 pub data Act (T : Type 0) : Type 0 where
@@ -71,7 +72,9 @@ module _ {C T : Type 0} (answer : T → Reply) (makes : C → Call → T → C �
   -- The same of a call that may wait if this bound lets it: then it found nothing to do, and this is left.
   abbrev pub Tries : C → Call → Option ℕ → MessageRequest → PendingFrame T → C → Type 0
   Tries old c bound left (Settled ready) new = AsksOne old c ready new
-  Tries old c bound left (Waits rest) new = (rest ≡ left) × (is_patient bound ≡ true) × ((ticket : T) × makes old c ticket new × (timed_out (answer ticket) ≡ true))
+  Tries old c bound left (Waits rest) new =
+      (rest ≡ left) × (is_patient bound ≡ true)
+      × ((ticket : T) × makes old c ticket new × (timed_out (answer ticket) ≡ true))
 
   -- whether a send that was done is in hand
   abbrev pub is_sent : Call → PendingFrame T → Bool
@@ -80,13 +83,20 @@ module _ {C T : Type 0} (answer : T → Reply) (makes : C → Call → T → C �
 
   -- The calls of a mach_msg as far as they can be made now: a send, and after a send that was done a receive.
   abbrev pub Proceeds : C → MessageRequest → Option Call → Option Call → PendingFrame T → C → Type 0
-  Proceeds old m None None pending new = (pending ≡ Settled (Known (without_message Success 0 MACH_PORT_NULL))) × (new ≡ old)
-  Proceeds old m (Some send) None pending new = Tries old send m.send_timeout (left_of (Some (again send)) m.receive m.send_timeout m.receive_timeout) pending new
-  Proceeds old m None (Some receive) pending new = Tries old receive m.receive_timeout (left_of None (Some (again receive)) m.send_timeout m.receive_timeout) pending new
+  Proceeds old m None None pending new =
+      (pending ≡ Settled (Known (without_message Success 0 MACH_PORT_NULL))) × (new ≡ old)
+  Proceeds old m (Some send) None pending new =
+      Tries old send m.send_timeout (left_of (Some (again send)) m.receive m.send_timeout m.receive_timeout) pending new
+  Proceeds old m None (Some receive) pending new =
+      Tries old receive m.receive_timeout
+      (left_of None (Some (again receive)) m.send_timeout m.receive_timeout) pending new
   Proceeds old m (Some send) (Some receive) pending new =
-      (Tries old send m.send_timeout (left_of (Some (again send)) m.receive m.send_timeout m.receive_timeout) pending new × (is_sent send pending ≡ false))
+      (Tries old send m.send_timeout
+      (left_of (Some (again send)) m.receive m.send_timeout m.receive_timeout) pending new
+      × (is_sent send pending ≡ false))
       ⊎ ((ticket : T) × (mid : C) × makes old send ticket mid × (succeeded send (answer ticket) ≡ true)
-      × Tries mid receive m.receive_timeout (left_of None (Some (again receive)) m.send_timeout m.receive_timeout) pending new)
+      × Tries mid receive m.receive_timeout
+      (left_of None (Some (again receive)) m.send_timeout m.receive_timeout) pending new)
 
   -- What a frame asks for was done as far as it can be now. Only a mach_msg waits.
   abbrev pub TakesOne : C → Call → PendingFrame T → C → Type 0
@@ -96,21 +106,25 @@ module _ {C T : Type 0} (answer : T → Reply) (makes : C → Call → T → C �
   abbrev pub TakesRequest : C → Request → PendingFrame T → C → Type 0
   TakesRequest old (request.One c) pending new = TakesOne old c pending new
   TakesRequest old (request.Message m) pending new = Proceeds old m m.send m.receive pending new
-  TakesRequest old (request.Answered code) pending new = (pending ≡ Settled (Known (without_message code 0 MACH_PORT_NULL))) × (new ≡ old)
+  TakesRequest old (request.Answered code) pending new =
+      (pending ≡ Settled (Known (without_message code 0 MACH_PORT_NULL))) × (new ≡ old)
 
   -- A frame of this content was taken in hand.
   abbrev pub IsTaken : C → List ℕ → PendingFrame T → C → Type 0
   IsTaken old content pending new =
       ((asks : Request) × Asks content asks × TakesRequest old asks pending new)
-      ⊎ ((known : Reply) × (pending ≡ Settled (Known known)) × (IsRefused old content known new ⊎ LacksMemory old content known new))
+      ⊎ ((known : Reply) × (pending ≡ Settled (Known known))
+      × (IsRefused old content known new ⊎ LacksMemory old content known new))
 
   -- What waited was tried again, attempt after attempt, each with what the one before left.
   abbrev pub GoesOn : C → MessageRequest → List MessageRequest → Ready T → C → Type 0
   GoesOn old m [] ready new = Proceeds old m m.send m.receive (Settled ready) new
-  GoesOn old m (next ∷ more) ready new = (mid : C) × Proceeds old m m.send m.receive (Waits next) mid × GoesOn mid next more ready new
+  GoesOn old m (next ∷ more) ready new =
+      (mid : C) × Proceeds old m m.send m.receive (Waits next) mid × GoesOn mid next more ready new
 
 -- and further: that a ticket's reply was given, and that the store failed before
-module _ {C T : Type 0} (answer : T → Reply) (makes : C → Call → T → C → Type 0) (lacks : C → Call → C → Type 0) (acknowledges : C → T → C → Type 0) (fails : C → T → StoreFault → C → Type 0) where
+module _ {C T : Type 0} (answer : T → Reply) (makes : C → Call → T → C → Type 0) (lacks : C → Call → C → Type 0)
+    (acknowledges : C → T → C → Type 0) (fails : C → T → StoreFault → C → Type 0) where
   -- what waits for nothing was answered, or couldn't be
   abbrev pub IsGiven : C → Ready T → Reply → C → Type 0
   IsGiven old (Known known) said new = (said ≡ known) × (new ≡ old)
@@ -123,20 +137,27 @@ module _ {C T : Type 0} (answer : T → Reply) (makes : C → Call → T → C �
   -- What is in hand was answered; what waited, after its last attempt.
   abbrev pub IsAcknowledged : C → PendingFrame T → Reply → C → Type 0
   IsAcknowledged old (Settled ready) said new = IsGiven old ready said new
-  IsAcknowledged old (Waits rest) said new = (more : List MessageRequest) × (ready : Ready T) × (mid : C) × GoesOn answer makes lacks old rest more ready mid × IsGiven mid ready said new
+  IsAcknowledged old (Waits rest) said new =
+      (more : List MessageRequest) × (ready : Ready T) × (mid : C) × GoesOn answer makes lacks old rest more ready mid
+      × IsGiven mid ready said new
 
   -- It couldn't be answered, since the store failed.
   abbrev pub IsUnacknowledged : C → PendingFrame T → StoreFault → C → Type 0
   IsUnacknowledged old (Settled ready) fault new = IsUngiven old ready fault new
-  IsUnacknowledged old (Waits rest) fault new = (more : List MessageRequest) × (ready : Ready T) × (mid : C) × GoesOn answer makes lacks old rest more ready mid × IsUngiven mid ready fault new
+  IsUnacknowledged old (Waits rest) fault new =
+      (more : List MessageRequest) × (ready : Ready T) × (mid : C) × GoesOn answer makes lacks old rest more ready mid
+      × IsUngiven mid ready fault new
 
   -- Frames are answered in the order in which they were taken. `all_pending` were in hand at the beginning, and `left` are at
   -- the end.
   abbrev pub Acted : C → List (PendingFrame T) → List (Act T) → List (PendingFrame T) → C → Type 0
   Acted old all_pending [] left new = (left ≡ all_pending) × (new ≡ old)
-  Acted old all_pending (took content pending ∷ acts) left new = (mid : C) × IsTaken answer makes lacks old content pending mid × Acted mid (all_pending ++ pending ∷ []) acts left new
+  Acted old all_pending (took content pending ∷ acts) left new =
+      (mid : C) × IsTaken answer makes lacks old content pending mid
+      × Acted mid (all_pending ++ pending ∷ []) acts left new
   Acted old [] (acknowledged reply ∷ acts) left new = ⊥
-  Acted old (pending ∷ all_pending) (acknowledged reply ∷ acts) left new = (mid : C) × IsAcknowledged old pending reply mid × Acted mid all_pending acts left new
+  Acted old (pending ∷ all_pending) (acknowledged reply ∷ acts) left new =
+      (mid : C) × IsAcknowledged old pending reply mid × Acted mid all_pending acts left new
 
 -- the frames that were taken, as they were read, and the replies that were given, as they are written
 abbrev pub frames_of : {T : Type 0} → List (Act T) → List ℕ
@@ -153,16 +174,19 @@ replies_of (acknowledged reply ∷ acts) = frame_encoding (reply_encoding reply)
 abbrev pub IsLeft : List ℕ → Option (List ℕ) → Type 0
 IsLeft rest left = (left ≡ Some rest) ⊎ ((fault : WireFault) × IsReadOf rest (Err fault) left)
 
-module _ {C T : Type 0} (answer : T → Reply) (makes : C → Call → T → C → Type 0) (lacks : C → Call → C → Type 0) (acknowledges : C → T → C → Type 0) (fails : C → T → StoreFault → C → Type 0) where
+module _ {C T : Type 0} (answer : T → Reply) (makes : C → Call → T → C → Type 0) (lacks : C → Call → C → Type 0)
+    (acknowledges : C → T → C → Type 0) (fails : C → T → StoreFault → C → Type 0) where
   -- So far: this rest of the input isn't taken, and what was sent is what was sent before and then the replies.
-  pub record Went (old : C) (all_pending : List (PendingFrame T)) (now : C) (input before rest sent : List ℕ) (left : List (PendingFrame T)) : Type 0 where
+  pub record Went (old : C) (all_pending : List (PendingFrame T)) (now : C) (input before rest sent : List ℕ)
+      (left : List (PendingFrame T)) : Type 0 where
     pub acts : List (Act T)
     pub acted : Acted answer makes lacks acknowledges fails old all_pending acts left now
     pub read : input ≡ frames_of acts ++ rest
     pub acknowledged_is : sent ≡ before ++ replies_of acts
 
   -- How a connection that has these frames in hand ends, by where it does.
-  module _ (old : C) (queue : List (PendingFrame T)) (new : C) (input before : List ℕ) (left written : Option (List ℕ)) where
+  module _ (old : C) (queue : List (PendingFrame T)) (new : C) (input before : List ℕ)
+      (left written : Option (List ℕ)) where
     -- All of the input was taken and answered.
     pub record AcknowledgesAll : Type 0 where
       pub sent : List ℕ
@@ -234,7 +258,8 @@ module _ {C T : Type 0} (answer : T → Reply) (makes : C → Call → T → C �
     -- How a connection ended.
     abbrev pub EndsAsked : Result (Unit {0}) ServeFault → Type 0
     EndsAsked (Ok done) = AcknowledgesAll
-    EndsAsked (Err (Wire fault)) = NeverBegins fault ⊎ (StopsReading fault ⊎ (StopsWriting fault ⊎ (StopsFlushing fault ⊎ StopsAtMost fault)))
+    EndsAsked (Err (Wire fault)) =
+        NeverBegins fault ⊎ (StopsReading fault ⊎ (StopsWriting fault ⊎ (StopsFlushing fault ⊎ StopsAtMost fault)))
     EndsAsked (Err (Store fault)) = StopsAcknowledging fault
 
     -- A turn is over, and the connection continues.
@@ -255,17 +280,22 @@ module _ {C T : Type 0} (answer : T → Reply) (makes : C → Call → T → C �
 
     -- How answering all that is in hand ends.
     abbrev pub EndsAcknowledging : Result (Unit {0}) ServeFault → Type 0
-    EndsAcknowledging (Ok done) = (sent : List ℕ) × Went old queue new input before input sent [] × (written ≡ Some sent)
+    EndsAcknowledging (Ok done) =
+        (sent : List ℕ) × Went old queue new input before input sent [] × (written ≡ Some sent)
     EndsAcknowledging (Err (Wire fault)) = StopsWriting fault ⊎ StopsFlushing fault
     EndsAcknowledging (Err (Store fault)) = StopsAcknowledging fault
 
   -- How answering the first frame in hand ends.
   abbrev pub EndsOne : C → PendingFrame T → C → List ℕ → Option (List ℕ) → Result (Unit {0}) ServeFault → Type 0
-  EndsOne old pending new before written (Ok done) = (reply : Reply) × IsAcknowledged answer makes lacks acknowledges fails old pending reply new × (written ≡ Some (before ++ frame_encoding (reply_encoding reply)))
+  EndsOne old pending new before written (Ok done) =
+      (reply : Reply) × IsAcknowledged answer makes lacks acknowledges fails old pending reply new
+      × (written ≡ Some (before ++ frame_encoding (reply_encoding reply)))
   EndsOne old pending new before written (Err (Wire fault)) =
-      (fault ≡ Device) × (((reply : Reply) × IsAcknowledged answer makes lacks acknowledges fails old pending reply new × AppendsPart (Some before) written (frame_encoding (reply_encoding reply)))
+      (fault ≡ Device) × (((reply : Reply) × IsAcknowledged answer makes lacks acknowledges fails old pending reply new
+      × AppendsPart (Some before) written (frame_encoding (reply_encoding reply)))
       ⊎ ((new ≡ old) × (written ≡ Some before)))
-  EndsOne old pending new before written (Err (Store fault)) = IsUnacknowledged answer makes lacks acknowledges fails old pending fault new × (written ≡ Some before)
+  EndsOne old pending new before written (Err (Store fault)) =
+      IsUnacknowledged answer makes lacks acknowledges fails old pending fault new × (written ≡ Some before)
 
   -- Frames were taken in hand, as many as were there: whether there may be more, or the next one can't be read.
   abbrev pub IsRead : List ℕ → Option (List ℕ) → Result Bool WireFault → Type 0
@@ -277,7 +307,8 @@ module _ {C T : Type 0} (answer : T → Reply) (makes : C → Call → T → C �
   IsSome count (Ok true) = 1 ≤ count
   IsSome count result = ⊤
 
-  pub record TookFrames (old new : C) (all_pending : List (PendingFrame T)) (input : List ℕ) (left : Option (List ℕ)) (result : Result Bool WireFault) : Type 0 where
+  pub record TookFrames (old new : C) (all_pending : List (PendingFrame T)) (input : List ℕ) (left : Option (List ℕ))
+      (result : Result Bool WireFault) : Type 0 where
     pub acts : List (Act T)
     pub rest : List ℕ
     pub acted : Acted answer makes lacks acknowledges fails old [] acts all_pending new
@@ -290,4 +321,5 @@ module _ {C T : Type 0} (answer : T → Reply) (makes : C → Call → T → C �
 abbrev pub holds_frame : List ℕ → Bool
 holds_frame bytes =
     nat_le 4 (length bytes)
-    && (nat_lt (little_number 4 bytes) MIN_FRAME_CONTENT || (nat_lt MAX_FRAME_CONTENT (little_number 4 bytes) || nat_le (little_number 4 bytes) (length (drop 4 bytes))))
+    && (nat_lt (little_number 4 bytes) MIN_FRAME_CONTENT ||
+    (nat_lt MAX_FRAME_CONTENT (little_number 4 bytes) || nat_le (little_number 4 bytes) (length (drop 4 bytes))))

@@ -38,10 +38,12 @@ StepOrShortage old space c answer new =
 -- A send, and a receive if the send's code is 0: two calls, of which the last that was made is answered.
 abbrev pub AnswersBoth : {C : Type 0} → (C → Call → Reply → C → Type 0) → C → Call → Call → Reply → C → Type 0
 AnswersBoth {C} answers old send receive answer new =
-    (sent : Reply) × (mid : C) × answers old send sent mid × MatchBool (succeeded send sent) (answers mid receive answer new) ((answer ≡ sent) × (new ≡ mid))
+    (sent : Reply) × (mid : C) × answers old send sent mid
+    × MatchBool (succeeded send sent) (answers mid receive answer new) ((answer ≡ sent) × (new ≡ mid))
 
 -- a mach_msg that asks for a send, a receive, both or neither got this answer
-abbrev pub AnswersMessage : {C : Type 0} → (C → Call → Reply → C → Type 0) → C → Option Call → Option Call → Reply → C → Type 0
+abbrev pub AnswersMessage : {C : Type 0} → (C → Call → Reply → C → Type 0) → C → Option Call → Option Call → Reply → C
+    → Type 0
 AnswersMessage answers old None None answer new = (answer ≡ without_message Success 0 MACH_PORT_NULL) × (new ≡ old)
 AnswersMessage answers old (Some send) None answer new = answers old send answer new
 AnswersMessage answers old None (Some receive) answer new = answers old receive answer new
@@ -51,24 +53,30 @@ AnswersMessage answers old (Some send) (Some receive) answer new = AnswersBoth a
 abbrev pub AnswersRequest : {C : Type 0} → (C → Call → Reply → C → Type 0) → C → Request → Reply → C → Type 0
 AnswersRequest answers old (request.One c) answer new = answers old c answer new
 AnswersRequest answers old (request.Message m) answer new = AnswersMessage answers old m.send m.receive answer new
-AnswersRequest answers old (request.Answered code) answer new = (answer ≡ without_message code 0 MACH_PORT_NULL) × (new ≡ old)
+AnswersRequest answers old (request.Answered code) answer new =
+    (answer ≡ without_message code 0 MACH_PORT_NULL) × (new ≡ old)
 
 -- a frame whose content asks for something got this answer
 abbrev pub IsServed : {C : Type 0} → (C → Call → Reply → C → Type 0) → C → List ℕ → Reply → C → Type 0
-IsServed answers old content answer new = (asks : Request) × Asks content asks × AnswersRequest answers old asks answer new
+IsServed answers old content answer new =
+    (asks : Request) × Asks content asks × AnswersRequest answers old asks answer new
 
 -- a frame whose content asks for nothing gets this answer, and nothing changes
 abbrev pub IsRefused : {C : Type 0} → C → List ℕ → Reply → C → Type 0
-IsRefused old content answer new = ((asks : Request) → Asks content asks → ⊥) × (answer ≡ refused_of (little_number 4 content) InvalidArgument) × (new ≡ old)
+IsRefused old content answer new =
+    ((asks : Request) → Asks content asks → ⊥) × (answer ≡ refused_of (little_number 4 content) InvalidArgument)
+    × (new ≡ old)
 
 -- a send for whose message there is no memory gets this answer, and nothing changes
 abbrev pub LacksMemory : {C : Type 0} → C → List ℕ → Reply → C → Type 0
 LacksMemory old content answer new =
-    ((arguments : List ℕ) × (content ≡ word 19 ++ arguments) × IsSend arguments) × (answer ≡ without_message SendNoBuffer 0 MACH_PORT_NULL) × (new ≡ old)
+    ((arguments : List ℕ) × (content ≡ word 19 ++ arguments) × IsSend arguments)
+    × (answer ≡ without_message SendNoBuffer 0 MACH_PORT_NULL) × (new ≡ old)
 
 -- A frame with this content got this answer.
 abbrev pub IsAnswered : {C : Type 0} → (C → Call → Reply → C → Type 0) → C → List ℕ → Reply → C → Type 0
-IsAnswered answers old content answer new = IsServed answers old content answer new ⊎ (IsRefused old content answer new ⊎ LacksMemory old content answer new)
+IsAnswered answers old content answer new =
+    IsServed answers old content answer new ⊎ (IsRefused old content answer new ⊎ LacksMemory old content answer new)
 
 -- frames' contents with their replies
 abbrev pub Exchanges : Type 0
@@ -78,7 +86,8 @@ Exchanges = List (List ℕ × Reply)
 abbrev pub Answers : {C : Type 0} → (C → Call → Reply → C → Type 0) → (C → C → Type 0) → C → Exchanges → C → Type 0
 Answers answers rests old [] new = new ≡ old
 Answers {C} answers rests old (exchange ∷ exchanges) new =
-    (mid later : C) × IsAnswered answers old exchange.0 exchange.1 mid × rests mid later × Answers answers rests later exchanges new
+    (mid later : C) × IsAnswered answers old exchange.0 exchange.1 mid × rests mid later
+    × Answers answers rests later exchanges new
 
 -- the frames as they were read, and the replies as they are written
 abbrev pub requests_encoding : Exchanges → List ℕ
@@ -91,7 +100,8 @@ replies_encoding (exchange ∷ exchanges) = frame_encoding (reply_encoding excha
 
 -- All of the input was served: it is the frames of these exchanges, nothing of it is left, and their replies were
 -- written after what was written before.
-pub record ServesAll {C : Type 0} (answers : C → Call → Reply → C → Type 0) (rests : C → C → Type 0) (old new : C) (input before : List ℕ) (left written : Option (List ℕ)) : Type 0 where
+pub record ServesAll {C : Type 0} (answers : C → Call → Reply → C → Type 0) (rests : C → C → Type 0) (old new : C)
+    (input before : List ℕ) (left written : Option (List ℕ)) : Type 0 where
   pub exchanges : Exchanges
   pub calls : Answers answers rests old exchanges new
   pub read : input ≡ requests_encoding exchanges
@@ -100,35 +110,44 @@ pub record ServesAll {C : Type 0} (answers : C → Call → Reply → C → Type
 
 -- How the calls that a frame asks for fail in the store: one of them did. The receive of a mach_msg is called only
 -- after a send whose code is 0.
-abbrev pub FailsBoth : {C : Type 0} → (C → Call → Reply → C → Type 0) → (C → Call → StoreFault → C → Type 0) → C → Call → Call → StoreFault → C → Type 0
+abbrev pub FailsBoth : {C : Type 0} → (C → Call → Reply → C → Type 0) → (C → Call → StoreFault → C → Type 0) → C → Call
+    → Call → StoreFault → C → Type 0
 FailsBoth {C} answers fails old send receive fault new =
-    fails old send fault new ⊎ ((sent : Reply) × (mid : C) × answers old send sent mid × (succeeded send sent ≡ true) × fails mid receive fault new)
+    fails old send fault new ⊎ ((sent : Reply) × (mid : C) × answers old send sent mid × (succeeded send sent ≡ true)
+    × fails mid receive fault new)
 
-abbrev pub FailsMessage : {C : Type 0} → (C → Call → Reply → C → Type 0) → (C → Call → StoreFault → C → Type 0) → C → Option Call → Option Call → StoreFault → C → Type 0
+abbrev pub FailsMessage : {C : Type 0} → (C → Call → Reply → C → Type 0) → (C → Call → StoreFault → C → Type 0) → C
+    → Option Call → Option Call → StoreFault → C → Type 0
 FailsMessage answers fails old None None fault new = ⊥
 FailsMessage answers fails old (Some send) None fault new = fails old send fault new
 FailsMessage answers fails old None (Some receive) fault new = fails old receive fault new
 FailsMessage answers fails old (Some send) (Some receive) fault new = FailsBoth answers fails old send receive fault new
 
-abbrev pub FailsRequest : {C : Type 0} → (C → Call → Reply → C → Type 0) → (C → Call → StoreFault → C → Type 0) → C → Request → StoreFault → C → Type 0
+abbrev pub FailsRequest : {C : Type 0} → (C → Call → Reply → C → Type 0) → (C → Call → StoreFault → C → Type 0) → C
+    → Request → StoreFault → C → Type 0
 FailsRequest answers fails old (request.One c) fault new = fails old c fault new
 FailsRequest answers fails old (request.Message m) fault new = FailsMessage answers fails old m.send m.receive fault new
 FailsRequest answers fails old (request.Answered code) fault new = ⊥
 
 -- what a frame's content asks for failed in the store with this fault
-abbrev pub IsFailed : {C : Type 0} → (C → Call → Reply → C → Type 0) → (C → Call → StoreFault → C → Type 0) → C → List ℕ → StoreFault → C → Type 0
-IsFailed answers fails old content fault new = (asks : Request) × Asks content asks × FailsRequest answers fails old asks fault new
+abbrev pub IsFailed : {C : Type 0} → (C → Call → Reply → C → Type 0) → (C → Call → StoreFault → C → Type 0) → C → List ℕ
+    → StoreFault → C → Type 0
+IsFailed answers fails old content fault new =
+    (asks : Request) × Asks content asks × FailsRequest answers fails old asks fault new
 
 -- Some of the input was served: the frames of these exchanges stood at its front, followed by the rest, and what was
 -- written before and their replies is all that is sent.
-pub record Exchanged {C : Type 0} (answers : C → Call → Reply → C → Type 0) (rests : C → C → Type 0) (old now : C) (input before rest sent : List ℕ) : Type 0 where
+pub record Exchanged {C : Type 0} (answers : C → Call → Reply → C → Type 0) (rests : C → C → Type 0) (old now : C)
+    (input before rest sent : List ℕ) : Type 0 where
   pub exchanges : Exchanges
   pub calls : Answers answers rests old exchanges now
   pub read : input ≡ requests_encoding exchanges ++ rest
   pub replies : sent ≡ before ++ replies_encoding exchanges
 
 -- A connection that ends with a fault, by where it ends.
-module _ {C : Type 0} (answers : C → Call → Reply → C → Type 0) (fails : C → Call → StoreFault → C → Type 0) (rests : C → C → Type 0) (breaks : C → StoreFault → C → Type 0) (old new : C) (input before : List ℕ) (left written : Option (List ℕ)) where
+module _ {C : Type 0} (answers : C → Call → Reply → C → Type 0) (fails : C → Call → StoreFault → C → Type 0)
+    (rests : C → C → Type 0) (breaks : C → StoreFault → C → Type 0) (old new : C) (input before : List ℕ)
+    (left written : Option (List ℕ)) where
   -- there is no memory for the replies before anything is read
   pub record NeverBegins (fault : WireFault) : Type 0 where
     pub fault_is : fault ≡ NoMemory

@@ -18,8 +18,10 @@ pub(crate) fn tell<A: Asker>(
     asker: &mut A,
     pending: PendingFrame<A::Ticket>,
 ) -> Result<Reply, StoreFault>
-    ensures acknowledged { IfOk result (λ reply. IsAcknowledged A.answer A.makes A.lacks A.acknowledges A.fails asker.old pending reply asker.new) }
-    ensures unacknowledged { IfErr result (λ fault. IsUnacknowledged A.answer A.makes A.lacks A.acknowledges A.fails asker.old pending fault asker.new) }
+    ensures acknowledged { IfOk result
+        (λ reply. IsAcknowledged A.answer A.makes A.lacks A.acknowledges A.fails asker.old pending reply asker.new) }
+    ensures unacknowledged { IfErr result
+        (λ fault. IsUnacknowledged A.answer A.makes A.lacks A.acknowledges A.fails asker.old pending fault asker.new) }
     ensures fits { IfOk result (λ reply. length (reply_encoding reply) ≤ MAX_FRAME_CONTENT) }
 {
     match pending {
@@ -33,8 +35,10 @@ pub(crate) fn tell<A: Asker>(
 
 /// The reply to a frame that waits for nothing.
 fn give<A: Asker>(asker: &mut A, ready: Ready<A::Ticket>) -> Result<Reply, StoreFault>
-    ensures given { IfOk result (λ reply. IsGiven A.answer A.makes A.lacks A.acknowledges A.fails asker.old ready reply asker.new) }
-    ensures ungiven { IfErr result (λ fault. IsUngiven A.answer A.makes A.lacks A.acknowledges A.fails asker.old ready fault asker.new) }
+    ensures given { IfOk result
+        (λ reply. IsGiven A.answer A.makes A.lacks A.acknowledges A.fails asker.old ready reply asker.new) }
+    ensures ungiven { IfErr result
+        (λ fault. IsUngiven A.answer A.makes A.lacks A.acknowledges A.fails asker.old ready fault asker.new) }
     ensures fits { IfOk result (λ reply. length (reply_encoding reply) ≤ MAX_FRAME_CONTENT) }
 {
     match ready {

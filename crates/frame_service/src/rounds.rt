@@ -122,8 +122,10 @@ fn acknowledge_all<W: Write, A: Asker>(
     ensures none { OnOk result ((all_pending.new.items ≡ []) × (deque_len all_pending.new ≡ 0)) }
     ensures capacity { deque_capacity all_pending.new ≡ deque_capacity all_pending.old }
     ensures room { reply.old.room ≤ reply.new.room }
-    ensures acknowledged { IfSome (W.contents writer.old) (λ before. (input : List ℕ) (left : Option (List ℕ)) → IsLeft input left
-        → EndsAcknowledging A.answer A.makes A.lacks A.acknowledges A.fails asker.old all_pending.old.items asker.new input before left (W.contents writer.new) result) }
+    ensures acknowledged { IfSome (W.contents writer.old)
+        (λ before. (input : List ℕ) (left : Option (List ℕ)) → IsLeft input left
+        → EndsAcknowledging A.answer A.makes A.lacks A.acknowledges A.fails asker.old all_pending.old.items asker.new
+        input before left (W.contents writer.new) result) }
 {
     while let Some(pending) = all_pending.pop_front() {
         acknowledge_one(alloc, writer, asker, reply, pending)?;

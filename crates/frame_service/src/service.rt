@@ -86,7 +86,8 @@ fn answer<C: Caller>(
     ensures room { reply.old.room ≤ reply.new.room }
     ensures answered { OnOk result ((answer : Reply) × (reply.new.content ≡ reply_encoding answer)
         × IsAnswered C.answers caller.old request.now.content answer caller.new) }
-    ensures failed { IfErr result (λ fault. IsFailed C.answers C.fails caller.old request.now.content fault caller.new) }
+    ensures failed { IfErr result
+        (λ fault. IsFailed C.answers C.fails caller.old request.now.content fault caller.new) }
 {
     let answer = answer_of(alloc, caller, request)?;
     reply_frame(&answer, reply);
@@ -97,7 +98,8 @@ fn answer<C: Caller>(
 /// The reply to a frame, after the calls that it asks for were made.
 fn answer_of<C: Caller>(alloc: Global, caller: &mut C, request: &Frame) -> Result<Reply, StoreFault>
     ensures answered { IfOk result (λ reply. IsAnswered C.answers caller.old request.now.content reply caller.new) }
-    ensures failed { IfErr result (λ fault. IsFailed C.answers C.fails caller.old request.now.content fault caller.new) }
+    ensures failed { IfErr result
+        (λ fault. IsFailed C.answers C.fails caller.old request.now.content fault caller.new) }
     ensures fits { IfOk result (λ reply. length (reply_encoding reply) ≤ MAX_FRAME_CONTENT) }
 {
     match read_request(alloc, request) {

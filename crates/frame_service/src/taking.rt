@@ -119,7 +119,8 @@ fn send_now<A: Asker>(
     bounds: Bounds,
     may_wait: bool,
 ) -> PendingFrame<A::Ticket>
-    ensures { Tries A.answer A.makes A.lacks asker.old send bounds.send (left_of (Some (again send)) None bounds.send bounds.receive) result asker.new }
+    ensures { Tries A.answer A.makes A.lacks asker.old send bounds.send
+        (left_of (Some (again send)) None bounds.send bounds.receive) result asker.new }
 {
     match try_call(alloc, asker, send, bounds.send, may_wait) {
         Ok(ready) => PendingFrame::Settled(ready),
@@ -135,7 +136,8 @@ fn receive_now<A: Asker>(
     bounds: Bounds,
     may_wait: bool,
 ) -> PendingFrame<A::Ticket>
-    ensures { Tries A.answer A.makes A.lacks asker.old receive bounds.receive (left_of None (Some (again receive)) bounds.send bounds.receive) result asker.new }
+    ensures { Tries A.answer A.makes A.lacks asker.old receive bounds.receive
+        (left_of None (Some (again receive)) bounds.send bounds.receive) result asker.new }
 {
     match try_call(alloc, asker, receive, bounds.receive, may_wait) {
         Ok(ready) => PendingFrame::Settled(ready),
@@ -152,10 +154,13 @@ fn send_and_receive<A: Asker>(
     bounds: Bounds,
     may_wait: bool,
 ) -> PendingFrame<A::Ticket>
-    ensures { (Tries A.answer A.makes A.lacks asker.old send bounds.send (left_of (Some (again send)) (Some receive) bounds.send bounds.receive) result asker.new
+    ensures { (Tries A.answer A.makes A.lacks asker.old send bounds.send
+        (left_of (Some (again send)) (Some receive) bounds.send bounds.receive) result asker.new
         × (is_sent A.answer A.makes A.lacks send result ≡ false))
-        ⊎ ((ticket : A.Ticket) × (mid : A) × A.makes asker.old send ticket mid × (succeeded send (A.answer ticket) ≡ true)
-        × Tries A.answer A.makes A.lacks mid receive bounds.receive (left_of None (Some (again receive)) bounds.send bounds.receive) result asker.new) }
+        ⊎ ((ticket : A.Ticket) × (mid : A) × A.makes asker.old send ticket mid
+        × (succeeded send (A.answer ticket) ≡ true)
+        × Tries A.answer A.makes A.lacks mid receive bounds.receive
+        (left_of None (Some (again receive)) bounds.send bounds.receive) result asker.new) }
 {
     match try_call(alloc, asker, send, bounds.send, may_wait) {
         Err(send) => left(Some(send), Some(receive), bounds),
@@ -174,7 +179,8 @@ pub(crate) fn make_last<A: Asker>(
     asker: &mut A,
     message: MessageRequest,
 ) -> Ready<A::Ticket>
-    ensures { Proceeds A.answer A.makes A.lacks asker.old message message.send message.receive (Settled result) asker.new }
+    ensures { Proceeds A.answer A.makes A.lacks asker.old message message.send message.receive
+        (Settled result) asker.new }
 {
     match (message.send, message.receive) {
         (None, None) => known_code(alloc, KernReturn::Success),
@@ -199,8 +205,10 @@ fn make_both<A: Asker>(
     send: &Call,
     receive: &Call,
 ) -> Ready<A::Ticket>
-    ensures { (AsksOne A.answer A.makes A.lacks asker.old send.now result asker.new × (is_sent A.answer A.makes A.lacks send.now (Settled result) ≡ false))
-        ⊎ ((ticket : A.Ticket) × (mid : A) × A.makes asker.old send.now ticket mid × (succeeded send.now (A.answer ticket) ≡ true)
+    ensures { (AsksOne A.answer A.makes A.lacks asker.old send.now result asker.new
+        × (is_sent A.answer A.makes A.lacks send.now (Settled result) ≡ false))
+        ⊎ ((ticket : A.Ticket) × (mid : A) × A.makes asker.old send.now ticket mid
+        × (succeeded send.now (A.answer ticket) ≡ true)
         × AsksOne A.answer A.makes A.lacks mid receive.now result asker.new) }
 {
     let ready = ask_one(alloc, asker, send);
@@ -244,7 +252,8 @@ fn try_call<A: Asker>(
     ensures asks { IfOk result (λ ready. AsksOne A.answer A.makes A.lacks asker.old call ready asker.new) }
     ensures again { IfErr result (λ next. next ≡ again call) }
     ensures patient { IfErr result (λ next. is_patient bound ≡ true) }
-    ensures found { IfErr result (λ next. (ticket : A.Ticket) × A.makes asker.old call ticket asker.new × (timed_out (A.answer ticket) ≡ true)) }
+    ensures found { IfErr result (λ next. (ticket : A.Ticket) × A.makes asker.old call ticket asker.new
+        × (timed_out (A.answer ticket) ≡ true)) }
 {
     let may_wait = may_wait && is_patient(bound);
     let Some(ticket) = asker.submit(&call, may_wait) else {

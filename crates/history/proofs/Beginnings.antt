@@ -25,15 +25,23 @@ begins_itself xs = take-length xs
 
 -- a list is any prefix of it, and then the rest
 pub begins_rest : (xs ys : List Entry) → Begins xs ys → ys ≡ xs ++ drop (length xs) ys
-begins_rest xs ys begins = sym (take-append-drop (length xs) ys) ∙ ap (λ (l : List Entry). l ++ drop (length xs) ys) begins
+begins_rest xs ys begins =
+    sym (take-append-drop (length xs) ys) ∙ ap (λ (l : List Entry). l ++ drop (length xs) ys) begins
 
 -- and so are its records
-pub begins_records : (xs ys : List Entry) → Begins xs ys → records_of ys ≡ records_of xs ++ records_of (drop (length xs) ys)
-begins_records xs ys begins = ap records_of (begins_rest xs ys begins) ∙ map-append (λ (e : Entry). e.«record») xs (drop (length xs) ys)
+pub begins_records : (xs ys : List Entry) → Begins xs ys
+    → records_of ys ≡ records_of xs ++ records_of (drop (length xs) ys)
+begins_records xs ys begins =
+    ap records_of (begins_rest xs ys begins) ∙ map-append (λ (e : Entry). e.«record») xs (drop (length xs) ys)
 
 pub begins_records_length : (xs ys : List Entry) → Begins xs ys → length (records_of xs) ≤ length (records_of ys)
 begins_records_length xs ys begins =
-    omega (arith, begins_length xs ys begins, length-map xs (λ (e : Entry). e.«record»), length-map ys (λ (e : Entry). e.«record»))
+    omega (
+      arith,
+      begins_length xs ys begins,
+      length-map xs (λ (e : Entry). e.«record»),
+      length-map ys (λ (e : Entry). e.«record»),
+    )
 
 -- a prefix of a list that is as long as the list is that list
 pub begins_whole : (xs ys : List Entry) → Begins xs ys → length ys ≡ length xs → ys ≡ xs
@@ -46,8 +54,17 @@ none_left zero (x ∷ xs) less = absurd (omega (arith, less))
 none_left (suc n) (x ∷ xs) less = none_left n xs (omega (arith, less))
 
 -- what caught up with another list is what it was, or that other list
-pub begins_caught : (old other new : List Entry) → new ≡ old ++ drop (length old) other → Begins other new → (new ≡ old) ⊎ (new ≡ other)
+pub begins_caught : (old other new : List Entry) → new ≡ old ++ drop (length old) other → Begins other new → (new ≡ old)
+    ⊎ (new ≡ other)
 begins_caught old other new is begins = elim (cases_lt (length old) (length other)) [
-  | inl longer ↦ inr (begins_whole other new begins (omega (arith, ap length is, length-append old (drop (length old) other), length-drop (length old) other, longer)))
-  | inr shorter ↦ inl (is ∙ ap (λ (l : List Entry). old ++ l) (none_left (length old) other (omega (arith, shorter))) ∙ append-nil old)
+  | inl longer ↦ inr (begins_whole other new begins
+      (omega (
+        arith,
+        ap length is,
+        length-append old (drop (length old) other),
+        length-drop (length old) other,
+        longer,
+      )))
+  | inr shorter ↦ inl (is ∙ ap (λ (l : List Entry). old ++ l) (none_left (length old) other (omega (arith, shorter)))
+      ∙ append-nil old)
 ]

@@ -9,7 +9,9 @@ pub record BlockNames : Type 0 where
   pub cells : List ℕ
 
 abbrev pub names_code : Coded BlockNames
-names_code = code_by (ℕ × List ℕ) (coded× coded_ℕ (coded_list coded_ℕ)) (λ n. (n.link, n.cells)) (λ p. record { link = p.0; cells = p.1 }) (λ _. refl)
+names_code =
+    code_by (ℕ × List ℕ) (coded× coded_ℕ (coded_list coded_ℕ)) (λ n. (n.link, n.cells))
+    (λ p. record { link = p.0; cells = p.1 }) (λ _. refl)
 
 -- names as numbers, and back
 abbrev pub numbers_of_names : BlockNames → List ℕ
@@ -25,7 +27,9 @@ pub record LinkValue : Type 0 where
   pub next : BlockNames
 
 abbrev pub link_code : Coded LinkValue
-link_code = code_by (ℕ × BlockNames) (coded× coded_ℕ names_code) (λ l. (l.start, l.next)) (λ p. record { start = p.0; next = p.1 }) (λ _. refl)
+link_code =
+    code_by (ℕ × BlockNames) (coded× coded_ℕ names_code) (λ l. (l.start, l.next))
+    (λ p. record { start = p.0; next = p.1 }) (λ _. refl)
 
 -- the names after this many entries, where this block comes next
 abbrev pub next_names : BlockNames → ℕ → BlockNames → BlockNames
@@ -60,7 +64,8 @@ pub record PlaceValue : Type 0 where
 
 abbrev pub place_code : Coded PlaceValue
 place_code =
-    code_by (List LinkValue × (ℕ × BlockNames)) (coded× (coded_list link_code) (coded× coded_ℕ names_code)) (λ p. (p.links, (p.start, p.block))) (λ p. record { links = p.0; start = p.1.0; block = p.1.1 }) (λ _. refl)
+    code_by (List LinkValue × (ℕ × BlockNames)) (coded× (coded_list link_code) (coded× coded_ℕ names_code))
+    (λ p. (p.links, (p.start, p.block))) (λ p. record { links = p.0; start = p.1.0; block = p.1.1 }) (λ _. refl)
 
 -- this is the block after these links
 pub record IsBlockAt (first : BlockNames) (links : List LinkValue) (start : ℕ) (block : BlockNames) : Type 0 where
@@ -68,16 +73,23 @@ pub record IsBlockAt (first : BlockNames) (links : List LinkValue) (start : ℕ)
   pub same_cells : block.cells ≡ drop start (names_after first links).cells
 
 -- Of a place: its notes know the links, and its block is the one that they lead to.
-pub record IsPlace (first block : BlockNames) (noted : List ℕ) (known : List (Option LinkValue)) (start : ℕ) : Type 0 where
+pub record IsPlace (first block : BlockNames) (noted : List ℕ) (known : List (Option LinkValue))
+    (start : ℕ) : Type 0 where
   pub notes : AreLinks first noted known
   pub here : IsBlockAt first (known_links known) start block
 
 -- the place after the next block
 abbrev pub place_after : BlockNames → PlaceValue → ℕ → BlockNames → PlaceValue
 place_after first place long block =
-    record { links = place.links ++ (record { start = long; next = next_names (names_after first place.links) long block } ∷ []); start = long; block = block }
+    record {
+      links = place.links ++
+          (record { start = long; next = next_names (names_after first place.links) long block } ∷ []);
+      start = long;
+      block = block;
+    }
 
 -- Each link was made after entries that are still there, in the same cells.
 abbrev pub Leads : BlockNames → List LinkValue → List ℕ → ℕ → Type 0
 Leads here [] cells long = Unit {0}
-Leads here (l ∷ links) cells long = (l.start ≤ long) × (take l.start here.cells ≡ take l.start cells) × Leads l.next links cells long
+Leads here (l ∷ links) cells long =
+    (l.start ≤ long) × (take l.start here.cells ≡ take l.start cells) × Leads l.next links cells long

@@ -22,7 +22,9 @@ pub record PlacedValue : Type 0 where
   pub before : List ℕ
 
 abbrev pub placed_code : Coded PlacedValue
-placed_code = code_by (Entry × List ℕ) (coded× entry.the_row.coded (coded_list coded_ℕ)) (λ p. (p.entry, p.before)) (λ p. record { entry = p.0; before = p.1 }) (λ _. refl)
+placed_code =
+    code_by (Entry × List ℕ) (coded× entry.the_row.coded (coded_list coded_ℕ)) (λ p. (p.entry, p.before))
+    (λ p. record { entry = p.0; before = p.1 }) (λ _. refl)
 
 -- the entry that comes after these
 abbrev pub place_after : List Entry → Entry → PlacedValue

@@ -17,7 +17,11 @@ pub record PastValue : Type 0 where
 
 abbrev pub past_code : Coded PastValue
 past_code =
-    code_by (List Entry × (ℕ × (ℕ × (BlockNames × ℕ)))) (coded× (coded_list entry.the_row.coded) (coded× coded_ℕ (coded× coded_ℕ (coded× names_code coded_ℕ)))) (λ p. (p.entries, (p.blocks, (p.start, (p.block, p.read))))) (λ p. record { entries = p.0; blocks = p.1.0; start = p.1.1.0; block = p.1.1.1.0; read = p.1.1.1.1 }) (λ _. refl)
+    code_by (List Entry × (ℕ × (ℕ × (BlockNames × ℕ))))
+    (coded× (coded_list entry.the_row.coded) (coded× coded_ℕ (coded× coded_ℕ (coded× names_code coded_ℕ))))
+    (λ p. (p.entries, (p.blocks, (p.start, (p.block, p.read)))))
+    (λ p. record { entries = p.0; blocks = p.1.0; start = p.1.1.0; block = p.1.1.1.0; read = p.1.1.1.1 })
+    (λ _. refl)
 
 -- the entries that notes know
 abbrev pub known_entries : List (Option PlacedValue) → List Entry
@@ -36,7 +40,8 @@ pub record AreNotes (cells noted : List ℕ) (known : List (Option PlacedValue))
 
 -- Of a prefix of the history: its notes are of the cells of all entry blocks that led there, and what was read is the
 -- first entries of the current block.
-pub record IsPast (first : BlockNames) (place : PlaceValue) (noted : List ℕ) (known : List (Option PlacedValue)) (seen : List PlacedValue) : Type 0 where
+pub record IsPast (first : BlockNames) (place : PlaceValue) (noted : List ℕ) (known : List (Option PlacedValue))
+    (seen : List PlacedValue) : Type 0 where
   pub notes : AreNotes (names_after first place.links).cells noted known
   pub leads : Leads first place.links (names_after first place.links).cells (length noted)
   pub begun : place.start ≤ length noted

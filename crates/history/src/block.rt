@@ -73,7 +73,8 @@ impl EntryBlock {
     pub(crate) fn look<'a>(&'a self, at: usize, note: &mut Note<Held>) -> Option<&'a Held>
         requires { slice_get self.now.cells at ≡ Some note.old.cell }
         ensures cell { note.new.cell ≡ note.old.cell }
-        ensures value { MatchOption result ((note.old.known ≡ None) × (note.new.known ≡ None)) (λ r. (note.new.known ≡ Some r.now) × Agrees note.old.known r.now) }
+        ensures value { MatchOption result ((note.old.known ≡ None) × (note.new.known ≡ None))
+            (λ r. (note.new.known ≡ Some r.now) × Agrees note.old.known r.now) }
     {
         match self.cells.get(at) {
             Some(cell) => cell.get_as(note),

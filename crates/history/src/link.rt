@@ -34,13 +34,17 @@ struct NextNames;
 impl Names<Left> for NextNames {
     ghost use Rattle.history.specs.Blocks.{names_of_numbers, numbers_of_names, next_names};
 
-    ghost numbers = { λ left. numbers_of_names (next_names (names_of_numbers left.here.numbers) left.long (names_of_numbers left.block.numbers)) };
+    ghost numbers = { λ left. numbers_of_names (next_names (names_of_numbers left.here.numbers) left.long
+        (names_of_numbers left.block.numbers)) };
 }
 
 impl Link {
     /// The link from the names so far, after `long` entries, to an entry block.
     pub(crate) fn new(here: Tag, long: usize, block: Tag) -> Self
-        ensures { result ≡ record { start = long; next = next_names (names_of_numbers here.numbers) long (names_of_numbers block.numbers) } }
+        ensures { result ≡ record {
+          start = long;
+          next = next_names (names_of_numbers here.numbers) long (names_of_numbers block.numbers);
+        } }
     {
         let left = Left { here, long, block };
         let next = Tag::of::<Left, NextNames>(&left);

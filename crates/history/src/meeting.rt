@@ -15,10 +15,14 @@ impl<L: FirstBlock> Past<L> {
     /// compared, which two in one entry block always can.
     pub fn agree(&mut self, other: &mut Past<L>) -> bool
         ensures same { (self.new ≡ self.old) × (other.new ≡ other.old) }
-        ensures begins { result ≡ true → length self.old.entries ≤ length other.old.entries → Begins self.old.entries other.old.entries }
-        ensures goes_on { result ≡ true → length other.old.entries ≤ length self.old.entries → Begins other.old.entries self.old.entries }
-        ensures behind { result ≡ true → self.old.blocks < other.old.blocks → length self.old.entries ≤ length other.old.entries }
-        ensures ahead { result ≡ true → other.old.blocks < self.old.blocks → length other.old.entries ≤ length self.old.entries }
+        ensures begins { result ≡ true → length self.old.entries ≤ length other.old.entries
+            → Begins self.old.entries other.old.entries }
+        ensures goes_on { result ≡ true → length other.old.entries ≤ length self.old.entries
+            → Begins other.old.entries self.old.entries }
+        ensures behind { result ≡ true → self.old.blocks < other.old.blocks
+            → length self.old.entries ≤ length other.old.entries }
+        ensures ahead { result ≡ true → other.old.blocks < self.old.blocks
+            → length other.old.entries ≤ length self.old.entries }
         ensures known { self.old.blocks ≡ other.old.blocks → result ≡ true }
     {
         let own = self.blocks();
@@ -37,8 +41,10 @@ impl<L: FirstBlock> Past<L> {
     pub fn add_to_both(&mut self, other: &mut Past<L>, entry: Entry) -> Result<(), AddFault>
         requires blocks { self.old.blocks ≡ other.old.blocks }
         requires entries { length self.old.entries ≡ length other.old.entries }
-        ensures ok { OnOk result ((self.new ≡ record self.old { entries = self.old.entries ++ entry ∷ [] }) × (other.new ≡ record other.old { entries = other.old.entries ++ entry ∷ [] })) }
-        ensures full { IsErrOf result AddFault.BlockFull → self.old.start + length self.old.block.cells ≤ length self.old.entries }
+        ensures ok { OnOk result ((self.new ≡ record self.old { entries = self.old.entries ++ entry ∷ [] })
+            × (other.new ≡ record other.old { entries = other.old.entries ++ entry ∷ [] })) }
+        ensures full { IsErrOf result AddFault.BlockFull
+            → self.old.start + length self.old.block.cells ≤ length self.old.entries }
         ensures err { OnErr result ((self.new ≡ self.old) × (other.new ≡ other.old)) }
     {
         other.notes.reserve(1)?;
@@ -58,8 +64,10 @@ impl<L: FirstBlock> Past<L> {
     fn agree_in_block(&mut self, other: &mut Past<L>)
         requires { self.old.blocks ≡ other.old.blocks }
         ensures same { (self.new ≡ self.old) × (other.new ≡ other.old) }
-        ensures begins { length self.old.entries ≤ length other.old.entries → Begins self.old.entries other.old.entries }
-        ensures goes_on { length other.old.entries ≤ length self.old.entries → Begins other.old.entries self.old.entries }
+        ensures begins { length self.old.entries ≤ length other.old.entries
+            → Begins self.old.entries other.old.entries }
+        ensures goes_on { length other.old.entries ≤ length self.old.entries
+            → Begins other.old.entries self.old.entries }
     {
         self.place.agree(&mut other.place);
         let both = self.notes.len().min(other.notes.len());
@@ -70,7 +78,8 @@ impl<L: FirstBlock> Past<L> {
     fn begins(&mut self, other: &mut Past<L>) -> bool
         requires { self.old.blocks < other.old.blocks }
         ensures same { (self.new ≡ self.old) × (other.new ≡ other.old) }
-        ensures begins { result ≡ true → (length self.old.entries ≤ length other.old.entries) × Begins self.old.entries other.old.entries }
+        ensures begins { result ≡ true → (length self.old.entries ≤ length other.old.entries)
+            × Begins self.old.entries other.old.entries }
     {
         begin_in_block_before(
             &mut self.place,
@@ -84,7 +93,8 @@ impl<L: FirstBlock> Past<L> {
     fn follow(&mut self, other: &mut Past<L>) -> Result<bool, AllocError>
         requires { self.old.blocks < other.old.blocks }
         ensures same { other.new ≡ other.old }
-        ensures moved { result ≡ Ok true → (self.new ≡ record other.old { read = 0 }) × (length self.old.entries ≤ length other.old.entries) × Begins self.old.entries other.old.entries }
+        ensures moved { result ≡ Ok true → (self.new ≡ record other.old { read = 0 })
+            × (length self.old.entries ≤ length other.old.entries) × Begins self.old.entries other.old.entries }
         ensures apart { result ≡ Ok false → self.new ≡ self.old }
         ensures err { OnErr result (self.new ≡ self.old) }
     {
@@ -108,10 +118,13 @@ impl<L: FirstBlock> Past<L> {
     /// two.
     pub fn catch_up(&mut self, other: &mut Past<L>) -> Result<(), CatchUpFault>
         ensures same { other.new ≡ other.old }
-        ensures ok { OnOk result (self.new.entries ≡ self.old.entries ++ drop (length self.old.entries) other.old.entries) }
-        ensures begins { OnOk result (Begins self.old.entries self.new.entries × Begins other.old.entries self.new.entries) }
+        ensures ok { OnOk result (self.new.entries ≡ self.old.entries
+            ++ drop (length self.old.entries) other.old.entries) }
+        ensures begins { OnOk result (Begins self.old.entries self.new.entries
+            × Begins other.old.entries self.new.entries) }
         ensures moved { OnOk result (self.old.blocks < other.old.blocks → self.new ≡ record other.old { read = 0 }) }
-        ensures stayed { OnOk result (other.old.blocks ≤ self.old.blocks → self.new ≡ record self.old { entries = self.new.entries }) }
+        ensures stayed { OnOk result (other.old.blocks ≤ self.old.blocks
+            → self.new ≡ record self.old { entries = self.new.entries }) }
         ensures apart { IsErrOf result CatchUpFault.Apart → self.old.blocks ≢ other.old.blocks }
         ensures err { OnErr result (self.new ≡ self.old) }
     {
@@ -137,8 +150,10 @@ impl<L: FirstBlock> Past<L> {
     fn learn(&mut self, other: &mut Past<L>) -> Result<(), AllocError>
         requires { self.old.blocks ≡ other.old.blocks }
         ensures same { other.new ≡ other.old }
-        ensures ok { OnOk result (self.new ≡ record self.old { entries = self.old.entries ++ drop (length self.old.entries) other.old.entries }) }
-        ensures begins { OnOk result (Begins self.old.entries self.new.entries × Begins other.old.entries self.new.entries) }
+        ensures ok { OnOk result (self.new
+            ≡ record self.old { entries = self.old.entries ++ drop (length self.old.entries) other.old.entries }) }
+        ensures begins { OnOk result (Begins self.old.entries self.new.entries
+            × Begins other.old.entries self.new.entries) }
         ensures err { OnErr result (self.new ≡ self.old) }
     {
         self.place.agree(&mut other.place);
@@ -162,13 +177,20 @@ fn begin_in_block_before<L: FirstBlock>(
     more: &mut Vec<Note<Held>>,
 ) -> bool
     requires blocks { length place.old.links < length later.old.links }
-    requires notes { AreNotes (names_after L.first place.old.links).cells (map (λ n. n.cell) notes.old.items) (map (λ n. n.known) notes.old.items) }
-    requires more { AreNotes (names_after L.first later.old.links).cells (map (λ n. n.cell) more.old.items) (map (λ n. n.known) more.old.items) }
-    requires leads { Leads L.first later.old.links (names_after L.first later.old.links).cells (length (map (λ n. n.cell) more.old.items)) }
-    ensures same { (place.new ≡ place.old) × (later.new ≡ later.old) × (notes.new.items ≡ notes.old.items) × (more.new.items ≡ more.old.items) }
+    requires notes { AreNotes (names_after L.first place.old.links).cells (map (λ n. n.cell) notes.old.items)
+        (map (λ n. n.known) notes.old.items) }
+    requires more { AreNotes (names_after L.first later.old.links).cells (map (λ n. n.cell) more.old.items)
+        (map (λ n. n.known) more.old.items) }
+    requires leads { Leads L.first later.old.links (names_after L.first later.old.links).cells
+        (length (map (λ n. n.cell) more.old.items)) }
+    ensures same { (place.new ≡ place.old) × (later.new ≡ later.old) × (notes.new.items ≡ notes.old.items)
+        × (more.new.items ≡ more.old.items) }
     ensures less { result ≡ true → length notes.old.items ≤ length more.old.items }
-    ensures cells { result ≡ true → map (λ n. n.cell) notes.old.items ≡ take (length notes.old.items) (map (λ n. n.cell) more.old.items) }
-    ensures begins { result ≡ true → Begins (known_entries (map (λ n. n.known) notes.old.items)) (known_entries (map (λ n. n.known) more.old.items)) }
+    ensures cells { result ≡ true → map (λ n. n.cell) notes.old.items
+        ≡ take (length notes.old.items) (map (λ n. n.cell) more.old.items) }
+    ensures begins { result ≡ true
+        → Begins (known_entries (map (λ n. n.known) notes.old.items))
+        (known_entries (map (λ n. n.known) more.old.items)) }
 {
     place.agree(later);
     let Some(start) = place.left(later) else {
@@ -186,12 +208,17 @@ fn begin_in_block_before<L: FirstBlock>(
 fn compare_last(mine: &mut Vec<Note<Held>>, theirs: &mut Vec<Note<Held>>, long: usize)
     requires known { AreKnown (map (λ n. n.known) mine.old.items) × AreKnown (map (λ n. n.known) theirs.old.items) }
     requires within { (long ≤ length mine.old.items) × (long ≤ length theirs.old.items) }
-    requires cell { 0 < long → slice_get (map (λ n. n.cell) mine.old.items) (long - 1) ≡ slice_get (map (λ n. n.cell) theirs.old.items) (long - 1) }
+    requires cell { 0 < long → slice_get (map (λ n. n.cell) mine.old.items) (long - 1)
+        ≡ slice_get (map (λ n. n.cell) theirs.old.items) (long - 1) }
     ensures same_mine { mine.new.items ≡ mine.old.items }
     ensures same_theirs { theirs.new.items ≡ theirs.old.items }
     ensures room { vec_capacity mine.new ≡ vec_capacity mine.old }
-    ensures begins { length mine.old.items ≡ long → Begins (known_entries (map (λ n. n.known) mine.old.items)) (known_entries (map (λ n. n.known) theirs.old.items)) }
-    ensures goes_on { length theirs.old.items ≡ long → Begins (known_entries (map (λ n. n.known) theirs.old.items)) (known_entries (map (λ n. n.known) mine.old.items)) }
+    ensures begins { length mine.old.items ≡ long
+        → Begins (known_entries (map (λ n. n.known) mine.old.items))
+        (known_entries (map (λ n. n.known) theirs.old.items)) }
+    ensures goes_on { length theirs.old.items ≡ long
+        → Begins (known_entries (map (λ n. n.known) theirs.old.items))
+        (known_entries (map (λ n. n.known) mine.old.items)) }
 {
     if long == 0 {
         return;

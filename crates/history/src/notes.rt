@@ -19,7 +19,9 @@ pub(crate) fn compare_at<T>(notes: &mut Vec<Note<T>>, at: usize, note: Note<T>)
     requires cell { slice_get (map (λ n. n.cell) notes.old.items) at ≡ Some note.cell }
     ensures same { notes.new.items ≡ notes.old.items }
     ensures room { vec_capacity notes.new ≡ vec_capacity notes.old }
-    ensures known { IfSome note.known (λ seen. IfSome (slice_get (map (λ n. n.known) notes.old.items) at) (λ known. IfSome known (λ own. own ≡ seen))) }
+    ensures known { IfSome note.known
+        (λ seen. IfSome (slice_get (map (λ n. n.known) notes.old.items) at)
+        (λ known. IfSome known (λ own. own ≡ seen))) }
 {
     notes[at].compare(note);
 }

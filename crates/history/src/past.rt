@@ -48,9 +48,16 @@ impl<L: FirstBlock> Model for Past<L> {
 
     ghost coded = { past_code };
 
-    ghost view = { λ p. record { entries = known_entries (map (λ n. n.known) p.notes.items); blocks = length p.place.links; start = p.place.start; block = p.place.block; read = length p.seen.items } };
+    ghost view = { λ p. record {
+      entries = known_entries (map (λ n. n.known) p.notes.items);
+      blocks = length p.place.links;
+      start = p.place.start;
+      block = p.place.block;
+      read = length p.seen.items;
+    } };
 
-    ghost invariant = { λ p. IsPast L.first p.place (map (λ n. n.cell) p.notes.items) (map (λ n. n.known) p.notes.items) p.seen.items };
+    ghost invariant = { λ p. IsPast L.first p.place (map (λ n. n.cell) p.notes.items)
+        (map (λ n. n.known) p.notes.items) p.seen.items };
 }
 
 /// All entries before the next one.
@@ -134,7 +141,8 @@ impl<L: FirstBlock> Past<L> {
     /// Adds an entry after all that it has.
     pub fn add(&mut self, entry: Entry) -> Result<(), AddFault>
         ensures ok { OnOk result (self.new ≡ record self.old { entries = self.old.entries ++ entry ∷ [] }) }
-        ensures full { IsErrOf result AddFault.BlockFull → self.old.start + length self.old.block.cells ≤ length self.old.entries }
+        ensures full { IsErrOf result AddFault.BlockFull
+            → self.old.start + length self.old.block.cells ≤ length self.old.entries }
         ensures err { OnErr result (self.new ≡ self.old) }
     {
         let before = Tag::of::<Past<L>, AllBefore>(self);
@@ -145,7 +153,8 @@ impl<L: FirstBlock> Past<L> {
     fn put(&mut self, held: Held) -> Result<(), AddFault>
         requires { held.before ≡ numbers_of self.old.entries }
         ensures ok { OnOk result (self.new ≡ record self.old { entries = self.old.entries ++ held.entry ∷ [] }) }
-        ensures full { IsErrOf result AddFault.BlockFull → self.old.start + length self.old.block.cells ≤ length self.old.entries }
+        ensures full { IsErrOf result AddFault.BlockFull
+            → self.old.start + length self.old.block.cells ≤ length self.old.entries }
         ensures err { OnErr result (self.new ≡ self.old) }
     {
         self.notes.reserve(1)?;
@@ -163,7 +172,14 @@ impl<L: FirstBlock> Past<L> {
     ///
     /// `NoMemory`: an allocation failed. `CellTaken`: another prefix moved on from this block before.
     pub fn begin_block(&mut self, block: Arc<EntryBlock, Global>) -> Result<(), AddFault>
-        ensures ok { OnOk result (self.new ≡ record { entries = self.old.entries; blocks = self.old.blocks + 1; start = length self.old.entries; block = arc_value block; read = 0 }) }
+        ensures ok { OnOk result (self.new
+            ≡ record {
+              entries = self.old.entries;
+              blocks = self.old.blocks + 1;
+              start = length self.old.entries;
+              block = arc_value block;
+              read = 0;
+            }) }
         ensures full { IsErrOf result AddFault.BlockFull → ⊥ }
         ensures err { OnErr result (self.new ≡ self.old) }
     {

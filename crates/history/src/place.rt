@@ -40,9 +40,14 @@ impl<L: FirstBlock> Model for Place<L> {
 
     ghost coded = { place_code };
 
-    ghost view = { λ p. record { links = known_links (map (λ n. n.known) p.links.items); start = p.start; block = arc_value p.block } };
+    ghost view = { λ p. record {
+      links = known_links (map (λ n. n.known) p.links.items);
+      start = p.start;
+      block = arc_value p.block;
+    } };
 
-    ghost invariant = { λ p. IsPlace L.first (arc_value p.block) (map (λ n. n.cell) p.links.items) (map (λ n. n.known) p.links.items) p.start };
+    ghost invariant = { λ p. IsPlace L.first (arc_value p.block) (map (λ n. n.cell) p.links.items)
+        (map (λ n. n.known) p.links.items) p.start };
 }
 
 /// The names so far, at a place.
@@ -126,8 +131,10 @@ impl<L: FirstBlock> Place<L> {
     /// Of two places of one history, the links that led to one are a prefix of those that led to the other.
     pub(crate) fn agree(&mut self, other: &mut Place<L>)
         ensures same { (self.new ≡ self.old) × (other.new ≡ other.old) }
-        ensures begins { length self.old.links ≤ length other.old.links → take (length self.old.links) other.old.links ≡ self.old.links }
-        ensures goes_on { length other.old.links ≤ length self.old.links → take (length other.old.links) self.old.links ≡ other.old.links }
+        ensures begins { length self.old.links ≤ length other.old.links
+            → take (length self.old.links) other.old.links ≡ self.old.links }
+        ensures goes_on { length other.old.links ≤ length self.old.links
+            → take (length other.old.links) self.old.links ≡ other.old.links }
     {
         let both = self.links.len().min(other.links.len());
         agree_links::<L>(&mut self.links, &mut other.links, both);
@@ -166,7 +173,8 @@ impl<L: FirstBlock> Place<L> {
         requires more { length self.now.links < length other.old.links }
         requires begins { take (length self.now.links) other.old.links ≡ self.now.links }
         ensures same { other.new ≡ other.old }
-        ensures start { IfSome result (λ s. option_map (λ l. l.start) (slice_get other.old.links (length self.now.links)) ≡ Some s) }
+        ensures start { IfSome result (λ s. option_map
+            (λ l. l.start) (slice_get other.old.links (length self.now.links)) ≡ Some s) }
     {
         let (start, note) = self.block.left()?;
         compare_at(&mut other.links, self.links.len(), note);
@@ -181,7 +189,8 @@ fn agree_links<L: FirstBlock>(mine: &mut Vec<Note<Link>>, theirs: &mut Vec<Note<
     requires both { (both ≤ length mine.old.items) × (both ≤ length theirs.old.items) }
     ensures same_mine { mine.new.items ≡ mine.old.items }
     ensures same_theirs { theirs.new.items ≡ theirs.old.items }
-    ensures agree { take both (known_links (map (λ n. n.known) mine.old.items)) ≡ take both (known_links (map (λ n. n.known) theirs.old.items)) }
+    ensures agree { take both (known_links (map (λ n. n.known) mine.old.items))
+        ≡ take both (known_links (map (λ n. n.known) theirs.old.items)) }
 {
     for at in 0..both {
         let note = again_at(theirs, at);

@@ -18,7 +18,9 @@ impl<L: FirstBlock> Past<L> {
 
     /// The record at a place of its block, if it was read. It takes no lock.
     pub fn record(&self, at: usize) -> Option<&Record>
-        ensures { MatchOption result (self.now.read ≤ at) (λ r. (at < self.now.read) × (option_map (λ e. e.record) (slice_get self.now.entries (self.now.start + at)) ≡ Some r.now)) }
+        ensures { MatchOption result (self.now.read ≤ at)
+            (λ r. (at < self.now.read) ×
+            (option_map (λ e. e.record) (slice_get self.now.entries (self.now.start + at)) ≡ Some r.now)) }
     {
         if at >= self.seen.len() {
             return None;
@@ -31,7 +33,8 @@ impl<L: FirstBlock> Past<L> {
     /// was read stays.
     pub fn read(&mut self) -> Result<(), AllocError>
         ensures ok { OnOk result (self.new ≡ record self.old { read = length self.old.entries - self.old.start }) }
-        ensures err { OnErr result ((self.new ≡ record self.old { read = self.new.read }) × (self.old.read ≤ self.new.read)) }
+        ensures err { OnErr result ((self.new ≡ record self.old { read = self.new.read })
+            × (self.old.read ≤ self.new.read)) }
     {
         let all = self.len() - self.start();
         for _ in self.count_read()..all {

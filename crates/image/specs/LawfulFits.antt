@@ -39,14 +39,17 @@ port_fits port lawful encodes = record {
   messages = λ k d less. message_fits _ (lawful.messages k d less) (encodes.messages k d less);
 }
 
-space_fits : (state : State) → Lawful state → Encodable state → (space : ℕ) (names : Names) → get state.spaces space ≡ Some names → FitsSpace (space_row (space, names))
+space_fits : (state : State) → Lawful state → Encodable state → (space : ℕ) (names : Names)
+    → get state.spaces space ≡ Some names → FitsSpace (space_row (space, names))
 space_fits state lawful encodes space names there =
     let own = each_entry EncodableSpace state.spaces space names encodes.spaces there in
     record {
       number = own.0;
       few_names = omega (arith, own.1.few, len-entries names, length_mapped named_row (entries names));
       names = All-map FitsNamed named_row (entries names) own.1.entries;
-      names_ascend = subst (AscendsFrom 0) (sym (map_map name_of named_row (entries names))) (entries_ascend 0 names (λ k v at. omega arith));
+      names_ascend =
+          subst (AscendsFrom 0) (sym (map_map name_of named_row (entries names)))
+          (entries_ascend 0 names (λ k v at. omega arith));
     }
 
 abbrev pub LawfulSnapshotsFit : Type 0
@@ -58,11 +61,23 @@ lawful_snapshots_fit state lawful short =
     let encodes : Encodable state = lawful_is_encodable state lawful short in
     record {
       next_serial = encodes.next;
-      few_spaces = omega (arith, encodes.few_spaces, len-entries state.spaces, length_mapped space_row (entries state.spaces));
-      spaces = All-map FitsSpace space_row (entries state.spaces) (all_entries (λ (e : ℕ × Names). FitsSpace (space_row e)) state.spaces (space_fits state lawful encodes));
-      spaces_ascend = subst (AscendsFrom 0) (sym (map_map number_of space_row (entries state.spaces))) (entries_ascend 0 state.spaces (λ k v at. omega arith));
-      few_ports = omega (arith, encodes.few_ports, len-entries state.ports, length_mapped port_row (entries state.ports));
-      ports = All-map FitsLivePort port_row (entries state.ports) (all_entries (λ (e : ℕ × PortState). FitsLivePort (port_row e)) state.ports (λ serial port at.
-          let own = each_entry EncodableLivePort state.ports serial port encodes.ports at in (own.0, port_fits port (lawful.ports serial port at).2 own.1)));
-      ports_ascend = subst (AscendsFrom 0) (sym (map_map serial_of port_row (entries state.ports))) (entries_ascend 0 state.ports (λ k v at. omega arith));
+      few_spaces =
+          omega (arith, encodes.few_spaces, len-entries state.spaces, length_mapped space_row (entries state.spaces));
+      spaces =
+          All-map FitsSpace space_row (entries state.spaces)
+          (all_entries (λ (e : ℕ × Names). FitsSpace (space_row e)) state.spaces (space_fits state lawful encodes));
+      spaces_ascend =
+          subst (AscendsFrom 0) (sym (map_map number_of space_row (entries state.spaces)))
+          (entries_ascend 0 state.spaces (λ k v at. omega arith));
+      few_ports =
+          omega (arith, encodes.few_ports, len-entries state.ports, length_mapped port_row (entries state.ports));
+      ports =
+          All-map FitsLivePort port_row (entries state.ports)
+          (all_entries (λ (e : ℕ × PortState). FitsLivePort (port_row e)) state.ports (λ serial port at.
+          let own =
+          each_entry EncodableLivePort state.ports serial port encodes.ports at in
+          (own.0, port_fits port (lawful.ports serial port at).2 own.1)));
+      ports_ascend =
+          subst (AscendsFrom 0) (sym (map_map serial_of port_row (entries state.ports)))
+          (entries_ascend 0 state.ports (λ k v at. omega arith));
     }

@@ -15,10 +15,14 @@ use Rattle.words.specs.Words.{word, long_word}
 
 -- after a message's head: its rights and its body
 abbrev pub after_head : Message → List ℕ → List ℕ
-after_head message rest = word (length message.rights) ++ (flat_map carried_encoding message.rights ++ (message.body ++ rest))
+after_head message rest =
+    word (length message.rights) ++ (flat_map carried_encoding message.rights ++ (message.body ++ rest))
 
 pub message_apart : (message : Message) (rest : List ℕ) → message_image message ++ rest
-    ≡ number_of_kind message.destination ∷ (reply_right_encoding message.reply ++ (word message.id ++ (word (message_size message) ++ (number_of_bool message.complex ∷ after_head message rest))))
+    ≡ number_of_kind message.destination ∷
+    (reply_right_encoding message.reply
+    ++ (word message.id ++ (word (message_size message)
+    ++ (number_of_bool message.complex ∷ after_head message rest))))
 message_apart message rest = simp append_assoc
 
 -- after a port's numbers: the targets of its requests, and then its messages
@@ -26,10 +30,13 @@ abbrev pub after_targets : PortState → List ℕ → List ℕ
 after_targets port rest = word (length port.messages) ++ (flat_map message_image port.messages ++ rest)
 
 abbrev pub after_numbers : PortState → List ℕ → List ℕ
-after_numbers port rest = long_word (number_or_0 port.no_senders_target) ++ (long_word (number_or_0 port.port_destroyed_target) ++ after_targets port rest)
+after_numbers port rest =
+    long_word (number_or_0 port.no_senders_target)
+    ++ (long_word (number_or_0 port.port_destroyed_target) ++ after_targets port rest)
 
 pub port_apart : (port : PortState) (rest : List ℕ) → port_encoding port ++ rest
-    ≡ word port.limit ++ (word port.sequence_number ++ (word port.make_send_count ++ (word (number_or_0 port.set) ++ after_numbers port rest)))
+    ≡ word port.limit ++ (word port.sequence_number
+    ++ (word port.make_send_count ++ (word (number_or_0 port.set) ++ after_numbers port rest)))
 port_apart port rest = simp append_assoc
 
 -- after a snapshot's spaces: its ports
@@ -37,12 +44,16 @@ abbrev pub after_spaces : Snapshot → List ℕ
 after_spaces snapshot = word (length snapshot.ports) ++ (flat_map live_port_encoding snapshot.ports ++ [])
 
 abbrev pub after_next : Snapshot → List ℕ
-after_next snapshot = word (length snapshot.spaces) ++ (flat_map space_encoding snapshot.spaces ++ after_spaces snapshot)
+after_next snapshot =
+    word (length snapshot.spaces) ++ (flat_map space_encoding snapshot.spaces ++ after_spaces snapshot)
 
-pub snapshot_apart : (snapshot : Snapshot) → snapshot_encoding snapshot ≡ long_word snapshot.next_serial ++ after_next snapshot
+pub snapshot_apart : (snapshot : Snapshot)
+    → snapshot_encoding snapshot ≡ long_word snapshot.next_serial ++ after_next snapshot
 unfolding snapshot_encoding
 snapshot_apart snapshot =
-    ap (λ (l : List ℕ). long_word snapshot.next_serial ++ (word (length snapshot.spaces) ++ (flat_map space_encoding snapshot.spaces ++ (word (length snapshot.ports) ++ l))))
+    ap (λ (l : List ℕ). long_word snapshot.next_serial
+    ++ (word (length snapshot.spaces)
+    ++ (flat_map space_encoding snapshot.spaces ++ (word (length snapshot.ports) ++ l))))
     (sym (append-nil (flat_map live_port_encoding snapshot.ports)))
 
 -- the number that encodes a target or a set fits its word
@@ -70,24 +81,36 @@ module _ {A : Type 0} where
 
 -- a message that was found part by part
 pub message_found : (bytes : List ℕ) (message : Message) (size count : ℕ) (behind counted after rest : List ℕ)
-    → bytes ≡ number_of_kind message.destination ∷ (reply_right_encoding message.reply ++ (word message.id ++ (word size ++ (number_of_bool message.complex ∷ behind))))
-    → behind ≡ word count ++ counted → counted ≡ flat_map carried_encoding message.rights ++ after → length message.rights ≡ count → after ≡ message.body ++ rest → size ≡ 24 + length message.body
+    → bytes ≡ number_of_kind message.destination ∷
+    (reply_right_encoding message.reply
+    ++ (word message.id ++ (word size ++ (number_of_bool message.complex ∷ behind))))
+    → behind ≡ word count ++ counted → counted ≡ flat_map carried_encoding message.rights ++ after
+    → length message.rights ≡ count → after ≡ message.body ++ rest → size ≡ 24 + length message.body
     → bytes ≡ message_image message ++ rest
 message_found bytes message size count behind counted after rest is count_is rights_are long body_is size_is =
     let all : behind ≡ after_head message rest =
-    count_is ∙ ap (λ (n : ℕ). word n ++ counted) (sym long) ∙ ap (λ (l : List ℕ). word (length message.rights) ++ l) (rights_are ∙ ap (λ (l : List ℕ). flat_map carried_encoding message.rights ++ l) body_is) in
-    is ∙ ap (λ (n : ℕ). number_of_kind message.destination ∷ (reply_right_encoding message.reply ++ (word message.id ++ (word n ++ (number_of_bool message.complex ∷ behind))))) size_is
-    ∙ ap (λ (l : List ℕ). number_of_kind message.destination ∷ (reply_right_encoding message.reply ++ (word message.id ++ (word (message_size message) ++ (number_of_bool message.complex ∷ l))))) all
+    count_is ∙ ap (λ (n : ℕ). word n ++ counted) (sym long) ∙ ap
+    (λ (l : List ℕ). word (length message.rights) ++ l)
+    (rights_are ∙ ap (λ (l : List ℕ). flat_map carried_encoding message.rights ++ l) body_is) in
+    is ∙ ap (λ (n : ℕ). number_of_kind message.destination ∷
+    (reply_right_encoding message.reply
+    ++ (word message.id ++ (word n ++ (number_of_bool message.complex ∷ behind))))) size_is
+    ∙ ap (λ (l : List ℕ). number_of_kind message.destination ∷
+    (reply_right_encoding message.reply
+    ++ (word message.id ++ (word (message_size message) ++ (number_of_bool message.complex ∷ l))))) all
     ∙ sym (message_apart message rest)
 
 -- a snapshot that was found part by part
-pub snapshot_found : (bytes : List ℕ) (snapshot : Snapshot) (behind after rest : List ℕ) → bytes ≡ long_word snapshot.next_serial ++ behind
-    → behind ≡ word (length snapshot.spaces) ++ (flat_map space_encoding snapshot.spaces ++ after) → after ≡ word (length snapshot.ports) ++ (flat_map live_port_encoding snapshot.ports ++ rest) → rest ≡ []
+pub snapshot_found : (bytes : List ℕ) (snapshot : Snapshot) (behind after rest : List ℕ)
+    → bytes ≡ long_word snapshot.next_serial ++ behind
+    → behind ≡ word (length snapshot.spaces) ++ (flat_map space_encoding snapshot.spaces ++ after)
+    → after ≡ word (length snapshot.ports) ++ (flat_map live_port_encoding snapshot.ports ++ rest) → rest ≡ []
     → bytes ≡ snapshot_encoding snapshot
 snapshot_found bytes snapshot behind after rest is spaces_are ports_are ended =
     is ∙ ap (λ (l : List ℕ). long_word snapshot.next_serial ++ l)
     (spaces_are ∙ ap (λ (l : List ℕ). word (length snapshot.spaces) ++ (flat_map space_encoding snapshot.spaces ++ l))
-    (ports_are ∙ ap (λ (l : List ℕ). word (length snapshot.ports) ++ (flat_map live_port_encoding snapshot.ports ++ l)) ended))
+    (ports_are ∙ ap (λ (l : List ℕ). word (length snapshot.ports) ++ (flat_map live_port_encoding snapshot.ports ++ l))
+    ended))
     ∙ sym (snapshot_apart snapshot)
 
 -- what follows each of a message's parts
@@ -107,25 +130,50 @@ abbrev pub after_destination : Message → List ℕ
 after_destination message = reply_right_encoding message.reply ++ after_reply message
 
 -- what is added part by part to a port's encoding, and to a snapshot's
-pub port_added : (port : PortState) (o a b c d e f g end : List ℕ) → a ≡ o ++ word port.limit → b ≡ a ++ word port.sequence_number → c ≡ b ++ word port.make_send_count
-    → d ≡ c ++ word (number_or_0 port.set) → e ≡ d ++ long_word (number_or_0 port.no_senders_target) → f ≡ e ++ long_word (number_or_0 port.port_destroyed_target)
-    → g ≡ f ++ word (length port.messages) → end ≡ g ++ flat_map message_image port.messages → end ≡ o ++ port_encoding port
+pub port_added : (port : PortState) (o a b c d e f g end : List ℕ) → a ≡ o ++ word port.limit
+    → b ≡ a ++ word port.sequence_number → c ≡ b ++ word port.make_send_count
+    → d ≡ c ++ word (number_or_0 port.set) → e ≡ d ++ long_word (number_or_0 port.no_senders_target)
+    → f ≡ e ++ long_word (number_or_0 port.port_destroyed_target)
+    → g ≡ f ++ word (length port.messages) → end ≡ g ++ flat_map message_image port.messages
+    → end ≡ o ++ port_encoding port
 port_added port o a b c d e f g end is_a is_b is_c is_d is_e is_f is_g is_end =
-    let to_g : end ≡ f ++ (word (length port.messages) ++ flat_map message_image port.messages) = added f g (word (length port.messages)) (flat_map message_image port.messages) end is_g is_end in
-    let to_f : end ≡ e ++ (long_word (number_or_0 port.port_destroyed_target) ++ (word (length port.messages) ++ flat_map message_image port.messages)) = added e f (long_word (number_or_0 port.port_destroyed_target)) (word (length port.messages) ++ flat_map message_image port.messages) end is_f to_g in
-    let after_set : List ℕ = long_word (number_or_0 port.no_senders_target) ++ (long_word (number_or_0 port.port_destroyed_target) ++ (word (length port.messages) ++ flat_map message_image port.messages)) in
-    let to_e : end ≡ d ++ after_set = added d e (long_word (number_or_0 port.no_senders_target)) (long_word (number_or_0 port.port_destroyed_target) ++ (word (length port.messages) ++ flat_map message_image port.messages)) end is_e to_f in
-    let to_d : end ≡ c ++ (word (number_or_0 port.set) ++ after_set) = added c d (word (number_or_0 port.set)) after_set end is_d to_e in
-    let to_c : end ≡ b ++ (word port.make_send_count ++ (word (number_or_0 port.set) ++ after_set)) = added b c (word port.make_send_count) (word (number_or_0 port.set) ++ after_set) end is_c to_d in
-    let to_b : end ≡ a ++ (word port.sequence_number ++ (word port.make_send_count ++ (word (number_or_0 port.set) ++ after_set))) = added a b (word port.sequence_number) (word port.make_send_count ++ (word (number_or_0 port.set) ++ after_set)) end is_b to_c in
-    added o a (word port.limit) (word port.sequence_number ++ (word port.make_send_count ++ (word (number_or_0 port.set) ++ after_set))) end is_a to_b
+    let to_g : end ≡ f ++ (word (length port.messages) ++ flat_map message_image port.messages) =
+    added f g (word (length port.messages)) (flat_map message_image port.messages) end is_g is_end in
+    let to_f : end ≡ e ++ (long_word (number_or_0 port.port_destroyed_target)
+    ++ (word (length port.messages) ++ flat_map message_image port.messages)) = added e f
+    (long_word (number_or_0 port.port_destroyed_target))
+    (word (length port.messages) ++ flat_map message_image port.messages) end is_f to_g in
+    let after_set : List ℕ =
+    long_word (number_or_0 port.no_senders_target)
+    ++ (long_word (number_or_0 port.port_destroyed_target)
+    ++ (word (length port.messages) ++ flat_map message_image port.messages)) in
+    let to_e : end ≡ d ++ after_set =
+    added d e (long_word (number_or_0 port.no_senders_target))
+    (long_word (number_or_0 port.port_destroyed_target)
+    ++ (word (length port.messages) ++ flat_map message_image port.messages)) end is_e to_f in
+    let to_d : end ≡ c ++ (word (number_or_0 port.set) ++ after_set) =
+    added c d (word (number_or_0 port.set)) after_set end is_d to_e in
+    let to_c : end ≡ b ++ (word port.make_send_count ++ (word (number_or_0 port.set) ++ after_set)) =
+    added b c (word port.make_send_count) (word (number_or_0 port.set) ++ after_set) end is_c to_d in
+    let to_b : end ≡ a ++ (word port.sequence_number
+    ++ (word port.make_send_count ++ (word (number_or_0 port.set) ++ after_set))) = added a b
+    (word port.sequence_number) (word port.make_send_count ++ (word (number_or_0 port.set) ++ after_set)) end
+    is_b to_c in
+    added o a (word port.limit) (word port.sequence_number
+    ++ (word port.make_send_count ++ (word (number_or_0 port.set) ++ after_set))) end is_a to_b
 
-pub snapshot_added : (snapshot : Snapshot) (o a b c d end : List ℕ) → a ≡ o ++ long_word snapshot.next_serial → b ≡ a ++ word (length snapshot.spaces) → c ≡ b ++ flat_map space_encoding snapshot.spaces
-    → d ≡ c ++ word (length snapshot.ports) → end ≡ d ++ flat_map live_port_encoding snapshot.ports → end ≡ o ++ snapshot_encoding snapshot
+pub snapshot_added : (snapshot : Snapshot) (o a b c d end : List ℕ) → a ≡ o ++ long_word snapshot.next_serial
+    → b ≡ a ++ word (length snapshot.spaces) → c ≡ b ++ flat_map space_encoding snapshot.spaces
+    → d ≡ c ++ word (length snapshot.ports) → end ≡ d ++ flat_map live_port_encoding snapshot.ports
+    → end ≡ o ++ snapshot_encoding snapshot
 unfolding snapshot_encoding
 snapshot_added snapshot o a b c d end is_a is_b is_c is_d is_end =
     let ports : List ℕ = word (length snapshot.ports) ++ flat_map live_port_encoding snapshot.ports in
-    let to_d : end ≡ c ++ ports = added c d (word (length snapshot.ports)) (flat_map live_port_encoding snapshot.ports) end is_d is_end in
-    let to_c : end ≡ b ++ (flat_map space_encoding snapshot.spaces ++ ports) = added b c (flat_map space_encoding snapshot.spaces) ports end is_c to_d in
-    let to_b : end ≡ a ++ (word (length snapshot.spaces) ++ (flat_map space_encoding snapshot.spaces ++ ports)) = added a b (word (length snapshot.spaces)) (flat_map space_encoding snapshot.spaces ++ ports) end is_b to_c in
-    added o a (long_word snapshot.next_serial) (word (length snapshot.spaces) ++ (flat_map space_encoding snapshot.spaces ++ ports)) end is_a to_b
+    let to_d : end ≡ c ++ ports =
+    added c d (word (length snapshot.ports)) (flat_map live_port_encoding snapshot.ports) end is_d is_end in
+    let to_c : end ≡ b ++ (flat_map space_encoding snapshot.spaces ++ ports) =
+    added b c (flat_map space_encoding snapshot.spaces) ports end is_c to_d in
+    let to_b : end ≡ a ++ (word (length snapshot.spaces) ++ (flat_map space_encoding snapshot.spaces ++ ports)) =
+    added a b (word (length snapshot.spaces)) (flat_map space_encoding snapshot.spaces ++ ports) end is_b to_c in
+    added o a (long_word snapshot.next_serial)
+    (word (length snapshot.spaces) ++ (flat_map space_encoding snapshot.spaces ++ ports)) end is_a to_b

@@ -28,11 +28,13 @@ module _ {A B : Type 0} where
 named : ℕ × Entry → NamedEntry
 named e = record { name = e.0; entry = e.1 }
 
-names_same : (names : Names) → word (length (names_of names)) ++ flat_map named_encoding (names_of names) ≡ names_encoding names
+names_same : (names : Names) → word (length (names_of names)) ++ flat_map named_encoding (names_of names)
+    ≡ names_encoding names
 unfolding named
 names_same names = λ i.
     word ((length-map named (finmap.entries names) ∙ sym (len-entries names)) i)
-    ++ encodings_of named named_encoding (λ (e : ℕ × Entry). word e.0 ++ entry_encoding e.1) (λ e. refl) (finmap.entries names) i
+    ++ encodings_of named named_encoding (λ (e : ℕ × Entry). word e.0 ++ entry_encoding e.1)
+    (λ e. refl) (finmap.entries names) i
 
 space_row : ℕ × Names → Space
 space_row e = record { number = e.0; names = names_of e.1 }
@@ -45,6 +47,8 @@ unfolding snapshot_encoding snapshot_of image_encoding space_row port_row
 image_of_state state = λ i.
     long_word state.next
     ++ (word ((length-map space_row (finmap.entries state.spaces) ∙ sym (len-entries state.spaces)) i)
-    ++ (encodings_of space_row space_encoding (λ (e : ℕ × Names). word e.0 ++ names_encoding e.1) (λ (e : ℕ × Names). ap (λ (l : List ℕ). word e.0 ++ l) (names_same e.1)) (finmap.entries state.spaces) i
+    ++ (encodings_of space_row space_encoding (λ (e : ℕ × Names). word e.0 ++ names_encoding e.1)
+    (λ (e : ℕ × Names). ap (λ (l : List ℕ). word e.0 ++ l) (names_same e.1)) (finmap.entries state.spaces) i
     ++ (word ((length-map port_row (finmap.entries state.ports) ∙ sym (len-entries state.ports)) i)
-    ++ encodings_of port_row live_port_encoding (λ (e : ℕ × PortState). long_word e.0 ++ port_encoding e.1) (λ e. refl) (finmap.entries state.ports) i)))
+    ++ encodings_of port_row live_port_encoding (λ (e : ℕ × PortState). long_word e.0 ++ port_encoding e.1)
+    (λ e. refl) (finmap.entries state.ports) i)))

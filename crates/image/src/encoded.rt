@@ -32,7 +32,8 @@ pub(crate) fn take_rows<T: Encoded>(
 ) -> Result<Option<(Sequence<T>, &[u8])>, AllocError>
     ensures found { IfOk result (λ found. IfSome found (λ r. (bytes.now ≡ flat_map T.encoding r.0 ++ r.1.now)
         × (length r.0 ≡ count) × All T.fits r.0)) }
-    ensures only { (rows : List T) (rest : List ℕ) → All T.fits rows → length rows ≡ count → bytes.now ≡ flat_map T.encoding rows ++ rest
+    ensures only { (rows : List T) (rest : List ℕ) → All T.fits rows → length rows ≡ count
+        → bytes.now ≡ flat_map T.encoding rows ++ rest
         → IfOk result (λ found. IsSomeAnd found (λ r. (r.0 ≡ rows) × (r.1.now ≡ rest))) }
 {
     let mut rows = Vec::new(alloc);

@@ -46,7 +46,8 @@ pub(crate) fn push_byte(out: &mut Vec<u8>, byte: u8) -> Result<(), AllocError>
 /// The byte that stands in front, and the bytes after it.
 pub(crate) fn take_byte(bytes: &[u8]) -> Option<(u8, &[u8])>
     ensures found { IfSome result (λ r. bytes.now ≡ r.0 ∷ r.1.now) }
-    ensures only { (byte : ℕ) (rest : List ℕ) → bytes.now ≡ byte ∷ rest → IsSomeAnd result (λ r. (r.0 ≡ byte) × (r.1.now ≡ rest)) }
+    ensures only { (byte : ℕ) (rest : List ℕ) → bytes.now ≡ byte ∷ rest
+        → IsSomeAnd result (λ r. (r.0 ≡ byte) × (r.1.now ≡ rest)) }
 {
     let (byte, rest) = bytes.split_first()?;
     Some((*byte, rest))
@@ -75,9 +76,11 @@ pub(crate) fn byte_of(flag: bool) -> u8
 /// The port, whether its receive right is held, the references of its send right, and the request's target, and the
 /// bytes after them.
 fn take_held(bytes: &[u8]) -> Option<(u64, bool, u32, u64, &[u8])>
-    ensures found { IfSome result (λ r. bytes.now ≡ long_word r.0 ++ (number_of_bool r.1 ∷ (word r.2 ++ (long_word r.3 ++ r.4.now)))) }
+    ensures found { IfSome result (λ r. bytes.now ≡ long_word r.0
+        ++ (number_of_bool r.1 ∷ (word r.2 ++ (long_word r.3 ++ r.4.now)))) }
     ensures fits { IfSome result (λ r. (r.0 < 2 ^ 64) × (r.2 < 2 ^ 32) × (r.3 < 2 ^ 64)) }
-    ensures only { (port : ℕ) (receive : Bool) (send target : ℕ) (rest : List ℕ) → port < 2 ^ 64 → send < 2 ^ 32 → target < 2 ^ 64
+    ensures only { (port : ℕ) (receive : Bool) (send target : ℕ) (rest : List ℕ) → port < 2 ^ 64 → send < 2 ^ 32
+        → target < 2 ^ 64
         → bytes.now ≡ long_word port ++ (number_of_bool receive ∷ (word send ++ (long_word target ++ rest)))
         → IsSomeAnd result (λ r. (r.0 ≡ port) × (r.1 ≡ receive) × (r.2 ≡ send) × (r.3 ≡ target) × (r.4.now ≡ rest)) }
 {
@@ -91,7 +94,8 @@ fn take_held(bytes: &[u8]) -> Option<(u64, bool, u32, u64, &[u8])>
 /// The rights to a port, after the byte that announces them.
 fn take_rights(bytes: &[u8]) -> Option<(Entry, &[u8])>
     ensures found { IfSome result (λ r. (1 ∷ bytes.now ≡ entry_encoding r.0 ++ r.1.now) × EncodableEntry r.0) }
-    ensures only { (rights : PortRights) (rest : List ℕ) → EncodableEntry (entry_variants.Port rights) → 1 ∷ bytes.now ≡ entry_encoding (entry_variants.Port rights) ++ rest
+    ensures only { (rights : PortRights) (rest : List ℕ) → EncodableEntry (entry_variants.Port rights)
+        → 1 ∷ bytes.now ≡ entry_encoding (entry_variants.Port rights) ++ rest
         → IsSomeAnd result (λ r. (r.0 ≡ entry_variants.Port rights) × (r.1.now ≡ rest)) }
 {
     let (port, receive, send, target, rest) = take_held(bytes)?;
@@ -108,7 +112,8 @@ fn take_rights(bytes: &[u8]) -> Option<(Entry, &[u8])>
 pub(crate) fn take_serials(bytes: &[u8]) -> Option<(u64, u64, &[u8])>
     ensures found { IfSome result (λ r. bytes.now ≡ long_word r.0 ++ (long_word r.1 ++ r.2.now)) }
     ensures fits { IfSome result (λ r. (r.0 < 2 ^ 64) × (r.1 < 2 ^ 64)) }
-    ensures only { (first second : ℕ) (rest : List ℕ) → first < 2 ^ 64 → second < 2 ^ 64 → bytes.now ≡ long_word first ++ (long_word second ++ rest)
+    ensures only { (first second : ℕ) (rest : List ℕ) → first < 2 ^ 64 → second < 2 ^ 64
+        → bytes.now ≡ long_word first ++ (long_word second ++ rest)
         → IsSomeAnd result (λ r. (r.0 ≡ first) × (r.1 ≡ second) × (r.2.now ≡ rest)) }
 {
     let (first, rest) = take_long_word(bytes)?;

@@ -15,9 +15,11 @@ use words::{push_long_word, take_long_word, take_word};
 
 /// The spaces in front, after their number, and the bytes after them.
 fn take_spaces(alloc: Global, bytes: &[u8]) -> Result<Option<(Sequence<Space>, &[u8])>, AllocError>
-    ensures found { IfOk result (λ found. IfSome found (λ r. (bytes.now ≡ word (length r.0) ++ (flat_map space_encoding r.0 ++ r.1.now))
+    ensures found { IfOk result (λ found. IfSome found
+        (λ r. (bytes.now ≡ word (length r.0) ++ (flat_map space_encoding r.0 ++ r.1.now))
         × (length r.0 < 2 ^ 32) × All FitsSpace r.0 × AscendsFrom 0 (map number_of r.0))) }
-    ensures only { (spaces : List Space) (rest : List ℕ) → length spaces < 2 ^ 32 → All FitsSpace spaces → AscendsFrom 0 (map number_of spaces)
+    ensures only { (spaces : List Space) (rest : List ℕ) → length spaces < 2 ^ 32 → All FitsSpace spaces
+        → AscendsFrom 0 (map number_of spaces)
         → bytes.now ≡ word (length spaces) ++ (flat_map space_encoding spaces ++ rest)
         → IfOk result (λ found. IsSomeAnd found (λ r. (r.0 ≡ spaces) × (r.1.now ≡ rest))) }
 {
@@ -39,9 +41,11 @@ fn take_ports(
     alloc: Global,
     bytes: &[u8],
 ) -> Result<Option<(Sequence<LivePort>, &[u8])>, AllocError>
-    ensures found { IfOk result (λ found. IfSome found (λ r. (bytes.now ≡ word (length r.0) ++ (flat_map live_port_encoding r.0 ++ r.1.now))
+    ensures found { IfOk result (λ found. IfSome found
+        (λ r. (bytes.now ≡ word (length r.0) ++ (flat_map live_port_encoding r.0 ++ r.1.now))
         × (length r.0 < 2 ^ 32) × All FitsLivePort r.0 × AscendsFrom 0 (map serial_of r.0))) }
-    ensures only { (ports : List LivePort) (rest : List ℕ) → length ports < 2 ^ 32 → All FitsLivePort ports → AscendsFrom 0 (map serial_of ports)
+    ensures only { (ports : List LivePort) (rest : List ℕ) → length ports < 2 ^ 32 → All FitsLivePort ports
+        → AscendsFrom 0 (map serial_of ports)
         → bytes.now ≡ word (length ports) ++ (flat_map live_port_encoding ports ++ rest)
         → IfOk result (λ found. IsSomeAnd found (λ r. (r.0 ≡ ports) × (r.1.now ≡ rest))) }
 {
@@ -67,7 +71,8 @@ fn is_end(rest: &[u8]) -> bool
 
 /// The snapshot that these bytes encode.
 fn read_snapshot(alloc: Global, bytes: &[u8]) -> Result<Option<Snapshot>, AllocError>
-    ensures found { IfOk result (λ found. IfSome found (λ snapshot. (bytes.now ≡ snapshot_encoding snapshot) × FitsImage snapshot)) }
+    ensures found { IfOk result (λ found. IfSome found
+        (λ snapshot. (bytes.now ≡ snapshot_encoding snapshot) × FitsImage snapshot)) }
     ensures only { (snapshot : Snapshot) → FitsImage snapshot → bytes.now ≡ snapshot_encoding snapshot
         → IfOk result (λ found. IsSomeAnd found (λ read. read ≡ snapshot)) }
 {
@@ -95,8 +100,10 @@ fn read_snapshot(alloc: Global, bytes: &[u8]) -> Result<Option<Snapshot>, AllocE
 /// `NotCanonical`: they encode none. `NoMemory`: an allocation failed.
 pub fn read(alloc: Global, bytes: &[u8]) -> Result<Snapshot, ImageFault>
     ensures found { IfOk result (λ snapshot. (bytes.now ≡ snapshot_encoding snapshot) × FitsImage snapshot) }
-    ensures only { (snapshot : Snapshot) → FitsImage snapshot → bytes.now ≡ snapshot_encoding snapshot → IfOk result (λ read. read ≡ snapshot) }
-    ensures none { IsErrOf result ImageFault.NotCanonical → (snapshot : Snapshot) → FitsImage snapshot → bytes.now ≡ snapshot_encoding snapshot → ⊥ }
+    ensures only { (snapshot : Snapshot) → FitsImage snapshot → bytes.now ≡ snapshot_encoding snapshot
+        → IfOk result (λ read. read ≡ snapshot) }
+    ensures none { IsErrOf result ImageFault.NotCanonical → (snapshot : Snapshot) → FitsImage snapshot
+        → bytes.now ≡ snapshot_encoding snapshot → ⊥ }
 {
     match read_snapshot(alloc, bytes)? {
         Some(snapshot) => Ok(snapshot),

@@ -37,7 +37,8 @@ fn byte_of_kind(kind: RightKind) -> u8
 /// What stands in a port's place in a message, and the bytes after it.
 fn take_place(bytes: &[u8]) -> Option<(PortInMessage, &[u8])>
     ensures found { IfSome result (λ r. (bytes.now ≡ place_encoding r.0 ++ r.1.now) × EncodablePlace r.0) }
-    ensures only { (place : PortInMessage) (rest : List ℕ) → EncodablePlace place → bytes.now ≡ place_encoding place ++ rest
+    ensures only { (place : PortInMessage) (rest : List ℕ) → EncodablePlace place
+        → bytes.now ≡ place_encoding place ++ rest
         → IsSomeAnd result (λ r. (r.0 ≡ place) × (r.1.now ≡ rest)) }
 {
     let (what, rest) = take_byte(bytes)?;
@@ -49,7 +50,8 @@ fn take_place(bytes: &[u8]) -> Option<(PortInMessage, &[u8])>
 /// What a byte and a serial stand for.
 fn place_of(what: u8, serial: u64) -> Option<PortInMessage>
     ensures found { IfSome result (λ place. (what ∷ long_word serial ≡ place_encoding place) × EncodablePlace place) }
-    ensures only { (place : PortInMessage) → EncodablePlace place → what ∷ long_word serial ≡ place_encoding place → IsSomeAnd result (λ found. found ≡ place) }
+    ensures only { (place : PortInMessage) → EncodablePlace place → what ∷ long_word serial ≡ place_encoding place
+        → IsSomeAnd result (λ found. found ≡ place) }
 {
     match (what, serial) {
         (0, 0) => Some(PortInMessage::Null),
@@ -79,7 +81,8 @@ fn push_place(out: &mut Vec<u8>, place: PortInMessage) -> Result<(), AllocError>
 /// A right, and the bytes after it.
 fn take_right(bytes: &[u8]) -> Option<(CarriedRight, &[u8])>
     ensures found { IfSome result (λ r. (bytes.now ≡ carried_encoding r.0 ++ r.1.now) × EncodableRight r.0) }
-    ensures only { (right : CarriedRight) (rest : List ℕ) → EncodableRight right → bytes.now ≡ carried_encoding right ++ rest
+    ensures only { (right : CarriedRight) (rest : List ℕ) → EncodableRight right
+        → bytes.now ≡ carried_encoding right ++ rest
         → IsSomeAnd result (λ r. (r.0 ≡ right) × (r.1.now ≡ rest)) }
 {
     let (kind, rest) = take_kind(bytes)?;
@@ -126,7 +129,8 @@ fn after_no_reply(bytes: &[u8]) -> Option<&[u8]>
 /// The right for the reply, or that there is none, and the bytes after it.
 fn take_reply(bytes: &[u8]) -> Option<(Option<CarriedRight>, &[u8])>
     ensures found { IfSome result (λ r. (bytes.now ≡ reply_right_encoding r.0 ++ r.1.now) × EncodableReplyRight r.0) }
-    ensures only { (reply : Option CarriedRight) (rest : List ℕ) → EncodableReplyRight reply → bytes.now ≡ reply_right_encoding reply ++ rest
+    ensures only { (reply : Option CarriedRight) (rest : List ℕ) → EncodableReplyRight reply
+        → bytes.now ≡ reply_right_encoding reply ++ rest
         → IsSomeAnd result (λ r. (r.0 ≡ reply) × (r.1.now ≡ rest)) }
 {
     if let Some(behind) = after_no_reply(bytes) {
@@ -174,11 +178,15 @@ fn take_size(bytes: &[u8]) -> Option<(u32, &[u8])>
 fn take_head(bytes: &[u8]) -> Option<(Head, &[u8])>
     ensures found { IfSome result (λ r. bytes.now ≡ number_of_kind r.0.destination ∷ (reply_right_encoding r.0.reply
         ++ (word r.0.id ++ (word r.0.size ++ (number_of_bool r.0.complex ∷ r.1.now))))) }
-    ensures fits { IfSome result (λ r. (r.0.destination ≢ kind_variants.Receive) × EncodableReplyRight r.0.reply × (r.0.id < 2 ^ 32) × IsMessageSize r.0.size) }
-    ensures only { (destination : RightKind) (reply : Option CarriedRight) (id size : ℕ) (complex : Bool) (rest : List ℕ)
+    ensures fits { IfSome result (λ r. (r.0.destination ≢ kind_variants.Receive) × EncodableReplyRight r.0.reply
+        × (r.0.id < 2 ^ 32) × IsMessageSize r.0.size) }
+    ensures only { (destination : RightKind) (reply : Option CarriedRight) (id size : ℕ) (complex : Bool)
+        (rest : List ℕ)
         → destination ≢ kind_variants.Receive → EncodableReplyRight reply → id < 2 ^ 32 → IsMessageSize size
-        → bytes.now ≡ number_of_kind destination ∷ (reply_right_encoding reply ++ (word id ++ (word size ++ (number_of_bool complex ∷ rest))))
-        → IsSomeAnd result (λ r. (r.0.destination ≡ destination) × (r.0.reply ≡ reply) × (r.0.id ≡ id) × (r.0.size ≡ size) × (r.0.complex ≡ complex) × (r.1.now ≡ rest)) }
+        → bytes.now ≡ number_of_kind destination ∷
+        (reply_right_encoding reply ++ (word id ++ (word size ++ (number_of_bool complex ∷ rest))))
+        → IsSomeAnd result (λ r. (r.0.destination ≡ destination) × (r.0.reply ≡ reply) × (r.0.id ≡ id)
+        × (r.0.size ≡ size) × (r.0.complex ≡ complex) × (r.1.now ≡ rest)) }
 {
     let (destination, rest) = take_kind(bytes)?;
     if destination == RightKind::Receive {
@@ -204,7 +212,8 @@ fn take_body(
     size: u32,
     bytes: &[u8],
 ) -> Result<Option<(Sequence<u8>, &[u8])>, AllocError>
-    ensures found { IfOk result (λ found. IfSome found (λ r. (bytes.now ≡ r.0 ++ r.1.now) × (size ≡ 24 + length r.0) × AreBytes r.0)) }
+    ensures found { IfOk result (λ found. IfSome found
+        (λ r. (bytes.now ≡ r.0 ++ r.1.now) × (size ≡ 24 + length r.0) × AreBytes r.0)) }
     ensures only { (body rest : List ℕ) → size ≡ 24 + length body → bytes.now ≡ body ++ rest
         → IfOk result (λ found. IsSomeAnd found (λ r. (r.0 ≡ body) × (r.1.now ≡ rest))) }
 {

@@ -40,7 +40,8 @@ fn take_numbers(bytes: &[u8]) -> Option<(u32, u32, u32, u32, &[u8])>
     ensures only { (limit sequence_number make_send_count set : ℕ) (rest : List ℕ)
         → limit < 2 ^ 32 → sequence_number < 2 ^ 32 → make_send_count < 2 ^ 32 → set < 2 ^ 32
         → bytes.now ≡ word limit ++ (word sequence_number ++ (word make_send_count ++ (word set ++ rest)))
-        → IsSomeAnd result (λ r. (r.0 ≡ limit) × (r.1 ≡ sequence_number) × (r.2 ≡ make_send_count) × (r.3 ≡ set) × (r.4.now ≡ rest)) }
+        → IsSomeAnd result (λ r. (r.0 ≡ limit) × (r.1 ≡ sequence_number) × (r.2 ≡ make_send_count) × (r.3 ≡ set)
+        × (r.4.now ≡ rest)) }
 {
     let (limit, rest) = take_word(bytes)?;
     let (sequence_number, rest) = take_word(rest)?;
@@ -54,7 +55,8 @@ fn take_messages(
     alloc: Global,
     bytes: &[u8],
 ) -> Result<Option<(Sequence<Message>, &[u8])>, AllocError>
-    ensures found { IfOk result (λ found. IfSome found (λ r. (bytes.now ≡ word (length r.0) ++ (flat_map message_image r.0 ++ r.1.now))
+    ensures found { IfOk result (λ found. IfSome found
+        (λ r. (bytes.now ≡ word (length r.0) ++ (flat_map message_image r.0 ++ r.1.now))
         × (length r.0 < 2 ^ 32) × All FitsMessage r.0)) }
     ensures only { (messages : List Message) (rest : List ℕ) → length messages < 2 ^ 32 → All FitsMessage messages
         → bytes.now ≡ word (length messages) ++ (flat_map message_image messages ++ rest)
@@ -68,7 +70,8 @@ fn take_messages(
 
 /// What a port has, and the bytes after it.
 fn take_port(alloc: Global, bytes: &[u8]) -> Result<Option<(PortState, &[u8])>, AllocError>
-    ensures found { IfOk result (λ found. IfSome found (λ r. (bytes.now ≡ port_encoding r.0 ++ r.1.now) × FitsPort r.0)) }
+    ensures found { IfOk result (λ found. IfSome found
+        (λ r. (bytes.now ≡ port_encoding r.0 ++ r.1.now) × FitsPort r.0)) }
     ensures only { (port : PortState) (rest : List ℕ) → FitsPort port → bytes.now ≡ port_encoding port ++ rest
         → IfOk result (λ found. IsSomeAnd found (λ r. (r.0 ≡ port) × (r.1.now ≡ rest))) }
 {

@@ -30,7 +30,8 @@ store_in copied.Busy = fault.Damaged
 store_in copied.Exists = fault.Damaged
 store_in copied.Write = fault.Damaged
 
-store_of_list : (fault : ListFault) (reported : StoreFault) → of_list fault ≡ copied.Store reported → fault ≡ list.Store reported
+store_of_list : (fault : ListFault) (reported : StoreFault) → of_list fault ≡ copied.Store reported
+    → fault ≡ list.Store reported
 store_of_list (list.Store f) reported is = ap (λ (k : StoreFault). list.Store k) (ap store_in is)
 store_of_list list.Busy reported is = absurd (cc is)
 store_of_list list.Write reported is = absurd (cc is)
@@ -39,10 +40,14 @@ abbrev error_in : Result (Unit {0}) CopyStoreFault → CopyStoreFault
 error_in (Ok done) = copied.Busy
 error_in (Err fault) = fault
 
-pub told_of_list : (fault : ListFault) (reported : StoreFault) (given : CopyStoreFault) (result : Result (Unit {0}) CopyStoreFault) → result ≡ Err given → given ≡ of_list fault → result ≡ Err (copied.Store reported) → fault ≡ list.Store reported
-told_of_list fault reported given result is of same = store_of_list fault reported (sym of ∙ ap error_in (sym is ∙ same))
+pub told_of_list : (fault : ListFault) (reported : StoreFault) (given : CopyStoreFault)
+    (result : Result (Unit {0}) CopyStoreFault) → result ≡ Err given → given ≡ of_list fault
+    → result ≡ Err (copied.Store reported) → fault ≡ list.Store reported
+told_of_list fault reported given result is of same =
+    store_of_list fault reported (sym of ∙ ap error_in (sym is ∙ same))
 
-copy_recovers : (state : State) → HoldsImage 0 (open_image 0 (image_encoding state)) state → Recovered (as_written (store_of (unwritten 0 (image_encoding state)))) state
+copy_recovers : (state : State) → HoldsImage 0 (open_image 0 (image_encoding state)) state
+    → Recovered (as_written (store_of (unwritten 0 (image_encoding state)))) state
 copy_recovers state holds =
     let slots : Slots = store_of (unwritten 0 (image_encoding state)) in
     let one : InOne slots 0 state [] = record {
@@ -54,7 +59,8 @@ copy_recovers state holds =
     } in
     record { base = state; records = []; encoded = one_encodes slots 0 state [] one; run = refl }
 
-pub is_copy : (honest : Type 0) (slots : Slots) (look : Looked) (image : ImageValue) (new : View) → honest → IsLook honest slots look → IsImageOfRows look.snapshot image → new.seen ≡ store_of image → IsAtRest new
+pub is_copy : (honest : Type 0) (slots : Slots) (look : Looked) (image : ImageValue) (new : View) → honest
+    → IsLook honest slots look → IsImageOfRows look.snapshot image → new.seen ≡ store_of image → IsAtRest new
     → IsCopyOf slots new
 is_copy honest slots look image new given looked imaged made rest =
     let same : imaged.state ≡ looked.state = one_state imaged.state looked.state (sym imaged.same ∙ looked.rows) in
@@ -63,6 +69,9 @@ is_copy honest slots look image new given looked imaged made rest =
       epoch = look.epoch;
       records = look.records;
       reads = looked.reads given;
-      recovered = subst (λ s. Recovered (as_written new.seen) s) same (subst (λ (s : Slots). Recovered (as_written s) imaged.state) (sym (made ∙ ap store_of imaged.is)) (copy_recovers imaged.state imaged.holds));
+      recovered =
+          subst (λ s. Recovered (as_written new.seen) s) same
+          (subst (λ (s : Slots). Recovered (as_written s) imaged.state) (sym (made ∙ ap store_of imaged.is))
+          (copy_recovers imaged.state imaged.holds));
       at_rest = rest;
     }

@@ -28,4 +28,6 @@ pub record IsSketch (honest : Type 0) (slots : Slots) (text : List ℕ) : Type 0
 
 -- why a store can't be read, as a look at a copy of it shows
 abbrev pub IsOfLook : ListFault → Type 0
-IsOfLook fault = (fault ≡ Store Device) ⊎ ((fault ≡ Store Damaged) ⊎ ((fault ≡ Store NoMemory) ⊎ ((fault ≡ Store Version) ⊎ (fault ≡ Busy))))
+IsOfLook fault =
+    (fault ≡ Store Device) ⊎ ((fault ≡ Store Damaged)
+    ⊎ ((fault ≡ Store NoMemory) ⊎ ((fault ≡ Store Version) ⊎ (fault ≡ Busy))))

@@ -44,6 +44,7 @@ IsSomeDrawing text = (state : State) × (text ≡ drawing state)
 abbrev pub Prints : (List ℕ → Type 0) → Option ℕ → Option (List ℕ) → Option (List ℕ) → ShowEnd → Type 0
 Prints IsEncoding words old new CommandLine = (words ≢ Some 1) × Keeps old new
 Prints IsEncoding words old new Shown = (words ≡ Some 1) × ((text : List ℕ) × IsEncoding text × Appends old new text)
-Prints IsEncoding words old new (Fault Write) = (words ≡ Some 1) × ((text : List ℕ) × IsEncoding text × AppendsPart old new text)
+Prints IsEncoding words old new (Fault Write) =
+    (words ≡ Some 1) × ((text : List ℕ) × IsEncoding text × AppendsPart old new text)
 Prints IsEncoding words old new (Fault Busy) = (words ≡ Some 1) × Keeps old new
 Prints IsEncoding words old new (Fault (Store fault)) = (words ≡ Some 1) × Keeps old new

@@ -80,7 +80,8 @@ pub fn copy_store<F: Files, E: Write>(
     words: Option<&[String]>,
     errors: &mut E,
 ) -> u8
-    ensures ended { (end : CopyEnd) × (result ≡ copy_status_of end) × AppendsPart (E.contents errors.old) (E.contents errors.new) (copy_line_of end)
+    ensures ended { (end : CopyEnd) × (result ≡ copy_status_of end)
+        × AppendsPart (E.contents errors.old) (E.contents errors.new) (copy_line_of end)
         × EndsForWords (option_map (λ texts. length texts.now) words.entry) end }
 {
     let end = run_copy(alloc, files, words);

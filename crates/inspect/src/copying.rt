@@ -93,7 +93,8 @@ fn sync_all<E: Disk>(to: &mut E) -> Result<(), DiskFault>
 /// Writes a segment without a record and an image, and syncs the four slots.
 fn write_store<E: Disk>(to: &mut E, image: &Image) -> Result<(), DiskFault>
     requires { image.now.epoch ≡ 0 }
-    ensures made { E.honest → (E.view to.old).seen ≡ empty_slots → OnOk result ((E.view to.new).seen ≡ store_of image.now) }
+    ensures made { E.honest → (E.view to.old).seen ≡ empty_slots
+        → OnOk result ((E.view to.new).seen ≡ store_of image.now) }
     ensures rest { E.honest → OnOk result (IsAtRest (E.view to.new)) }
     ensures failures { CountsFailure (E.failed_calls to.old) (E.failed_calls to.new) result }
 {
@@ -108,15 +109,21 @@ fn write_store<E: Disk>(to: &mut E, image: &Image) -> Result<(), DiskFault>
 /// `Store`: the store can't be read (`Device`, `Damaged`, `Version`), or an allocation failed (`NoMemory`). `Busy`: the
 /// store was changed during each try to read it. With these, nothing was written. `Write`: the disk of the copy failed.
 pub fn copy<D: Disk, E: Disk>(alloc: Global, from: &mut D, to: &mut E) -> Result<(), CopyStoreFault>
-    ensures copied { D.honest → E.honest → (E.view to.old).seen ≡ empty_slots → OnOk result (IsCopyOf (D.view from.old).seen (E.view to.new)) }
+    ensures copied { D.honest → E.honest → (E.view to.old).seen ≡ empty_slots
+        → OnOk result (IsCopyOf (D.view from.old).seen (E.view to.new)) }
     ensures seen { D.honest → (D.view from.new).seen ≡ (D.view from.old).seen }
-    ensures version { D.honest → IsErrOf result (CopyStoreFault.Store StoreFault.Version) → IsOtherVersion (as_written (D.view from.old).seen) }
-    ensures damaged { D.honest → IsErrOf result (CopyStoreFault.Store StoreFault.Damaged) → IsDamaged (as_written (D.view from.old).seen) }
+    ensures version { D.honest → IsErrOf result (CopyStoreFault.Store StoreFault.Version)
+        → IsOtherVersion (as_written (D.view from.old).seen) }
+    ensures damaged { D.honest → IsErrOf result (CopyStoreFault.Store StoreFault.Damaged)
+        → IsDamaged (as_written (D.view from.old).seen) }
     ensures still { D.honest → IsErrOf result CopyStoreFault.Busy → ⊥ }
     ensures faults { IfErr result IsOfCopy }
-    ensures device { IsErrOf result (CopyStoreFault.Store StoreFault.Device) → D.failed_calls from.new ≡ one_more (D.failed_calls from.old) }
-    ensures quiet { OnOk result ((D.failed_calls from.new ≡ D.failed_calls from.old) × (E.failed_calls to.new ≡ E.failed_calls to.old)) }
-    ensures write { IsErrOf result CopyStoreFault.Write → (D.failed_calls from.new ≡ D.failed_calls from.old) × (E.failed_calls to.new ≡ one_more (E.failed_calls to.old)) }
+    ensures device { IsErrOf result (CopyStoreFault.Store StoreFault.Device)
+        → D.failed_calls from.new ≡ one_more (D.failed_calls from.old) }
+    ensures quiet { OnOk result ((D.failed_calls from.new ≡ D.failed_calls from.old)
+        × (E.failed_calls to.new ≡ E.failed_calls to.old)) }
+    ensures write { IsErrOf result CopyStoreFault.Write → (D.failed_calls from.new ≡ D.failed_calls from.old)
+        × (E.failed_calls to.new ≡ one_more (E.failed_calls to.old)) }
     ensures unwritten { IfErr result (λ fault. fault ≢ CopyStoreFault.Write → to.new ≡ to.old) }
 {
     let look = look_still(alloc, from)?;

@@ -43,11 +43,14 @@ fn look_at_copy(alloc: Global, copy: StillDisk) -> Result<Looked, StoreFault>
 pub(crate) fn look_still<D: Disk>(alloc: Global, disk: &mut D) -> Result<Looked, ListFault>
     ensures state { IfOk result (IsLook D.honest (D.view disk.old).seen) }
     ensures seen { D.honest → (D.view disk.new).seen ≡ (D.view disk.old).seen }
-    ensures version { D.honest → IsErrOf result (ListFault.Store StoreFault.Version) → IsOtherVersion (as_written (D.view disk.old).seen) }
-    ensures damaged { D.honest → IsErrOf result (ListFault.Store StoreFault.Damaged) → IsDamaged (as_written (D.view disk.old).seen) }
+    ensures version { D.honest → IsErrOf result (ListFault.Store StoreFault.Version)
+        → IsOtherVersion (as_written (D.view disk.old).seen) }
+    ensures damaged { D.honest → IsErrOf result (ListFault.Store StoreFault.Damaged)
+        → IsDamaged (as_written (D.view disk.old).seen) }
     ensures faults { IfErr result IsOfLook }
     ensures quiet { OnOk result (D.failed_calls disk.new ≡ D.failed_calls disk.old) }
-    ensures device { IsErrOf result (ListFault.Store StoreFault.Device) → D.failed_calls disk.new ≡ one_more (D.failed_calls disk.old) }
+    ensures device { IsErrOf result (ListFault.Store StoreFault.Device)
+        → D.failed_calls disk.new ≡ one_more (D.failed_calls disk.old) }
     ensures still { D.honest → IsErrOf result ListFault.Busy → ⊥ }
     ensures err { IfErr result (λ fault. fault ≢ ListFault.Write) }
 {

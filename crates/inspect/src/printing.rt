@@ -23,17 +23,23 @@ use wire::write_bytes;
 /// nothing was written. `Busy`: no copy of it could be made (`still_disk::still_copy`), and nothing was written.
 /// `Write`: the writer failed, and some first bytes of the lines may have been written.
 pub fn list<D: Disk, W: Write>(alloc: Global, disk: &mut D, writer: &mut W) -> Result<(), ListFault>
-    ensures ok { OnOk result ((text : List ℕ) × IsListing D.honest (D.view disk.old).seen text × Appends (W.contents writer.old) (W.contents writer.new) text) }
-    ensures part { IsErrOf result ListFault.Write → (text : List ℕ) × IsListing D.honest (D.view disk.old).seen text × AppendsPart (W.contents writer.old) (W.contents writer.new) text }
-    ensures unwritten { IfErr result (λ fault. fault ≢ ListFault.Write → Keeps (W.contents writer.old) (W.contents writer.new)) }
+    ensures ok { OnOk result ((text : List ℕ) × IsListing D.honest (D.view disk.old).seen text
+        × Appends (W.contents writer.old) (W.contents writer.new) text) }
+    ensures part { IsErrOf result ListFault.Write → (text : List ℕ) × IsListing D.honest (D.view disk.old).seen text
+        × AppendsPart (W.contents writer.old) (W.contents writer.new) text }
+    ensures unwritten { IfErr result
+        (λ fault. fault ≢ ListFault.Write → Keeps (W.contents writer.old) (W.contents writer.new)) }
     ensures seen { D.honest → (D.view disk.new).seen ≡ (D.view disk.old).seen }
-    ensures version { D.honest → IsErrOf result (ListFault.Store StoreFault.Version) → IsOtherVersion (as_written (D.view disk.old).seen) }
-    ensures damaged { D.honest → IsErrOf result (ListFault.Store StoreFault.Damaged) → IsDamaged (as_written (D.view disk.old).seen) }
+    ensures version { D.honest → IsErrOf result (ListFault.Store StoreFault.Version)
+        → IsOtherVersion (as_written (D.view disk.old).seen) }
+    ensures damaged { D.honest → IsErrOf result (ListFault.Store StoreFault.Damaged)
+        → IsDamaged (as_written (D.view disk.old).seen) }
     ensures faults { IfErr result (λ fault. IsOfLook fault ⊎ (fault ≡ ListFault.Write)) }
     ensures quiet { OnOk result (D.failed_calls disk.new ≡ D.failed_calls disk.old) }
     ensures still { D.honest → IsErrOf result ListFault.Busy → ⊥ }
     ensures reported { IsErrOf result ListFault.Write → D.failed_calls disk.new ≡ D.failed_calls disk.old }
-    ensures device { IsErrOf result (ListFault.Store StoreFault.Device) → D.failed_calls disk.new ≡ one_more (D.failed_calls disk.old) }
+    ensures device { IsErrOf result (ListFault.Store StoreFault.Device)
+        → D.failed_calls disk.new ≡ one_more (D.failed_calls disk.old) }
 {
     let text = lines_of(alloc, disk)?;
     send(writer, &text)
@@ -46,17 +52,23 @@ pub fn sketch<D: Disk, W: Write>(
     disk: &mut D,
     writer: &mut W,
 ) -> Result<(), ListFault>
-    ensures ok { OnOk result ((text : List ℕ) × IsSketch D.honest (D.view disk.old).seen text × Appends (W.contents writer.old) (W.contents writer.new) text) }
-    ensures part { IsErrOf result ListFault.Write → (text : List ℕ) × IsSketch D.honest (D.view disk.old).seen text × AppendsPart (W.contents writer.old) (W.contents writer.new) text }
-    ensures unwritten { IfErr result (λ fault. fault ≢ ListFault.Write → Keeps (W.contents writer.old) (W.contents writer.new)) }
+    ensures ok { OnOk result ((text : List ℕ) × IsSketch D.honest (D.view disk.old).seen text
+        × Appends (W.contents writer.old) (W.contents writer.new) text) }
+    ensures part { IsErrOf result ListFault.Write → (text : List ℕ) × IsSketch D.honest (D.view disk.old).seen text
+        × AppendsPart (W.contents writer.old) (W.contents writer.new) text }
+    ensures unwritten { IfErr result
+        (λ fault. fault ≢ ListFault.Write → Keeps (W.contents writer.old) (W.contents writer.new)) }
     ensures seen { D.honest → (D.view disk.new).seen ≡ (D.view disk.old).seen }
-    ensures version { D.honest → IsErrOf result (ListFault.Store StoreFault.Version) → IsOtherVersion (as_written (D.view disk.old).seen) }
-    ensures damaged { D.honest → IsErrOf result (ListFault.Store StoreFault.Damaged) → IsDamaged (as_written (D.view disk.old).seen) }
+    ensures version { D.honest → IsErrOf result (ListFault.Store StoreFault.Version)
+        → IsOtherVersion (as_written (D.view disk.old).seen) }
+    ensures damaged { D.honest → IsErrOf result (ListFault.Store StoreFault.Damaged)
+        → IsDamaged (as_written (D.view disk.old).seen) }
     ensures faults { IfErr result (λ fault. IsOfLook fault ⊎ (fault ≡ ListFault.Write)) }
     ensures quiet { OnOk result (D.failed_calls disk.new ≡ D.failed_calls disk.old) }
     ensures still { D.honest → IsErrOf result ListFault.Busy → ⊥ }
     ensures reported { IsErrOf result ListFault.Write → D.failed_calls disk.new ≡ D.failed_calls disk.old }
-    ensures device { IsErrOf result (ListFault.Store StoreFault.Device) → D.failed_calls disk.new ≡ one_more (D.failed_calls disk.old) }
+    ensures device { IsErrOf result (ListFault.Store StoreFault.Device)
+        → D.failed_calls disk.new ≡ one_more (D.failed_calls disk.old) }
 {
     let text = sketch_of(alloc, disk)?;
     send(writer, &text)
@@ -65,11 +77,14 @@ pub fn sketch<D: Disk, W: Write>(
 fn lines_of<D: Disk>(alloc: Global, disk: &mut D) -> Result<Vec<u8>, ListFault>
     ensures text { IfOk result (λ text. IsListing D.honest (D.view disk.old).seen text.items) }
     ensures seen { D.honest → (D.view disk.new).seen ≡ (D.view disk.old).seen }
-    ensures version { D.honest → IsErrOf result (ListFault.Store StoreFault.Version) → IsOtherVersion (as_written (D.view disk.old).seen) }
-    ensures damaged { D.honest → IsErrOf result (ListFault.Store StoreFault.Damaged) → IsDamaged (as_written (D.view disk.old).seen) }
+    ensures version { D.honest → IsErrOf result (ListFault.Store StoreFault.Version)
+        → IsOtherVersion (as_written (D.view disk.old).seen) }
+    ensures damaged { D.honest → IsErrOf result (ListFault.Store StoreFault.Damaged)
+        → IsDamaged (as_written (D.view disk.old).seen) }
     ensures faults { IfErr result IsOfLook }
     ensures quiet { OnOk result (D.failed_calls disk.new ≡ D.failed_calls disk.old) }
-    ensures device { IsErrOf result (ListFault.Store StoreFault.Device) → D.failed_calls disk.new ≡ one_more (D.failed_calls disk.old) }
+    ensures device { IsErrOf result (ListFault.Store StoreFault.Device)
+        → D.failed_calls disk.new ≡ one_more (D.failed_calls disk.old) }
     ensures still { D.honest → IsErrOf result ListFault.Busy → ⊥ }
     ensures err { IfErr result (λ fault. fault ≢ ListFault.Write) }
 {
@@ -82,11 +97,14 @@ fn lines_of<D: Disk>(alloc: Global, disk: &mut D) -> Result<Vec<u8>, ListFault>
 fn sketch_of<D: Disk>(alloc: Global, disk: &mut D) -> Result<Vec<u8>, ListFault>
     ensures text { IfOk result (λ text. IsSketch D.honest (D.view disk.old).seen text.items) }
     ensures seen { D.honest → (D.view disk.new).seen ≡ (D.view disk.old).seen }
-    ensures version { D.honest → IsErrOf result (ListFault.Store StoreFault.Version) → IsOtherVersion (as_written (D.view disk.old).seen) }
-    ensures damaged { D.honest → IsErrOf result (ListFault.Store StoreFault.Damaged) → IsDamaged (as_written (D.view disk.old).seen) }
+    ensures version { D.honest → IsErrOf result (ListFault.Store StoreFault.Version)
+        → IsOtherVersion (as_written (D.view disk.old).seen) }
+    ensures damaged { D.honest → IsErrOf result (ListFault.Store StoreFault.Damaged)
+        → IsDamaged (as_written (D.view disk.old).seen) }
     ensures faults { IfErr result IsOfLook }
     ensures quiet { OnOk result (D.failed_calls disk.new ≡ D.failed_calls disk.old) }
-    ensures device { IsErrOf result (ListFault.Store StoreFault.Device) → D.failed_calls disk.new ≡ one_more (D.failed_calls disk.old) }
+    ensures device { IsErrOf result (ListFault.Store StoreFault.Device)
+        → D.failed_calls disk.new ≡ one_more (D.failed_calls disk.old) }
     ensures still { D.honest → IsErrOf result ListFault.Busy → ⊥ }
     ensures err { IfErr result (λ fault. fault ≢ ListFault.Write) }
 {

@@ -52,7 +52,8 @@ impl ShowEnd {
     /// bytes of the line may have been written.
     pub fn tell<E: Write>(self, name: &str, errors: &mut E) -> Result<(), WireFault>
         ensures ok { OnOk result (Appends (E.contents errors.old) (E.contents errors.new) (line_of name.now self)) }
-        ensures part { OnErr result (AppendsPart (E.contents errors.old) (E.contents errors.new) (line_of name.now self)) }
+        ensures part { OnErr result (AppendsPart (E.contents errors.old) (E.contents errors.new)
+            (line_of name.now self)) }
         ensures err { IfErr result (λ fault. fault ≡ WireFault.Device) }
     {
         match self {
@@ -86,7 +87,8 @@ pub fn show<F: Files, W: Write, E: Write>(
     errors: &mut E,
 ) -> u8
     ensures ended { (end : ShowEnd) × (result ≡ status_of end) × AppendsPart (E.contents errors.old) (E.contents errors.new) (line_of (codes "machls: ") end)
-        × Prints IsSomeListing (option_map (λ texts. length texts.now) words.entry) (W.contents output.old) (W.contents output.new) end }
+        × Prints IsSomeListing (option_map (λ texts. length texts.now) words.entry) (W.contents output.old)
+        (W.contents output.new) end }
 {
     let end = run_show(alloc, files, words, output);
     let _ = end.tell("machls: ", errors);
@@ -100,7 +102,8 @@ pub fn run_show<F: Files, W: Write>(
     words: Option<&[String]>,
     output: &mut W,
 ) -> ShowEnd
-    ensures ended { Prints IsSomeListing (option_map (λ texts. length texts.now) words.entry) (W.contents output.old) (W.contents output.new) result }
+    ensures ended { Prints IsSomeListing (option_map (λ texts. length texts.now) words.entry) (W.contents output.old)
+        (W.contents output.new) result }
 {
     let Some([store]) = words else {
         return ShowEnd::CommandLine;
@@ -118,9 +121,12 @@ fn list_folder<F: Files, W: Write>(
     folder: &str,
     output: &mut W,
 ) -> Result<(), ListFault>
-    ensures ok { OnOk result ((text : List ℕ) × IsSomeListing text × Appends (W.contents output.old) (W.contents output.new) text) }
-    ensures part { IsErrOf result ListFault.Write → (text : List ℕ) × IsSomeListing text × AppendsPart (W.contents output.old) (W.contents output.new) text }
-    ensures unwritten { IfErr result (λ fault. fault ≢ ListFault.Write → Keeps (W.contents output.old) (W.contents output.new)) }
+    ensures ok { OnOk result ((text : List ℕ) × IsSomeListing text
+        × Appends (W.contents output.old) (W.contents output.new) text) }
+    ensures part { IsErrOf result ListFault.Write → (text : List ℕ) × IsSomeListing text
+        × AppendsPart (W.contents output.old) (W.contents output.new) text }
+    ensures unwritten { IfErr result
+        (λ fault. fault ≢ ListFault.Write → Keeps (W.contents output.old) (W.contents output.new)) }
 {
     let Ok(mut disk) = FileDisk::at(alloc, files, folder) else {
         return Err(ListFault::Store(StoreFault::Device));
@@ -137,7 +143,8 @@ pub fn show_drawing<F: Files, W: Write, E: Write>(
     errors: &mut E,
 ) -> u8
     ensures ended { (end : ShowEnd) × (result ≡ status_of end) × AppendsPart (E.contents errors.old) (E.contents errors.new) (line_of (codes "machmap: ") end)
-        × Prints IsSomeDrawing (option_map (λ texts. length texts.now) words.entry) (W.contents output.old) (W.contents output.new) end }
+        × Prints IsSomeDrawing (option_map (λ texts. length texts.now) words.entry) (W.contents output.old)
+        (W.contents output.new) end }
 {
     let end = run_drawing(alloc, files, words, output);
     let _ = end.tell("machmap: ", errors);
@@ -151,7 +158,8 @@ pub fn run_drawing<F: Files, W: Write>(
     words: Option<&[String]>,
     output: &mut W,
 ) -> ShowEnd
-    ensures ended { Prints IsSomeDrawing (option_map (λ texts. length texts.now) words.entry) (W.contents output.old) (W.contents output.new) result }
+    ensures ended { Prints IsSomeDrawing (option_map (λ texts. length texts.now) words.entry) (W.contents output.old)
+        (W.contents output.new) result }
 {
     let Some([store]) = words else {
         return ShowEnd::CommandLine;
@@ -169,9 +177,12 @@ fn draw_folder<F: Files, W: Write>(
     folder: &str,
     output: &mut W,
 ) -> Result<(), ListFault>
-    ensures ok { OnOk result ((text : List ℕ) × IsSomeDrawing text × Appends (W.contents output.old) (W.contents output.new) text) }
-    ensures part { IsErrOf result ListFault.Write → (text : List ℕ) × IsSomeDrawing text × AppendsPart (W.contents output.old) (W.contents output.new) text }
-    ensures unwritten { IfErr result (λ fault. fault ≢ ListFault.Write → Keeps (W.contents output.old) (W.contents output.new)) }
+    ensures ok { OnOk result ((text : List ℕ) × IsSomeDrawing text
+        × Appends (W.contents output.old) (W.contents output.new) text) }
+    ensures part { IsErrOf result ListFault.Write → (text : List ℕ) × IsSomeDrawing text
+        × AppendsPart (W.contents output.old) (W.contents output.new) text }
+    ensures unwritten { IfErr result
+        (λ fault. fault ≢ ListFault.Write → Keeps (W.contents output.old) (W.contents output.new)) }
 {
     let Ok(mut disk) = FileDisk::at(alloc, files, folder) else {
         return Err(ListFault::Store(StoreFault::Device));

@@ -50,7 +50,8 @@ masked_bytes (m ∷ masks) (b ∷ bytes) are zero = let few = and_le_l b m in le
 masked_bytes (m ∷ masks) (b ∷ bytes) are (suc i) = masked_bytes masks bytes (λ k. are (suc k)) i
 
 -- a byte under its mask, also past the message's end
-at_masked : (masks bytes : List ℕ) (i : ℕ) → i < length masks → slice_index (masked masks bytes) i ≡ bit_and (slice_index bytes i) (slice_index masks i)
+at_masked : (masks bytes : List ℕ) (i : ℕ) → i < length masks
+    → slice_index (masked masks bytes) i ≡ bit_and (slice_index bytes i) (slice_index masks i)
 at_masked [] bytes i less = absurd (omega arith)
 at_masked (m ∷ masks) [] i less = let few = and_le_l 0 (slice_index (m ∷ masks) i) in omega (arith, few)
 at_masked (m ∷ masks) (b ∷ bytes) zero less = refl
@@ -59,7 +60,9 @@ at_masked (m ∷ masks) (b ∷ bytes) (suc i) less = at_masked masks bytes i (om
 at_drop : (k : ℕ) (bytes : List ℕ) (i : ℕ) → slice_index (drop k bytes) i ≡ slice_index bytes (k + i)
 at_drop zero bytes i = let same : i ≡ 0 + i = omega arith in ap (λ (n : ℕ). slice_index bytes n) same
 at_drop (suc k) [] i = refl
-at_drop (suc k) (b ∷ bytes) i = let same : suc (k + i) ≡ suc k + i = omega arith in at_drop k bytes i ∙ ap (λ (n : ℕ). slice_index (b ∷ bytes) n) same
+at_drop (suc k) (b ∷ bytes) i =
+    let same : suc (k + i) ≡ suc k + i = omega arith in at_drop k bytes i ∙ ap
+    (λ (n : ℕ). slice_index (b ∷ bytes) n) same
 
 all_bits : (n : ℕ) → n < 256 → bit_and n 255 ≡ n
 all_bits n byte = let same = and_mask n 8 in omega (arith, same)
@@ -81,7 +84,8 @@ canonical_again message = masked_again used_bits message
 same_byte : (message : List ℕ) (k j : ℕ) → AreBytes message → k + j < 20 → slice_index used_bits (k + j) ≡ 255
     → slice_index (drop k (masked used_bits message)) j ≡ slice_index (drop k message) j
 same_byte message k j are within all =
-    at_drop k (masked used_bits message) j ∙ at_masked used_bits message (k + j) within ∙ ap (λ (mask : ℕ). bit_and (slice_index message (k + j)) mask) all
+    at_drop k (masked used_bits message) j ∙ at_masked used_bits message (k + j) within ∙ ap
+    (λ (mask : ℕ). bit_and (slice_index message (k + j)) mask) all
     ∙ all_bits (slice_index message (k + j)) (are (k + j)) ∙ sym (at_drop k message j)
 
 -- the bits of a header, by its bytes
@@ -94,10 +98,15 @@ bits_kept : (message : List ℕ) → AreBytes message → BitsKept message
 unfolding canonical_message
 bits_kept message are =
     let kept = masked used_bits message in
-    let first : slice_index kept 0 ≡ slice_index message 0 = at_masked used_bits message 0 (omega arith) ∙ all_bits (slice_index message 0) (are 0) in
-    let second : slice_index kept 1 ≡ slice_index message 1 = at_masked used_bits message 1 (omega arith) ∙ all_bits (slice_index message 1) (are 1) in
-    let third : slice_index kept 2 ≤ 0 = let few = and_le_r (slice_index message 2) 0 in omega (arith, few, at_masked used_bits message 2 (omega arith)) in
-    let fourth : slice_index kept 3 ≡ ((slice_index message 3 / 2 ^ 7) % 2) * 2 ^ 7 = at_masked used_bits message 3 (omega arith) ∙ and_pow (slice_index message 3) 7 in
+    let first : slice_index kept 0 ≡ slice_index message 0 =
+    at_masked used_bits message 0 (omega arith) ∙ all_bits (slice_index message 0) (are 0) in
+    let second : slice_index kept 1 ≡ slice_index message 1 =
+    at_masked used_bits message 1 (omega arith) ∙ all_bits (slice_index message 1) (are 1) in
+    let third : slice_index kept 2 ≤ 0 =
+    let few = and_le_r (slice_index message 2) 0 in
+    omega (arith, few, at_masked used_bits message 2 (omega arith)) in
+    let fourth : slice_index kept 3 ≡ ((slice_index message 3 / 2 ^ 7) % 2) * 2 ^ 7 =
+    at_masked used_bits message 3 (omega arith) ∙ and_pow (slice_index message 3) 7 in
     let a = are 0 in
     let b = are 1 in
     let c = are 2 in
@@ -109,7 +118,8 @@ bits_kept message are =
     }
 
 -- A send reads the same parts of a message and of what is kept of it.
-pub canonical_parts : (message : List ℕ) → AreBytes message → used_parts (canonical_message message) ≡ used_parts message
+pub canonical_parts : (message : List ℕ) → AreBytes message
+    → used_parts (canonical_message message) ≡ used_parts message
 unfolding canonical_message
 canonical_parts message are =
     let kept = masked used_bits message in
@@ -117,9 +127,21 @@ canonical_parts message are =
     let size : length kept ≡ length message = length-masked used_bits message in
     let complex : is_complex (bits_of kept) ≡ is_complex (bits_of message) = ap (λ (n : ℕ). n == 1) bits.complex in
     let remote : remote_of kept ≡ remote_of message =
-    omega (arith, same_byte message 8 0 are (omega arith) refl, same_byte message 8 1 are (omega arith) refl, same_byte message 8 2 are (omega arith) refl, same_byte message 8 3 are (omega arith) refl) in
+    omega (
+      arith,
+      same_byte message 8 0 are (omega arith) refl,
+      same_byte message 8 1 are (omega arith) refl,
+      same_byte message 8 2 are (omega arith) refl,
+      same_byte message 8 3 are (omega arith) refl,
+    ) in
     let local : local_of kept ≡ local_of message =
-    omega (arith, same_byte message 12 0 are (omega arith) refl, same_byte message 12 1 are (omega arith) refl, same_byte message 12 2 are (omega arith) refl, same_byte message 12 3 are (omega arith) refl) in
+    omega (
+      arith,
+      same_byte message 12 0 are (omega arith) refl,
+      same_byte message 12 1 are (omega arith) refl,
+      same_byte message 12 2 are (omega arith) refl,
+      same_byte message 12 3 are (omega arith) refl,
+    ) in
     let id : id_of kept ≡ id_of message = ap (little_number 4) (masked_after used_bits message 20 (omega arith)) in
     let body : body_of kept ≡ body_of message = masked_after used_bits message 24 (omega arith) in
     λ i. record {
@@ -134,26 +156,34 @@ canonical_parts message are =
     }
 
 -- messages of the same parts are sent alike
-acts_alike : (a b : List ℕ) (old : State) (space : ℕ) (o : Option Names) (answer : Reply) (acted : State) (effects : List Effect) → used_parts a ≡ used_parts b → ActsFrom old space o (call.Send a) answer acted effects → ActsFrom old space o (call.Send b) answer acted effects
+acts_alike : (a b : List ℕ) (old : State) (space : ℕ) (o : Option Names) (answer : Reply) (acted : State)
+    (effects : List Effect) → used_parts a ≡ used_parts b → ActsFrom old space o (call.Send a) answer acted effects
+    → ActsFrom old space o (call.Send b) answer acted effects
 unfolding ready_to_send
 acts_alike a b old space None answer acted effects same acts = acts
 acts_alike a b old space (Some names) answer acted effects same acts =
     subst (λ (parts : UsedParts). MatchResult (ready_by_parts old space parts)
-    (λ (ready : Ready). (answer ≡ without_message Success 0 MACH_PORT_NULL) × (acted ≡ (sent ready).0) × (effects ≡ (sent ready).1))
+    (λ (ready : Ready). (answer ≡ without_message Success 0 MACH_PORT_NULL) × (acted ≡ (sent ready).0)
+    × (effects ≡ (sent ready).1))
     (λ code. IsRefusedWith (without_message code 0 MACH_PORT_NULL) old answer acted effects)) same acts
 
-sent_alike : (a b : List ℕ) (old : State) (space : ℕ) (answer : Reply) (new : State) → used_parts a ≡ used_parts b → Step old space (call.Send a) answer new → Step old space (call.Send b) answer new
+sent_alike : (a b : List ℕ) (old : State) (space : ℕ) (answer : Reply) (new : State) → used_parts a ≡ used_parts b
+    → Step old space (call.Send a) answer new → Step old space (call.Send b) answer new
 unfolding Step
-sent_alike a b old space answer new same (acted, effects, acts, settles) = (acted, effects, acts_alike a b old space (finmap.get old.spaces space) answer acted effects same acts, settles)
+sent_alike a b old space answer new same (acted, effects, acts, settles) =
+    (acted, effects, acts_alike a b old space (finmap.get old.spaces space) answer acted effects same acts, settles)
 
 -- A message and what is kept of it are sent alike.
 abbrev pub MessagesAreSentAsCanonical : Type 0
-MessagesAreSentAsCanonical = (old : State) (space : ℕ) (message : List ℕ) (answer : Reply) (new : State) → AreBytes message
+MessagesAreSentAsCanonical =
+    (old : State) (space : ℕ) (message : List ℕ) (answer : Reply) (new : State) → AreBytes message
     → Step old space (call.Send (canonical_message message)) answer new ↔ Step old space (call.Send message) answer new
 
 pub sent_as_canonical : MessagesAreSentAsCanonical
-sent_as_canonical old space message answer new are =
-    (sent_alike (canonical_message message) message old space answer new (canonical_parts message are), sent_alike message (canonical_message message) old space answer new (sym (canonical_parts message are)))
+sent_as_canonical old space message answer new are = (
+  sent_alike (canonical_message message) message old space answer new (canonical_parts message are),
+  sent_alike message (canonical_message message) old space answer new (sym (canonical_parts message are)),
+)
 
 -- What is kept of a call: the call itself, unless it is a send.
 
@@ -173,7 +203,8 @@ canonical_call_long c = refl
 
 -- so what is kept of a call is a call that a record can hold
 pub canonical_is_canonical : (c : Call) → FitsCall c → IsWholeCall c → IsCanonicalCall (canonical_call c)
-canonical_is_canonical c fits whole = record { fits = canonical_fits c fits; whole = whole_kept c whole; kept = canonical_call_again c }
+canonical_is_canonical c fits whole =
+    record { fits = canonical_fits c fits; whole = whole_kept c whole; kept = canonical_call_again c }
   where
     whole_kept : (d : Call) → IsWholeCall d → IsWholeCall (canonical_call d)
     whole_kept (call.Send message) whole = subst IsMessageSize (sym (canonical_long message)) whole
@@ -181,13 +212,17 @@ canonical_is_canonical c fits whole = record { fits = canonical_fits c fits; who
 
 -- a reply is one to what is kept of its call
 kept_replied : (c : Call) (r : Reply) → IsRecordedReply c r → IsRecordedReply (canonical_call c) r
-kept_replied (call.Send message) (reply.Done number) is = record { fits = is.fits; of_one_call = is.of_one_call; results = is.results; recorded = is.recorded }
-kept_replied (call.Send message) r is = record { fits = is.fits; of_one_call = is.of_one_call; results = is.results; recorded = is.recorded }
+kept_replied (call.Send message) (reply.Done number) is =
+    record { fits = is.fits; of_one_call = is.of_one_call; results = is.results; recorded = is.recorded }
+kept_replied (call.Send message) r is =
+    record { fits = is.fits; of_one_call = is.of_one_call; results = is.results; recorded = is.recorded }
 kept_replied c r is = is
 
 -- What is kept of a record is one that a segment may hold, if its call is whole and its frames aren't too long.
-pub canonical_is_record : (entry : Record) → entry.space < 2 ^ 32 → FitsCall entry.call → IsWholeCall entry.call → IsRecordedReply entry.call entry.reply
-    → length (call_encoding entry.call) ≤ MAX_FRAME_CONTENT → length (reply_encoding entry.reply) ≤ MAX_FRAME_CONTENT → IsRecord (canonical_record entry)
+pub canonical_is_record : (entry : Record) → entry.space < 2 ^ 32 → FitsCall entry.call → IsWholeCall entry.call
+    → IsRecordedReply entry.call entry.reply
+    → length (call_encoding entry.call) ≤ MAX_FRAME_CONTENT → length (reply_encoding entry.reply) ≤ MAX_FRAME_CONTENT
+    → IsRecord (canonical_record entry)
 canonical_is_record entry space fits whole answered calls replies = record {
   space = space;
   call = canonical_is_canonical entry.call fits whole;
@@ -197,7 +232,9 @@ canonical_is_record entry space fits whole answered calls replies = record {
 
 -- A call and what is kept of it are made alike.
 abbrev pub CallsAreMadeAsCanonical : Type 0
-CallsAreMadeAsCanonical = (old : State) (space : ℕ) (c : Call) (answer : Reply) (new : State) → FitsCall c → Step old space (canonical_call c) answer new ↔ Step old space c answer new
+CallsAreMadeAsCanonical =
+    (old : State) (space : ℕ) (c : Call) (answer : Reply) (new : State) → FitsCall c
+    → Step old space (canonical_call c) answer new ↔ Step old space c answer new
 
 pub made_as_canonical : CallsAreMadeAsCanonical
 made_as_canonical old space (call.Send message) answer new fits = sent_as_canonical old space message answer new fits

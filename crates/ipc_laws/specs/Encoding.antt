@@ -33,14 +33,19 @@ use Rattle.ipc_laws.specs.Takes.{own_weight}
 use Rattle.ipc_laws.specs.Weights.{Weight, target_weigh, entry_weigh, carried_weigh, reply_weigh, message_weigh, port_weigh, state_weigh, any_of}
 
 -- what holds of all that a map has holds of its entries
-all_of : {X : Type 0} (P : ℕ × X → Type 0) (es : List (ℕ × X)) → T (is_sorted nat_cmp es) → ((k : ℕ) (x : X) → find nat_cmp k es ≡ Some x → P (k, x)) → All P es
+all_of : {X : Type 0} (P : ℕ × X → Type 0) (es : List (ℕ × X)) → T (is_sorted nat_cmp es)
+    → ((k : ℕ) (x : X) → find nat_cmp k es ≡ Some x → P (k, x)) → All P es
 all_of P [] sorted each = All-nil P
 all_of P (e ∷ es) sorted each =
     All-cons P e es (each e.0 e.1 (ap (λ (b : Bool). cond b (Some e.1) (find nat_cmp e.0 es)) (same_key e.0)))
-    (all_of P es (back_of (below_all nat_cmp e.0 es) (is_sorted nat_cmp es) sorted) (λ (k : ℕ) (x : _) (there : _). each k x (later_found k x e es (front_of (below_all nat_cmp e.0 es) (is_sorted nat_cmp es) sorted) there)))
+    (all_of P es (back_of (below_all nat_cmp e.0 es) (is_sorted nat_cmp es) sorted)
+    (λ (k : ℕ) (x : _) (there : _). each k x
+    (later_found k x e es (front_of (below_all nat_cmp e.0 es) (is_sorted nat_cmp es) sorted) there)))
 
-all_entries : {X : Type 0} (P : ℕ × X → Type 0) (m : FinMap nat_cmp X) → ((k : ℕ) (x : X) → finmap.get m k ≡ Some x → P (k, x)) → All P (finmap.entries m)
-all_entries P m each = all_of P (finmap.entries m) (entries_sorted m) (λ (k : ℕ) (x : _) (there : _). each k x (get-entries m k ∙ there))
+all_entries : {X : Type 0} (P : ℕ × X → Type 0) (m : FinMap nat_cmp X)
+    → ((k : ℕ) (x : X) → finmap.get m k ≡ Some x → P (k, x)) → All P (finmap.entries m)
+all_entries P m each =
+    all_of P (finmap.entries m) (entries_sorted m) (λ (k : ℕ) (x : _) (there : _). each k x (get-entries m k ∙ there))
 
 less_still : (k n : ℕ) → (k ≡ n → ⊥) → k < suc n → k < n
 less_still k n apart less = omega (arith, less, eqb-false k n (not_equal k n apart))
@@ -50,11 +55,16 @@ one_at_most true n = omega arith
 one_at_most false n = omega arith
 
 -- a map whose keys are below n has at most n entries
-few_keys : {X : Type 0} (n : ℕ) (m : FinMap nat_cmp X) → ((k : ℕ) (x : X) → finmap.get m k ≡ Some x → k < n) → finmap.len m ≤ n
+few_keys : {X : Type 0} (n : ℕ) (m : FinMap nat_cmp X) → ((k : ℕ) (x : X) → finmap.get m k ≡ Some x → k < n)
+    → finmap.len m ≤ n
 few_keys {X} zero m below =
     elim (finmap.entries m) as (λ (es : List (ℕ × X)). finmap.entries m ≡ es → finmap.len m ≤ 0) [
       | [] ↦ λ (is : _). omega (arith, len-entries m, ap length is)
-      | e ∷ es ↦ λ (is : _). absurd (omega (arith, below e.0 e.1 (get-entries m e.0 ∙ ap (find nat_cmp e.0) is ∙ ap (λ (b : Bool). cond b (Some e.1) (find nat_cmp e.0 es)) (same_key e.0))))
+      | e ∷ es ↦ λ (is : _). absurd (omega (
+        arith,
+        below e.0 e.1 (get-entries m e.0 ∙ ap (find nat_cmp e.0) is ∙ ap
+            (λ (b : Bool). cond b (Some e.1) (find nat_cmp e.0 es)) (same_key e.0)),
+      ))
     ] refl
 few_keys {X} (suc n) m below =
     let left : FinMap nat_cmp X = finmap.remove m n in
@@ -74,53 +84,72 @@ serial_fits state q lawful weighs = elim (lives state q) as (λ (b : Bool). live
   | false ↦ λ (dead : _). absurd (omega (arith, dangles_none state [] lawful q dead, weighs))
 ] refl
 
-target_fits : (state : State) (target : Option ℕ) → LawfulAtRest state → ((w : Weight) → target_weigh w target ≤ state_weigh w state) → EncodableTarget target
+target_fits : (state : State) (target : Option ℕ) → LawfulAtRest state
+    → ((w : Weight) → target_weigh w target ≤ state_weigh w state) → EncodableTarget target
 target_fits state None lawful part = tt
-target_fits state (Some serial) lawful part = serial_fits state serial lawful (omega (arith, part (any_of serial), own_weight serial kind.SendOnce))
+target_fits state (Some serial) lawful part =
+    serial_fits state serial lawful (omega (arith, part (any_of serial), own_weight serial kind.SendOnce))
 
-entry_fits : (state : State) (entry : Entry) → LawfulAtRest state → LawfulEntry entry → ((w : Weight) → entry_weigh w entry ≤ state_weigh w state) → EncodableEntry entry
+entry_fits : (state : State) (entry : Entry) → LawfulAtRest state → LawfulEntry entry
+    → ((w : Weight) → entry_weigh w entry ≤ state_weigh w state) → EncodableEntry entry
 entry_fits state (Port rights) lawful fits part = (
-  (serial_fits state rights.port lawful (omega (arith, part (any_of rights.port), held_weighs rights.port (Port rights) fits refl))).1,
+  (serial_fits state rights.port lawful
+      (omega (arith, part (any_of rights.port), held_weighs rights.port (Port rights) fits refl))).1,
   omega (arith, fits.1),
   target_fits state rights.dead_name_target lawful (λ (w : Weight). omega (arith, part w)),
 )
-entry_fits state (SendOnce port target) lawful fits part =
-    ((serial_fits state port lawful (omega (arith, part (any_of port), own_weight port kind.SendOnce))).1, target_fits state target lawful (λ (w : Weight). omega (arith, part w)))
+entry_fits state (SendOnce port target) lawful fits part = (
+  (serial_fits state port lawful (omega (arith, part (any_of port), own_weight port kind.SendOnce))).1,
+  target_fits state target lawful (λ (w : Weight). omega (arith, part w)),
+)
 entry_fits state Set lawful fits part = tt
 entry_fits state (Dead references) lawful fits part = omega (arith, fits.1)
 
-names_fit : (state : State) (space : ℕ) (names : Names) → LawfulAtRest state → finmap.get state.spaces space ≡ Some names → EncodableNames names
+names_fit : (state : State) (space : ℕ) (names : Names) → LawfulAtRest state
+    → finmap.get state.spaces space ≡ Some names → EncodableNames names
 names_fit state space names lawful there =
     let own : LawfulNames names = (lawful.spaces space names there).2 in
     record {
       few = omega (arith, own.few);
       entries = all_entries EncodableNamed names (λ (name : ℕ) (entry : Entry) (at : _).
-          let bounds = own.named name entry at in
-          (omega (arith, bounds.1), entry_fits state entry lawful bounds.2 (λ (w : Weight). entry_part w state space name names entry there at)));
+          let bounds = own.named name entry at in (
+            omega (arith, bounds.1),
+            entry_fits state entry lawful bounds.2
+                (λ (w : Weight). entry_part w state space name names entry there at),
+          ));
     }
 
 -- what holds of all parts of a list that weigh no more than the whole
 
-all_parts : {A : Type 0} (f : Weight → A → ℕ) (P Q : A → Type 0) (bound : Weight → ℕ) (xs : List A) → ((w : Weight) → weigh (f w) xs ≤ bound w) → ((x : A) → ((w : Weight) → f w x ≤ bound w) → P x → Q x) → All P xs → All Q xs
+all_parts : {A : Type 0} (f : Weight → A → ℕ) (P Q : A → Type 0) (bound : Weight → ℕ) (xs : List A)
+    → ((w : Weight) → weigh (f w) xs ≤ bound w) → ((x : A) → ((w : Weight) → f w x ≤ bound w) → P x → Q x) → All P xs
+    → All Q xs
 all_parts f P Q bound [] within each all = All-nil Q
 all_parts f P Q bound (x ∷ xs) within each all =
-    All-cons Q x xs (each x (λ (w : Weight). omega (arith, within w)) (All-head P x xs all)) (all_parts f P Q bound xs (λ (w : Weight). omega (arith, within w)) each (All-tail P x xs all))
+    All-cons Q x xs (each x (λ (w : Weight). omega (arith, within w)) (All-head P x xs all))
+    (all_parts f P Q bound xs (λ (w : Weight). omega (arith, within w)) each (All-tail P x xs all))
 
-right_fits : (state : State) (right : CarriedRight) → LawfulAtRest state → ((w : Weight) → carried_weigh w right ≤ state_weigh w state) → EncodableRight right
+right_fits : (state : State) (right : CarriedRight) → LawfulAtRest state
+    → ((w : Weight) → carried_weigh w right ≤ state_weigh w state) → EncodableRight right
 right_fits state right lawful part =
-    elim right.port as (λ (p : PortInMessage). ((w : Weight) → carried_weigh w (record { kind = right.kind; port = p }) ≤ state_weigh w state) → EncodablePlace p) [
+    elim right.port as (λ (p : PortInMessage).
+    ((w : Weight) → carried_weigh w (record { kind = right.kind; port = p }) ≤ state_weigh w state)
+    → EncodablePlace p) [
       | Null ↦ λ (_ : _). tt
       | in_message.Dead ↦ λ (_ : _). tt
-      | Live serial ↦ λ (within : _). (serial_fits state serial lawful (omega (arith, within (any_of serial), own_weight serial right.kind))).1
+      | Live serial ↦ λ (within : _).
+          (serial_fits state serial lawful (omega (arith, within (any_of serial), own_weight serial right.kind))).1
     ] part
 
-reply_fits : (state : State) (reply : Option CarriedRight) → LawfulAtRest state → ((w : Weight) → reply_weigh w reply ≤ state_weigh w state) → EncodableReplyRight reply
+reply_fits : (state : State) (reply : Option CarriedRight) → LawfulAtRest state
+    → ((w : Weight) → reply_weigh w reply ≤ state_weigh w state) → EncodableReplyRight reply
 reply_fits state None lawful part = tt
 reply_fits state (Some right) lawful part = right_fits state right lawful part
 
 few_rights : (message : Message) → LawfulMessage message → length message.rights < 2 ^ 32
 few_rights message lawful =
-    elim message.complex as (λ (b : Bool). MatchBool b (HoldsPorts message.body message.rights) (message.rights ≡ []) → length message.rights < 2 ^ 32) [
+    elim message.complex as (λ (b : Bool). MatchBool b (HoldsPorts message.body message.rights) (message.rights ≡ [])
+    → length message.rights < 2 ^ 32) [
       | true ↦ λ (holds : HoldsPorts message.body message.rights). omega (arith, holds.few)
       | false ↦ λ (none : _). omega (arith, ap length none)
     ] lawful.ports
@@ -133,38 +162,52 @@ unfolding any_right
 all_any [] = All-nil any_right
 all_any (right ∷ rights) = All-cons any_right right rights tt (all_any rights)
 
-message_fits : (state : State) (queue : ℕ) (message : Message) → LawfulAtRest state → LawfulMessage message → ((w : Weight) → message_weigh w queue message ≤ state_weigh w state) → EncodableMessage message
+message_fits : (state : State) (queue : ℕ) (message : Message) → LawfulAtRest state → LawfulMessage message
+    → ((w : Weight) → message_weigh w queue message ≤ state_weigh w state) → EncodableMessage message
 message_fits state queue message lawful own part = record {
   reply = reply_fits state message.reply lawful (λ (w : Weight). omega (arith, part w));
   id = own.id;
   size = omega (arith, own.small);
   few_rights = few_rights message own;
-  rights = all_parts carried_weigh any_right EncodableRight (λ (w : Weight). state_weigh w state) message.rights (λ (w : Weight). omega (arith, part w)) (λ (right : CarriedRight) (within : _) (_ : _). right_fits state right lawful within) (all_any message.rights);
+  rights =
+      all_parts carried_weigh any_right EncodableRight (λ (w : Weight). state_weigh w state) message.rights
+      (λ (w : Weight). omega (arith, part w))
+      (λ (right : CarriedRight) (within : _) (_ : _). right_fits state right lawful within)
+      (all_any message.rights);
 }
 
-set_fits : (state : State) (serial : ℕ) (port : PortState) (set : Option ℕ) → LawfulAtRest state → finmap.get state.ports serial ≡ Some port → port.set ≡ set → EncodableSet set
+set_fits : (state : State) (serial : ℕ) (port : PortState) (set : Option ℕ) → LawfulAtRest state
+    → finmap.get state.ports serial ≡ Some port → port.set ≡ set → EncodableSet set
 set_fits state serial port None lawful at is = tt
-set_fits state serial port (Some set) lawful at is = elim (lawful.sets serial set port at is) as (λ _. (0 < set) × (set < 2 ^ 32)) [
-  | inl held ↦
-      let (space, names, name, entry, there, named, receives, alongside) = held in
-      let bounds = (lawful.spaces space names there).2.named set Set alongside in
-      (bounds.0, omega (arith, bounds.1))
-  | inr waits ↦ absurd (none_released serial waits)
-]
+set_fits state serial port (Some set) lawful at is =
+    elim (lawful.sets serial set port at is) as (λ _. (0 < set) × (set < 2 ^ 32)) [
+      | inl held ↦
+          let (space, names, name, entry, there, named, receives, alongside) = held in
+          let bounds = (lawful.spaces space names there).2.named set Set alongside in
+          (bounds.0, omega (arith, bounds.1))
+      | inr waits ↦ absurd (none_released serial waits)
+    ]
 
-port_fits : (state : State) (serial : ℕ) (port : PortState) → LawfulAtRest state → ShortQueues state → finmap.get state.ports serial ≡ Some port → EncodablePort port
+port_fits : (state : State) (serial : ℕ) (port : PortState) → LawfulAtRest state → ShortQueues state
+    → finmap.get state.ports serial ≡ Some port → EncodablePort port
 port_fits state serial port lawful short at =
     let own = (lawful.ports serial port at).2 in
-    let part : (w : Weight) → port_weigh w serial port ≤ state_weigh w state = λ (w : Weight). port_part w state serial port at in
+    let part : (w : Weight) → port_weigh w serial port ≤ state_weigh w state =
+    λ (w : Weight). port_part w state serial port at in
     record {
       limit = omega (arith, own.limit);
       sequence_number = own.sequence_number;
       make_send_count = own.make_send_count;
       set = set_fits state serial port port.set lawful at refl;
       no_senders_target = target_fits state port.no_senders_target lawful (λ (w : Weight). omega (arith, part w));
-      port_destroyed_target = target_fits state port.port_destroyed_target lawful (λ (w : Weight). omega (arith, part w));
+      port_destroyed_target =
+          target_fits state port.port_destroyed_target lawful (λ (w : Weight). omega (arith, part w));
       few_messages = short serial port at;
-      messages = all_parts (λ (w : Weight). message_weigh w serial) LawfulMessage EncodableMessage (λ (w : Weight). state_weigh w state) port.messages (λ (w : Weight). omega (arith, part w)) (λ (message : Message) (within : _) (fits : _). message_fits state serial message lawful fits within) own.messages;
+      messages =
+          all_parts (λ (w : Weight). message_weigh w serial) LawfulMessage EncodableMessage
+          (λ (w : Weight). state_weigh w state) port.messages (λ (w : Weight). omega (arith, part w))
+          (λ (message : Message) (within : _) (fits : _). message_fits state serial message lawful fits within)
+          own.messages;
     }
 
 abbrev pub LawfulIsEncodable : Type 0
@@ -173,8 +216,23 @@ LawfulIsEncodable = (state : State) → Lawful state → ShortQueues state → E
 pub lawful_is_encodable : LawfulIsEncodable
 lawful_is_encodable state lawful short = record {
   next = lawful.next.1;
-  few_spaces = omega (arith, few_keys (MAX_SPACES + 1) state.spaces (λ (space : ℕ) (names : Names) (there : _). omega (arith, (lawful.spaces space names there).1)));
-  spaces = all_entries EncodableSpace state.spaces (λ (space : ℕ) (names : Names) (there : _). (omega (arith, (lawful.spaces space names there).1), names_fit state space names (at_rest state lawful) there));
+  few_spaces =
+      omega (
+        arith,
+        few_keys (MAX_SPACES + 1) state.spaces
+            (λ (space : ℕ) (names : Names) (there : _). omega (arith, (lawful.spaces space names there).1)),
+      );
+  spaces =
+      all_entries EncodableSpace state.spaces
+      (λ (space : ℕ) (names : Names) (there : _). (
+        omega (arith, (lawful.spaces space names there).1),
+        names_fit state space names (at_rest state lawful) there,
+      ));
   few_ports = omega (arith, lawful.few_ports);
-  ports = all_entries EncodableLivePort state.ports (λ (serial : ℕ) (port : PortState) (at : _). (omega (arith, (lawful.ports serial port at).1, lawful.next.1), port_fits state serial port (at_rest state lawful) short at));
+  ports =
+      all_entries EncodableLivePort state.ports
+      (λ (serial : ℕ) (port : PortState) (at : _). (
+        omega (arith, (lawful.ports serial port at).1, lawful.next.1),
+        port_fits state serial port (at_rest state lawful) short at,
+      ));
 }

@@ -26,7 +26,8 @@ word_at i bytes = little_number 4 (drop (4 * i) bytes)
 -- a send has option 1, and its message after four words; otherwise it is a receive
 abbrev mach_msg_encoded : List ℕ → Call
 mach_msg_encoded bytes =
-    if word_at 0 bytes == 1 then call.Send (drop 16 bytes) else call.Receive (word_at 1 bytes) (word_at 0 bytes == 0x802) (word_at 2 bytes) (word_at 3 bytes == 1)
+    if word_at 0 bytes == 1 then call.Send (drop 16 bytes)
+    else call.Receive (word_at 1 bytes) (word_at 0 bytes == 0x802) (word_at 2 bytes) (word_at 3 bytes == 1)
 
 -- the calls that these arguments may encode, by their numbers
 abbrev calls_encoded : List ℕ → List Call
@@ -68,28 +69,57 @@ pub call_back : (c : Call) → FitsCall c → read_call (number_of_call c) (argu
 call_back (call.Attach space) fits = λ i. call.Attach (little_number-word space [] fits i)
 call_back call.Names fits = refl
 call_back (call.Type name) fits = λ i. call.Type (little_number-word name [] fits i)
-call_back (call.Rename from to) fits = λ i. call.Rename (little_number-word from (word to) fits.0 i) (little_number-word to [] fits.1 i)
-call_back (call.AllocateName kind name) fits = λ i. call.AllocateName (little_number-word kind (word name) fits.0 i) (little_number-word name [] fits.1 i)
+call_back (call.Rename from to) fits =
+    λ i. call.Rename (little_number-word from (word to) fits.0 i) (little_number-word to [] fits.1 i)
+call_back (call.AllocateName kind name) fits =
+    λ i. call.AllocateName (little_number-word kind (word name) fits.0 i) (little_number-word name [] fits.1 i)
 call_back (call.Allocate kind) fits = λ i. call.Allocate (little_number-word kind [] fits i)
 call_back (call.Destroy name) fits = λ i. call.Destroy (little_number-word name [] fits i)
 call_back (call.Deallocate name) fits = λ i. call.Deallocate (little_number-word name [] fits i)
-call_back (call.GetRefs name kind) fits = λ i. call.GetRefs (little_number-word name (word kind) fits.0 i) (little_number-word kind [] fits.1 i)
-call_back (call.ModRefs name kind delta) fits = λ i. call.ModRefs (little_number-word name (word kind ++ word delta) fits.0 i) (little_number-word kind (word delta) fits.1 i) (little_number-word delta [] fits.2 i)
-call_back (call.SetQlimit name limit) fits = λ i. call.SetQlimit (little_number-word name (word limit) fits.0 i) (little_number-word limit [] fits.1 i)
-call_back (call.SetMscount name count) fits = λ i. call.SetMscount (little_number-word name (word count) fits.0 i) (little_number-word count [] fits.1 i)
-call_back (call.SetSeqno name seqno) fits = λ i. call.SetSeqno (little_number-word name (word seqno) fits.0 i) (little_number-word seqno [] fits.1 i)
+call_back (call.GetRefs name kind) fits =
+    λ i. call.GetRefs (little_number-word name (word kind) fits.0 i) (little_number-word kind [] fits.1 i)
+call_back (call.ModRefs name kind delta) fits =
+    λ i. call.ModRefs (little_number-word name (word kind ++ word delta) fits.0 i)
+    (little_number-word kind (word delta) fits.1 i) (little_number-word delta [] fits.2 i)
+call_back (call.SetQlimit name limit) fits =
+    λ i. call.SetQlimit (little_number-word name (word limit) fits.0 i) (little_number-word limit [] fits.1 i)
+call_back (call.SetMscount name count) fits =
+    λ i. call.SetMscount (little_number-word name (word count) fits.0 i) (little_number-word count [] fits.1 i)
+call_back (call.SetSeqno name seqno) fits =
+    λ i. call.SetSeqno (little_number-word name (word seqno) fits.0 i) (little_number-word seqno [] fits.1 i)
 call_back (call.GetReceiveStatus name) fits = λ i. call.GetReceiveStatus (little_number-word name [] fits i)
 call_back (call.GetSetStatus name) fits = λ i. call.GetSetStatus (little_number-word name [] fits i)
-call_back (call.MoveMember member after) fits = λ i. call.MoveMember (little_number-word member (word after) fits.0 i) (little_number-word after [] fits.1 i)
-call_back (call.RequestNotification name variant sync notify_name disposition) fits = λ i. call.RequestNotification (little_number-word name (word variant ++ (word sync ++ (word notify_name ++ word disposition))) fits.0 i) (little_number-word variant (word sync ++ (word notify_name ++ word disposition)) fits.1 i) (little_number-word sync (word notify_name ++ word disposition) fits.2 i) (little_number-word notify_name (word disposition) fits.3 i) (little_number-word disposition [] fits.4 i)
-call_back (call.InsertRight name right_name disposition) fits = λ i. call.InsertRight (little_number-word name (word right_name ++ word disposition) fits.0 i) (little_number-word right_name (word disposition) fits.1 i) (little_number-word disposition [] fits.2 i)
-call_back (call.ExtractRight name disposition) fits = λ i. call.ExtractRight (little_number-word name (word disposition) fits.0 i) (little_number-word disposition [] fits.1 i)
+call_back (call.MoveMember member after) fits =
+    λ i. call.MoveMember (little_number-word member (word after) fits.0 i) (little_number-word after [] fits.1 i)
+call_back (call.RequestNotification name variant sync notify_name disposition) fits =
+    λ i. call.RequestNotification (little_number-word name
+    (word variant ++ (word sync ++ (word notify_name ++ word disposition))) fits.0 i)
+    (little_number-word variant (word sync ++ (word notify_name ++ word disposition)) fits.1 i)
+    (little_number-word sync (word notify_name ++ word disposition) fits.2 i)
+    (little_number-word notify_name (word disposition) fits.3 i)
+    (little_number-word disposition [] fits.4 i)
+call_back (call.InsertRight name right_name disposition) fits =
+    λ i. call.InsertRight (little_number-word name (word right_name ++ word disposition) fits.0 i)
+    (little_number-word right_name (word disposition) fits.1 i) (little_number-word disposition [] fits.2 i)
+call_back (call.ExtractRight name disposition) fits =
+    λ i. call.ExtractRight (little_number-word name (word disposition) fits.0 i)
+    (little_number-word disposition [] fits.1 i)
 call_back (call.Send message) fits = refl
-call_back (call.Receive limit true name true) fits = λ i. call.Receive (little_number-word limit (word name ++ word 1) fits.0 i) true (little_number-word name (word 1) fits.1 i) true
-call_back (call.Receive limit true name false) fits = λ i. call.Receive (little_number-word limit (word name ++ word 0) fits.0 i) true (little_number-word name (word 0) fits.1 i) false
-call_back (call.Receive limit false name true) fits = λ i. call.Receive (little_number-word limit (word name ++ word 1) fits.0 i) false (little_number-word name (word 1) fits.1 i) true
-call_back (call.Receive limit false name false) fits = λ i. call.Receive (little_number-word limit (word name ++ word 0) fits.0 i) false (little_number-word name (word 0) fits.1 i) false
-call_back (call.SpaceCreate name disposition) fits = λ i. call.SpaceCreate (little_number-word name (word disposition) fits.0 i) (little_number-word disposition [] fits.1 i)
+call_back (call.Receive limit true name true) fits =
+    λ i. call.Receive (little_number-word limit (word name ++ word 1) fits.0 i) true
+    (little_number-word name (word 1) fits.1 i) true
+call_back (call.Receive limit true name false) fits =
+    λ i. call.Receive (little_number-word limit (word name ++ word 0) fits.0 i) true
+    (little_number-word name (word 0) fits.1 i) false
+call_back (call.Receive limit false name true) fits =
+    λ i. call.Receive (little_number-word limit (word name ++ word 1) fits.0 i) false
+    (little_number-word name (word 1) fits.1 i) true
+call_back (call.Receive limit false name false) fits =
+    λ i. call.Receive (little_number-word limit (word name ++ word 0) fits.0 i) false
+    (little_number-word name (word 0) fits.1 i) false
+call_back (call.SpaceCreate name disposition) fits =
+    λ i. call.SpaceCreate (little_number-word name (word disposition) fits.0 i)
+    (little_number-word disposition [] fits.1 i)
 call_back call.SpaceDestroy fits = refl
 
 pub number-fits : (c : Call) → number_of_call c < 2 ^ 32
@@ -124,10 +154,14 @@ code_among n (first ∷ codes) = if number_of first == n then first else code_am
 
 abbrev all_codes : List KernReturn
 all_codes =
-    code.Success ∷ code.NoSpace ∷ code.InvalidArgument ∷ code.Failure ∷ code.ResourceShortage ∷ code.NotInSet ∷ code.NameExists ∷ code.InvalidName
-    ∷ code.InvalidTask ∷ code.InvalidRight ∷ code.InvalidValue ∷ code.UrefsOverflow ∷ code.InvalidCapability ∷ code.RightExists ∷ code.SendInvalidDest ∷ code.SendTimedOut
-    ∷ code.SendMsgTooSmall ∷ code.SendInvalidReply ∷ code.SendInvalidRight ∷ code.SendInvalidMemory ∷ code.SendNoBuffer ∷ code.SendInvalidType ∷ code.SendInvalidHeader ∷ code.RcvInvalidName
-    ∷ code.RcvTimedOut ∷ code.RcvTooLarge ∷ code.RcvPortChanged ∷ code.RcvPortDied ∷ code.RcvInSet ∷ code.RcvHeaderErrorKernel ∷ code.RcvHeaderErrorSpace
+    code.Success ∷ code.NoSpace ∷ code.InvalidArgument ∷ code.Failure ∷ code.ResourceShortage ∷ code.NotInSet ∷
+    code.NameExists ∷ code.InvalidName
+    ∷ code.InvalidTask ∷ code.InvalidRight ∷ code.InvalidValue ∷ code.UrefsOverflow ∷ code.InvalidCapability ∷
+    code.RightExists ∷ code.SendInvalidDest ∷ code.SendTimedOut
+    ∷ code.SendMsgTooSmall ∷ code.SendInvalidReply ∷ code.SendInvalidRight ∷ code.SendInvalidMemory ∷ code.SendNoBuffer
+    ∷ code.SendInvalidType ∷ code.SendInvalidHeader ∷ code.RcvInvalidName
+    ∷ code.RcvTimedOut ∷ code.RcvTooLarge ∷ code.RcvPortChanged ∷ code.RcvPortDied ∷ code.RcvInSet ∷
+    code.RcvHeaderErrorKernel ∷ code.RcvHeaderErrorSpace
     ∷ []
 
 abbrev code_of : ℕ → KernReturn
@@ -202,7 +236,8 @@ code-fits code.RcvHeaderErrorSpace = omega arith
 -- the names and types that this many pairs of words encode
 abbrev pairs_of : ℕ → List ℕ → List NamedType
 pairs_of zero bytes = []
-pairs_of (suc n) bytes = record { name = little_number 4 bytes; bits = little_number 4 (drop 4 bytes) } ∷ pairs_of n (drop 8 bytes)
+pairs_of (suc n) bytes =
+    record { name = little_number 4 bytes; bits = little_number 4 (drop 4 bytes) } ∷ pairs_of n (drop 8 bytes)
 
 abbrev pairs_text : List NamedType → List ℕ
 pairs_text names = flat_map (λ (n : NamedType). word n.name ++ word n.bits) names
@@ -254,7 +289,8 @@ status_in bytes = record {
   has_no_senders_request = word_at 8 bytes == 1;
 }
 
-status_back : (status : ReceiveStatus) → FitsReply (reply.ReceiveStatus status) → status_in (status_encoding status) ≡ status
+status_back : (status : ReceiveStatus) → FitsReply (reply.ReceiveStatus status)
+    → status_in (status_encoding status) ≡ status
 status_back status fits =
     let flag_3 = word (number_of_bool status.has_no_senders_request) in
     let flags_2 = word (number_of_bool status.has_port_destroyed_request) ++ flag_3 in
@@ -320,7 +356,9 @@ is_nothing [] = true
 is_nothing (b ∷ bytes) = false
 
 abbrev pub read_reply : List ℕ → Reply
-read_reply bytes = if is_nothing (drop 8 bytes) then reply.Done (word_at 0 bytes) else reply_among (word_at 0 bytes) (replies_encoded bytes)
+read_reply bytes =
+    if is_nothing (drop 8 bytes) then reply.Done (word_at 0 bytes)
+    else reply_among (word_at 0 bytes) (replies_encoded bytes)
 
 no_record : (b : Bool) → (b && (false || false)) ≡ true → ⊥
 no_record true is = cc
@@ -333,20 +371,30 @@ reply_back c (reply.Refused number code) fits recorded = absurd (no_record (is_r
 reply_back c (reply.Done number) fits recorded = ap (λ (n : ℕ). reply.Done n) (little_number-word number (word 0) fits)
 reply_back c (reply.Names names) fits recorded =
     let count = little_number-word (length names) (pairs_text names) fits.0 in
-    ap (λ (n : ℕ). reply.Names (pairs_of n (pairs_text names))) count ∙ ap (λ (ns : List NamedType). reply.Names ns) (pairs_back names fits.1)
+    ap (λ (n : ℕ). reply.Names (pairs_of n (pairs_text names))) count ∙ ap
+    (λ (ns : List NamedType). reply.Names ns) (pairs_back names fits.1)
 reply_back c (reply.Type bits) fits recorded = ap (λ (n : ℕ). reply.Type n) (little_number-word bits [] fits)
 reply_back c (reply.Allocate name) fits recorded = ap (λ (n : ℕ). reply.Allocate n) (little_number-word name [] fits)
-reply_back c (reply.References count) fits recorded = ap (λ (n : ℕ). reply.References n) (little_number-word count [] fits)
-reply_back c (reply.ReceiveStatus status) fits recorded = ap (λ (s : ReceiveStatus). reply.ReceiveStatus s) (status_back status fits)
+reply_back c (reply.References count) fits recorded =
+    ap (λ (n : ℕ). reply.References n) (little_number-word count [] fits)
+reply_back c (reply.ReceiveStatus status) fits recorded =
+    ap (λ (s : ReceiveStatus). reply.ReceiveStatus s) (status_back status fits)
 reply_back c (reply.SetStatus members) fits recorded =
     let count = little_number-word (length members) (flat_map word members) fits.0 in
-    ap (λ (n : ℕ). reply.SetStatus (words_of n (flat_map word members))) count ∙ ap (λ (ns : List ℕ). reply.SetStatus ns) (words_back members fits.1)
-reply_back c (reply.PreviousTarget name) fits recorded = ap (λ (n : ℕ). reply.PreviousTarget n) (little_number-word name [] fits)
-reply_back c (reply.Extracted name kind.Receive) fits recorded = ap (λ (n : ℕ). reply.Extracted n kind.Receive) (little_number-word name (word 16) fits)
-reply_back c (reply.Extracted name kind.Send) fits recorded = ap (λ (n : ℕ). reply.Extracted n kind.Send) (little_number-word name (word 17) fits)
-reply_back c (reply.Extracted name kind.SendOnce) fits recorded = ap (λ (n : ℕ). reply.Extracted n kind.SendOnce) (little_number-word name (word 18) fits)
+    ap (λ (n : ℕ). reply.SetStatus (words_of n (flat_map word members))) count ∙ ap
+    (λ (ns : List ℕ). reply.SetStatus ns) (words_back members fits.1)
+reply_back c (reply.PreviousTarget name) fits recorded =
+    ap (λ (n : ℕ). reply.PreviousTarget n) (little_number-word name [] fits)
+reply_back c (reply.Extracted name kind.Receive) fits recorded =
+    ap (λ (n : ℕ). reply.Extracted n kind.Receive) (little_number-word name (word 16) fits)
+reply_back c (reply.Extracted name kind.Send) fits recorded =
+    ap (λ (n : ℕ). reply.Extracted n kind.Send) (little_number-word name (word 17) fits)
+reply_back c (reply.Extracted name kind.SendOnce) fits recorded =
+    ap (λ (n : ℕ). reply.Extracted n kind.SendOnce) (little_number-word name (word 18) fits)
 reply_back c (reply.Message code size member message) fits recorded =
-    let number = ap code_of (little_number-word (number_of code) (word size ++ (word member ++ message)) (code-fits code)) ∙ code_back code in
+    let number =
+    ap code_of (little_number-word (number_of code) (word size ++ (word member ++ message)) (code-fits code))
+    ∙ code_back code in
     let sizes = little_number-word size (word member ++ message) fits.0 in
     let members = little_number-word member message fits.1 in
     λ i. reply.Message (number i) (sizes i) (members i) message

@@ -39,7 +39,14 @@ within most given answer is holds = subst (IsWithin most) (sym is) holds
 
 -- The length of a reply, from the number of bytes of its results.
 done_length : (number : ℕ) (results : List ℕ) → length (done_encoding number results) ≡ 8 + length results
-done_length number results = omega (arith, length-append (word number) (word 0 ++ results), length-append (word 0) results, length-word number, length-word 0)
+done_length number results =
+    omega (
+      arith,
+      length-append (word number) (word 0 ++ results),
+      length-append (word 0) results,
+      length-word number,
+      length-word 0,
+    )
 
 two_words : (a b : ℕ) → length (word a ++ word b) ≡ 8
 two_words a b = omega (arith, length-append (word a) (word b), length-word a, length-word b)
@@ -48,16 +55,33 @@ three_words : (a b c : ℕ) → length (word a ++ (word b ++ word c)) ≡ 12
 three_words a b c = omega (arith, length-append (word a) (word b ++ word c), two_words b c, length-word a)
 
 three_more : (a b c : ℕ) (rest : List ℕ) → length (word a ++ (word b ++ (word c ++ rest))) ≡ 12 + length rest
-three_more a b c rest = omega (arith, length-append (word a) (word b ++ (word c ++ rest)), length-append (word b) (word c ++ rest), length-append (word c) rest, length-word a, length-word b, length-word c)
+three_more a b c rest =
+    omega (
+      arith,
+      length-append (word a) (word b ++ (word c ++ rest)),
+      length-append (word b) (word c ++ rest),
+      length-append (word c) rest,
+      length-word a,
+      length-word b,
+      length-word c,
+    )
 
-nine_words : (a b c d e f g h i : ℕ) → length (word a ++ (word b ++ (word c ++ (word d ++ (word e ++ (word f ++ (word g ++ (word h ++ word i)))))))) ≡ 36
+nine_words : (a b c d e f g h i : ℕ)
+    → length (word a ++ (word b ++ (word c ++ (word d ++ (word e ++ (word f ++ (word g ++ (word h ++ word i)))))))) ≡ 36
 nine_words a b c d e f g h i =
-    omega (arith, three_more a b c (word d ++ (word e ++ (word f ++ (word g ++ (word h ++ word i))))), three_more d e f (word g ++ (word h ++ word i)), three_words g h i)
+    omega (
+      arith,
+      three_more a b c (word d ++ (word e ++ (word f ++ (word g ++ (word h ++ word i))))),
+      three_more d e f (word g ++ (word h ++ word i)),
+      three_words g h i,
+    )
 
 status_length : (status : ReceiveStatus) → length (status_encoding status) ≡ 36
 status_length status =
-    nine_words status.set status.sequence_number status.make_send_count status.limit status.messages status.send_once_count
-    (number_of_bool status.has_senders) (number_of_bool status.has_port_destroyed_request) (number_of_bool status.has_no_senders_request)
+    nine_words status.set status.sequence_number status.make_send_count status.limit status.messages
+    status.send_once_count
+    (number_of_bool status.has_senders) (number_of_bool status.has_port_destroyed_request)
+    (number_of_bool status.has_no_senders_request)
 
 short_within : (answer : Reply) → is_short answer ≡ true → IsWithin 44 answer
 unfolding reply_encoding
@@ -66,20 +90,32 @@ short_within (reply.Done number) short = record { bytes = omega (arith, done_len
 short_within (reply.Names names) short = absurd (cc short)
 short_within (reply.Type bits) short = record { bytes = omega (arith, done_length 2 (word bits), length-word bits) }
 short_within (reply.Allocate name) short = record { bytes = omega (arith, done_length 5 (word name), length-word name) }
-short_within (reply.References count) short = record { bytes = omega (arith, done_length 8 (word count), length-word count) }
-short_within (reply.ReceiveStatus status) short = record { bytes = omega (arith, done_length 13 (status_encoding status), status_length status) }
+short_within (reply.References count) short =
+    record { bytes = omega (arith, done_length 8 (word count), length-word count) }
+short_within (reply.ReceiveStatus status) short =
+    record { bytes = omega (arith, done_length 13 (status_encoding status), status_length status) }
 short_within (reply.SetStatus members) short = absurd (cc short)
-short_within (reply.PreviousTarget name) short = record { bytes = omega (arith, done_length 16 (word name), length-word name) }
-short_within (reply.Extracted name kind) short = record { bytes = omega (arith, done_length 18 (word name ++ word (number_of_kind kind)), two_words name (number_of_kind kind)) }
+short_within (reply.PreviousTarget name) short =
+    record { bytes = omega (arith, done_length 16 (word name), length-word name) }
+short_within (reply.Extracted name kind) short =
+    record {
+      bytes = omega (
+        arith,
+        done_length 18 (word name ++ word (number_of_kind kind)),
+        two_words name (number_of_kind kind),
+      );
+    }
 short_within (reply.Message code size member message) short = absurd (cc short)
-short_within (reply.SpaceCreated space name) short = record { bytes = omega (arith, done_length 20 (word space ++ word name), two_words space name) }
+short_within (reply.SpaceCreated space name) short =
+    record { bytes = omega (arith, done_length 20 (word space ++ word name), two_words space name) }
 
 wider : (less most : ℕ) (answer : Reply) → less ≤ most → IsWithin less answer → IsWithin most answer
 wider less most answer le is = record { bytes = omega (arith, le, is.bytes) }
 
 -- Lists of names and members.
 
-flat_length : {A : Type 0} (n : ℕ) (f : A → List ℕ) → ((x : A) → length (f x) ≡ n) → (xs : List A) → length (flat_map f xs) ≡ n * length xs
+flat_length : {A : Type 0} (n : ℕ) (f : A → List ℕ) → ((x : A) → length (f x) ≡ n) → (xs : List A)
+    → length (flat_map f xs) ≡ n * length xs
 flat_length n f each [] = omega arith
 flat_length n f each (x ∷ xs) = omega (arith, length-append (f x) (flat_map f xs), each x, flat_length n f each xs)
 
@@ -97,12 +133,30 @@ listed_within : (names : List NamedType) → length names ≤ MAX_NAMES → IsWi
 unfolding reply_encoding
 listed_within names few =
     let pairs : List ℕ = flat_map (λ (n : NamedType). word n.name ++ word n.bits) names in
-    record { bytes = omega (arith, done_length 1 (word (length names) ++ pairs), length-append (word (length names)) pairs, length-word (length names), flat_length 8 (λ (n : NamedType). word n.name ++ word n.bits) named_length names, few) }
+    record {
+      bytes = omega (
+        arith,
+        done_length 1 (word (length names) ++ pairs),
+        length-append (word (length names)) pairs,
+        length-word (length names),
+        flat_length 8 (λ (n : NamedType). word n.name ++ word n.bits) named_length names,
+        few,
+      );
+    }
 
 members_within : (members : List ℕ) → length members ≤ MAX_NAMES → IsWithin 32780 (reply.SetStatus members)
 unfolding reply_encoding
 members_within members few =
-    record { bytes = omega (arith, done_length 14 (word (length members) ++ flat_map word members), length-append (word (length members)) (flat_map word members), length-word (length members), flat_length 4 word length-word members, few) }
+    record {
+      bytes = omega (
+        arith,
+        done_length 14 (word (length members) ++ flat_map word members),
+        length-append (word (length members)) (flat_map word members),
+        length-word (length members),
+        flat_length 4 word length-word members,
+        few,
+      );
+    }
 
 abbrev as_named : ℕ × Entry → NamedType
 as_named e = record { name = e.0; bits = type_of e.1 }
@@ -110,9 +164,16 @@ as_named e = record { name = e.0; bits = type_of e.1 }
 few_named : (names : Names) → finmap.len names ≤ MAX_NAMES → length (map as_named (finmap.entries names)) ≤ MAX_NAMES
 few_named names few = omega (arith, map_length as_named (finmap.entries names), len-entries names, few)
 
-few_members : (state : State) (names : Names) (set : ℕ) → finmap.len names ≤ MAX_NAMES → length (members_of state names set) ≤ MAX_NAMES
+few_members : (state : State) (names : Names) (set : ℕ) → finmap.len names ≤ MAX_NAMES
+    → length (members_of state names set) ≤ MAX_NAMES
 few_members state names set few =
-    omega (arith, map_length (λ (e : ℕ × Entry). e.0) (filter (λ e. is_member state set e.1) (finmap.entries names)), filter_length (λ (e : ℕ × Entry). is_member state set e.1) (finmap.entries names), len-entries names, few)
+    omega (
+      arith,
+      map_length (λ (e : ℕ × Entry). e.0) (filter (λ e. is_member state set e.1) (finmap.entries names)),
+      filter_length (λ (e : ℕ × Entry). is_member state set e.1) (finmap.entries names),
+      len-entries names,
+      few,
+    )
 
 -- Replies.
 
@@ -135,36 +196,61 @@ no_listing_14 c is = λ same. absurd (omega (arith, same))
 pub wide : (answer : Reply) → IsWithin 44 answer → IsWithin 32780 answer
 wide answer is = wider 44 32780 answer (omega arith) is
 
-short_done : (old : State) (space : ℕ) (names : Names) (c : Call) (answer : Reply) (new : State) (effects : List Effect) → is_listing c ≡ false → Done old space names c answer new effects → IsWithin 32780 answer
+short_done : (old : State) (space : ℕ) (names : Names) (c : Call) (answer : Reply) (new : State) (effects : List Effect)
+    → is_listing c ≡ false → Done old space names c answer new effects → IsWithin 32780 answer
 short_done old space names c answer new effects is acts =
-    wide answer (short_within answer ((answers_done old space names c answer new effects acts).short (no_listing_1 c is) (no_listing_14 c is)))
+    wide answer (short_within answer
+    ((answers_done old space names c answer new effects acts).short (no_listing_1 c is) (no_listing_14 c is)))
 
-done_within : (old : State) (space : ℕ) (names : Names) (c : Call) (answer : Reply) (new : State) (effects : List Effect) → finmap.len names ≤ MAX_NAMES → Done old space names c answer new effects → IsWithin 32780 answer
+done_within : (old : State) (space : ℕ) (names : Names) (c : Call) (answer : Reply) (new : State)
+    (effects : List Effect) → finmap.len names ≤ MAX_NAMES → Done old space names c answer new effects
+    → IsWithin 32780 answer
 unfolding Done
-done_within old space names call.Names answer new effects few acts = within 32780 _ answer acts.0 (listed_within _ (few_named names few))
-done_within old space names (call.GetSetStatus name) answer new effects few acts = within 32780 _ answer acts.0 (members_within _ (few_members old names name few))
+done_within old space names call.Names answer new effects few acts =
+    within 32780 _ answer acts.0 (listed_within _ (few_named names few))
+done_within old space names (call.GetSetStatus name) answer new effects few acts =
+    within 32780 _ answer acts.0 (members_within _ (few_members old names name few))
 done_within old space names c answer new effects few acts =
     short_done old space names c answer new effects refl acts
 
-called_within : (refusal : Option KernReturn) (old : State) (space : ℕ) (names : Names) (c : Call) (answer : Reply) (new : State) (effects : List Effect) → finmap.len names ≤ MAX_NAMES → Called refusal old space names c answer new effects → IsWithin 32780 answer
-called_within None old space names c answer new effects few acts = done_within old space names c answer new effects few acts
-called_within (Some code) old space names c answer new effects few acts = within 32780 _ answer acts.0 (wide _ (short_within (reply.Refused (number_of_call c) code) refl))
+called_within : (refusal : Option KernReturn) (old : State) (space : ℕ) (names : Names) (c : Call) (answer : Reply)
+    (new : State) (effects : List Effect) → finmap.len names ≤ MAX_NAMES
+    → Called refusal old space names c answer new effects → IsWithin 32780 answer
+called_within None old space names c answer new effects few acts =
+    done_within old space names c answer new effects few acts
+called_within (Some code) old space names c answer new effects few acts =
+    within 32780 _ answer acts.0 (wide _ (short_within (reply.Refused (number_of_call c) code) refl))
 
 message_within : (code : KernReturn) → IsWithin 44 (without_message code 0 0)
 unfolding reply_encoding
 message_within code =
     let results : List ℕ = word 0 ++ (word 0 ++ []) in
-    record { bytes = omega (arith, length-append (word 19) (word (number_of code) ++ results), length-append (word (number_of code)) results, length-append (word 0) (word 0 ++ []), length-append (word 0) [], length-word 19, length-word (number_of code), length-word 0) }
+    record {
+      bytes = omega (
+        arith,
+        length-append (word 19) (word (number_of code) ++ results),
+        length-append (word (number_of code)) results,
+        length-append (word 0) (word 0 ++ []),
+        length-append (word 0) [],
+        length-word 19,
+        length-word (number_of code),
+        length-word 0,
+      );
+    }
 
 pub refused_within : (c : Call) (code : KernReturn) → IsWithin 44 (refused c code)
 refused_within (call.Send message) code = message_within code
 refused_within (call.Receive limit large name waited) code = message_within code
 refused_within c code = short_within (refused c code) refl
 
-pub from_within : (o : Option Names) (old : State) (space : ℕ) (c : Call) (answer : Reply) (new : State) (effects : List Effect) → finmap.get old.spaces space ≡ o → is_port_call c ≡ true → Lawful old → ActsFrom old space o c answer new effects → IsWithin 32780 answer
-from_within None old space c answer new effects is port lawful acts = within 32780 _ answer acts.0 (wide _ (refused_within c _))
+pub from_within : (o : Option Names) (old : State) (space : ℕ) (c : Call) (answer : Reply) (new : State)
+    (effects : List Effect) → finmap.get old.spaces space ≡ o → is_port_call c ≡ true → Lawful old
+    → ActsFrom old space o c answer new effects → IsWithin 32780 answer
+from_within None old space c answer new effects is port lawful acts =
+    within 32780 _ answer acts.0 (wide _ (refused_within c _))
 from_within (Some names) old space c answer new effects is port lawful acts =
-    called_within (first_failing (tests_of old space names c)) old space names c answer new effects (lawful.spaces space names is).2.few (as_called c old space names answer new effects port acts)
+    called_within (first_failing (tests_of old space names c)) old space names c answer new effects
+    (lawful.spaces space names is).2.few (as_called c old space names answer new effects port acts)
 
 -- A reply has the number of its call.
 
@@ -173,9 +259,12 @@ refused_number (call.Send message) code = refl
 refused_number (call.Receive limit large name waited) code = refl
 refused_number c code = refl
 
-pub from_number : (o : Option Names) (old : State) (space : ℕ) (c : Call) (answer : Reply) (new : State) (effects : List Effect) → is_port_call c ≡ true → ActsFrom old space o c answer new effects → number_of_reply answer ≡ number_of_call c
+pub from_number : (o : Option Names) (old : State) (space : ℕ) (c : Call) (answer : Reply) (new : State)
+    (effects : List Effect) → is_port_call c ≡ true → ActsFrom old space o c answer new effects
+    → number_of_reply answer ≡ number_of_call c
 from_number None old space c answer new effects port acts = ap number_of_reply acts.0 ∙ refused_number c _
-from_number (Some names) old space c answer new effects port acts = answer_number old space names c answer new effects port acts
+from_number (Some names) old space c answer new effects port acts =
+    answer_number old space names c answer new effects port acts
 
 -- Calls.
 
@@ -183,7 +272,8 @@ one_word : (a : ℕ) → length (word a ++ []) ≡ 4
 one_word a = omega (arith, length-append (word a) [], length-word a)
 
 four_words : (a b c d : ℕ) → length (word a ++ (word b ++ (word c ++ word d))) ≡ 16
-four_words a b c d = omega (arith, length-append (word a) (word b ++ (word c ++ word d)), three_words b c d, length-word a)
+four_words a b c d =
+    omega (arith, length-append (word a) (word b ++ (word c ++ word d)), three_words b c d, length-word a)
 
 six_words : (a b c d e f : ℕ) → length (word a ++ (word b ++ (word c ++ (word d ++ (word e ++ word f))))) ≡ 24
 six_words a b c d e f = omega (arith, three_more a b c (word d ++ (word e ++ word f)), three_words d e f)
@@ -207,8 +297,10 @@ arguments_within (call.SetSeqno name seqno) port = omega (arith, three_words 12 
 arguments_within (call.GetReceiveStatus name) port = omega (arith, two_words 13 name)
 arguments_within (call.GetSetStatus name) port = omega (arith, two_words 14 name)
 arguments_within (call.MoveMember member after) port = omega (arith, three_words 15 member after)
-arguments_within (call.RequestNotification name variant sync notify_name disposition) port = omega (arith, six_words 16 name variant sync notify_name disposition)
-arguments_within (call.InsertRight name right_name disposition) port = omega (arith, four_words 17 name right_name disposition)
+arguments_within (call.RequestNotification name variant sync notify_name disposition) port =
+    omega (arith, six_words 16 name variant sync notify_name disposition)
+arguments_within (call.InsertRight name right_name disposition) port =
+    omega (arith, four_words 17 name right_name disposition)
 arguments_within (call.ExtractRight name disposition) port = omega (arith, three_words 18 name disposition)
 arguments_within (call.Send message) port = absurd (cc port)
 arguments_within (call.Receive limit large name waited) port = absurd (cc port)
@@ -220,13 +312,31 @@ pub send_length : (message : List ℕ) → length (call_encoding (call.Send mess
 unfolding call_encoding
 send_length message =
     let behind : List ℕ = word 0 ++ (word 0 ++ message) in
-    omega (arith, three_more 19 1 0 behind, length-append (word 0) (word 0 ++ message), length-append (word 0) message, length-word 0)
+    omega (
+      arith,
+      three_more 19 1 0 behind,
+      length-append (word 0) (word 0 ++ message),
+      length-append (word 0) message,
+      length-word 0,
+    )
 
-pub receive_length : (limit name : ℕ) (large waited : Bool) → length (call_encoding (call.Receive limit large name waited)) ≡ 20
+pub receive_length : (limit name : ℕ) (large waited : Bool)
+    → length (call_encoding (call.Receive limit large name waited)) ≡ 20
 unfolding call_encoding
 receive_length limit name large waited =
-    omega (arith, three_more 19 (receive_option large) limit (word name ++ word (number_of_bool waited)), two_words name (number_of_bool waited))
+    omega (
+      arith,
+      three_more 19 (receive_option large) limit (word name ++ word (number_of_bool waited)),
+      two_words name (number_of_bool waited),
+    )
 
-pub message_length : (code : KernReturn) (size member : ℕ) (message : List ℕ) → length (reply_encoding (reply.Message code size member message)) ≡ 16 + length message
+pub message_length : (code : KernReturn) (size member : ℕ) (message : List ℕ)
+    → length (reply_encoding (reply.Message code size member message)) ≡ 16 + length message
 unfolding reply_encoding
-message_length code size member message = omega (arith, three_more 19 (number_of code) size (word member ++ message), length-append (word member) message, length-word member)
+message_length code size member message =
+    omega (
+      arith,
+      three_more 19 (number_of code) size (word member ++ message),
+      length-append (word member) message,
+      length-word member,
+    )

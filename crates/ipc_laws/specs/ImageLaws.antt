@@ -101,37 +101,53 @@ pub record Encodable (state : State) : Type 0 where
 
 -- Equal bytes that begin with encodings of this form begin with the encoding of one thing, if the things satisfy P.
 abbrev pub HasOneEncoding : {A : Type 0} → (A → List ℕ) → (A → Type 0) → Type 0
-HasOneEncoding {A} encoding P = (a b : A) (x y : List ℕ) → P a → P b → encoding a ++ x ≡ encoding b ++ y → (a ≡ b) × (x ≡ y)
+HasOneEncoding {A} encoding P =
+    (a b : A) (x y : List ℕ) → P a → P b → encoding a ++ x ≡ encoding b ++ y → (a ≡ b) × (x ≡ y)
 
 module _ {A : Type 0} where
   -- equal bytes that begin with the encodings of equally many things
-  pub list_once : (encoding : A → List ℕ) (P : A → Type 0) → HasOneEncoding encoding P → (some others : List A) (x y : List ℕ)
+  pub list_once : (encoding : A → List ℕ) (P : A → Type 0) → HasOneEncoding encoding P
+      → (some others : List A) (x y : List ℕ)
       → All P some → All P others → length some ≡ length others
       → flat_map encoding some ++ x ≡ flat_map encoding others ++ y → (some ≡ others) × (x ≡ y)
   list_once encoding P once [] [] x y are are_too long e = (refl, e)
   list_once encoding P once [] (b ∷ more_too) x y are are_too long e = absurd (omega (arith, long))
   list_once encoding P once (a ∷ more) [] x y are are_too long e = absurd (omega (arith, long))
   list_once encoding P once (a ∷ more) (b ∷ more_too) x y are are_too long e =
-      let whole = sym (append_assoc (encoding a) (flat_map encoding more) x) ∙ e ∙ append_assoc (encoding b) (flat_map encoding more_too) y in
-      let first = once a b (flat_map encoding more ++ x) (flat_map encoding more_too ++ y) (all_head P a more are) (all_head P b more_too are_too) whole in
-      let others = list_once encoding P once more more_too x y (all_tail P a more are) (all_tail P b more_too are_too) (omega (arith, long)) first.1 in
+      let whole =
+      sym (append_assoc (encoding a) (flat_map encoding more) x) ∙ e
+      ∙ append_assoc (encoding b) (flat_map encoding more_too) y in
+      let first =
+      once a b (flat_map encoding more ++ x) (flat_map encoding more_too ++ y) (all_head P a more are)
+      (all_head P b more_too are_too) whole in
+      let others =
+      list_once encoding P once more more_too x y (all_tail P a more are) (all_tail P b more_too are_too)
+      (omega (arith, long)) first.1 in
       ((λ i. first.0 i ∷ others.0 i), others.1)
 
   -- equal bytes that begin with a count and the encodings of that many things
-  pub counted_once : (encoding : A → List ℕ) (P : A → Type 0) → HasOneEncoding encoding P → (some others : List A) (x y : List ℕ)
+  pub counted_once : (encoding : A → List ℕ) (P : A → Type 0) → HasOneEncoding encoding P
+      → (some others : List A) (x y : List ℕ)
       → length some < 2 ^ 32 → length others < 2 ^ 32 → All P some → All P others
-      → word (length some) ++ (flat_map encoding some ++ x) ≡ word (length others) ++ (flat_map encoding others ++ y) → (some ≡ others) × (x ≡ y)
+      → word (length some) ++ (flat_map encoding some ++ x) ≡ word (length others) ++ (flat_map encoding others ++ y)
+      → (some ≡ others) × (x ≡ y)
   counted_once encoding P once some others x y few few_too are are_too e =
-      let counts = word_once (length some) (length others) (flat_map encoding some ++ x) (flat_map encoding others ++ y) few few_too e in
+      let counts =
+      word_once (length some) (length others) (flat_map encoding some ++ x)
+      (flat_map encoding others ++ y) few few_too e in
       list_once encoding P once some others x y are are_too counts.0 counts.1
 
 module _ {X : Type 0} where
   -- equal bytes that begin with a finite map: how many keys it has, and its entries
-  pub map_once : (encoding : ℕ × X → List ℕ) (P : ℕ × X → Type 0) → HasOneEncoding encoding P → (m n : FinMap nat_cmp X) (x y : List ℕ)
+  pub map_once : (encoding : ℕ × X → List ℕ) (P : ℕ × X → Type 0) → HasOneEncoding encoding P
+      → (m n : FinMap nat_cmp X) (x y : List ℕ)
       → finmap.len m < 2 ^ 32 → finmap.len n < 2 ^ 32 → All P (finmap.entries m) → All P (finmap.entries n)
-      → word (finmap.len m) ++ (flat_map encoding (finmap.entries m) ++ x) ≡ word (finmap.len n) ++ (flat_map encoding (finmap.entries n) ++ y) → (m ≡ n) × (x ≡ y)
+      → word (finmap.len m) ++ (flat_map encoding (finmap.entries m) ++ x) ≡ word (finmap.len n)
+      ++ (flat_map encoding (finmap.entries n) ++ y) → (m ≡ n) × (x ≡ y)
   map_once encoding P once m n x y few few_too are are_too e =
-      let counts = word_once (finmap.len m) (finmap.len n) (flat_map encoding (finmap.entries m) ++ x) (flat_map encoding (finmap.entries n) ++ y) few few_too e in
+      let counts =
+      word_once (finmap.len m) (finmap.len n) (flat_map encoding (finmap.entries m) ++ x)
+      (flat_map encoding (finmap.entries n) ++ y) few few_too e in
       let long = sym (len-entries m) ∙ counts.0 ∙ len-entries n in
       let parts = list_once encoding P once (finmap.entries m) (finmap.entries n) x y are are_too long counts.1 in
       (same_entries_map m n parts.0, parts.1)
@@ -185,16 +201,20 @@ kind_back kind.Send = refl
 kind_back kind.SendOnce = refl
 
 kind_once : (a b : RightKind) (x y : List ℕ) → number_of_kind a ∷ x ≡ number_of_kind b ∷ y → (a ≡ b) × (x ≡ y)
-kind_once a b x y e =
-    (sym (kind_back a) ∙ ap kind_of_number (same_head (number_of_kind a) (number_of_kind b) x y e) ∙ kind_back b, same_tail (number_of_kind a) (number_of_kind b) x y e)
+kind_once a b x y e = (
+  sym (kind_back a) ∙ ap kind_of_number (same_head (number_of_kind a) (number_of_kind b) x y e) ∙ kind_back b,
+  same_tail (number_of_kind a) (number_of_kind b) x y e,
+)
 
 bool_back : (b : Bool) → (number_of_bool b == 1) ≡ b
 bool_back true = refl
 bool_back false = refl
 
 bool_once : (a b : Bool) (x y : List ℕ) → number_of_bool a ∷ x ≡ number_of_bool b ∷ y → (a ≡ b) × (x ≡ y)
-bool_once a b x y e =
-    (sym (bool_back a) ∙ ap (λ (n : ℕ). n == 1) (same_head (number_of_bool a) (number_of_bool b) x y e) ∙ bool_back b, same_tail (number_of_bool a) (number_of_bool b) x y e)
+bool_once a b x y e = (
+  sym (bool_back a) ∙ ap (λ (n : ℕ). n == 1) (same_head (number_of_bool a) (number_of_bool b) x y e) ∙ bool_back b,
+  same_tail (number_of_bool a) (number_of_bool b) x y e,
+)
 
 -- what stands in a port's place, in two numbers
 abbrev place_tag : PortInMessage → ℕ
@@ -210,7 +230,8 @@ place_serial (in_message.Live serial) = serial
 abbrev place_of : ℕ → ℕ → PortInMessage
 place_of tag serial = if tag == 0 then in_message.Null else if tag == 1 then in_message.Dead else in_message.Live serial
 
-place_apart : (place : PortInMessage) (rest : List ℕ) → place_encoding place ++ rest ≡ place_tag place ∷ (long_word (place_serial place) ++ rest)
+place_apart : (place : PortInMessage) (rest : List ℕ)
+    → place_encoding place ++ rest ≡ place_tag place ∷ (long_word (place_serial place) ++ rest)
 place_apart in_message.Null rest = refl
 place_apart in_message.Dead rest = refl
 place_apart (in_message.Live serial) rest = refl
@@ -231,7 +252,9 @@ place_once a b x y fits fits_too e =
     let serials_a = long_word (place_serial a) ++ x in
     let serials_b = long_word (place_serial b) ++ y in
     let tags = same_head (place_tag a) (place_tag b) serials_a serials_b whole in
-    let serials = long_word_once (place_serial a) (place_serial b) x y (place_fits a fits) (place_fits b fits_too) (same_tail (place_tag a) (place_tag b) serials_a serials_b whole) in
+    let serials =
+    long_word_once (place_serial a) (place_serial b) x y (place_fits a fits) (place_fits b fits_too)
+    (same_tail (place_tag a) (place_tag b) serials_a serials_b whole) in
     (sym (place_back a) ∙ (λ i. place_of (tags i) (serials.0 i)) ∙ place_back b, serials.1)
 
 pub carried_once : HasOneEncoding carried_encoding EncodableRight
@@ -246,24 +269,33 @@ kind_is_not_0 kind.Send e = omega (arith, e)
 kind_is_not_0 kind.SendOnce e = omega (arith, e)
 
 pub reply_right_once : HasOneEncoding reply_right_encoding EncodableReplyRight
-reply_right_once None None x y fits fits_too e = (refl, (place_once in_message.Null in_message.Null x y tt tt (same_tail 0 0 (place_encoding in_message.Null ++ x) (place_encoding in_message.Null ++ y) e)).1)
+reply_right_once None None x y fits fits_too e = (
+  refl,
+  (place_once in_message.Null in_message.Null x y tt tt
+      (same_tail 0 0 (place_encoding in_message.Null ++ x) (place_encoding in_message.Null ++ y) e)).1,
+)
 reply_right_once None (Some b) x y fits fits_too e =
-    absurd (kind_is_not_0 b.kind (same_head 0 (number_of_kind b.kind) (place_encoding in_message.Null ++ x) (place_encoding b.port ++ y) e))
+    absurd (kind_is_not_0 b.kind (same_head 0 (number_of_kind b.kind) (place_encoding in_message.Null ++ x)
+    (place_encoding b.port ++ y) e))
 reply_right_once (Some a) None x y fits fits_too e =
-    absurd (kind_is_not_0 a.kind (sym (same_head (number_of_kind a.kind) 0 (place_encoding a.port ++ x) (place_encoding in_message.Null ++ y) e)))
+    absurd (kind_is_not_0 a.kind (sym
+    (same_head (number_of_kind a.kind) 0 (place_encoding a.port ++ x) (place_encoding in_message.Null ++ y) e)))
 reply_right_once (Some a) (Some b) x y fits fits_too e =
     let rights = carried_once a b x y fits fits_too e in
     ((λ i. Some (rights.0 i)), rights.1)
 
 -- a message's image in its parts, and what follows it
 abbrev after_rights : Message → List ℕ → List ℕ
-after_rights message rest = word (length message.rights) ++ (flat_map carried_encoding message.rights ++ (message.body ++ rest))
+after_rights message rest =
+    word (length message.rights) ++ (flat_map carried_encoding message.rights ++ (message.body ++ rest))
 
 abbrev after_reply : Message → List ℕ → List ℕ
-after_reply message rest = word message.id ++ (word (message_size message) ++ (number_of_bool message.complex ∷ after_rights message rest))
+after_reply message rest =
+    word message.id ++ (word (message_size message) ++ (number_of_bool message.complex ∷ after_rights message rest))
 
 message_apart : (message : Message) (rest : List ℕ)
-    → message_image message ++ rest ≡ number_of_kind message.destination ∷ (reply_right_encoding message.reply ++ after_reply message rest)
+    → message_image message ++ rest
+    ≡ number_of_kind message.destination ∷ (reply_right_encoding message.reply ++ after_reply message rest)
 message_apart message rest = simp append_assoc
 
 same_size : (m n : ℕ) → 24 + m ≡ 24 + n → m ≡ n
@@ -274,28 +306,46 @@ message_once a b x y fits fits_too e =
     let whole = sym (message_apart a x) ∙ e ∙ message_apart b y in
     let flag_a = number_of_bool a.complex ∷ after_rights a x in
     let flag_b = number_of_bool b.complex ∷ after_rights b y in
-    let destination = kind_once a.destination b.destination (reply_right_encoding a.reply ++ after_reply a x) (reply_right_encoding b.reply ++ after_reply b y) whole in
-    let reply = reply_right_once a.reply b.reply (after_reply a x) (after_reply b y) fits.reply fits_too.reply destination.1 in
-    let id = word_once a.id b.id (word (message_size a) ++ flag_a) (word (message_size b) ++ flag_b) fits.id fits_too.id reply.1 in
+    let destination =
+    kind_once a.destination b.destination (reply_right_encoding a.reply ++ after_reply a x)
+    (reply_right_encoding b.reply ++ after_reply b y) whole in
+    let reply =
+    reply_right_once a.reply b.reply (after_reply a x) (after_reply b y) fits.reply fits_too.reply destination.1 in
+    let id =
+    word_once a.id b.id (word (message_size a) ++ flag_a)
+    (word (message_size b) ++ flag_b) fits.id fits_too.id reply.1 in
     let size = word_once (message_size a) (message_size b) flag_a flag_b fits.size fits_too.size id.1 in
     let complex = bool_once a.complex b.complex (after_rights a x) (after_rights b y) size.1 in
-    let rights = counted_once carried_encoding EncodableRight carried_once a.rights b.rights (a.body ++ x) (b.body ++ y) fits.few_rights fits_too.few_rights fits.rights fits_too.rights complex.1 in
+    let rights =
+    counted_once carried_encoding EncodableRight carried_once a.rights b.rights (a.body ++ x)
+    (b.body ++ y) fits.few_rights fits_too.few_rights fits.rights fits_too.rights complex.1 in
     let long = same_size (length a.body) (length b.body) size.0 in
-    let body = same_front a.body b.body x y long rights.1 in
-    ((λ i. record { destination = destination.0 i; reply = reply.0 i; id = id.0 i; complex = complex.0 i; rights = rights.0 i; body = body i }), same_back a.body b.body x y long rights.1)
+    let body = same_front a.body b.body x y long rights.1 in (
+      (λ i. record {
+        destination = destination.0 i;
+        reply = reply.0 i;
+        id = id.0 i;
+        complex = complex.0 i;
+        rights = rights.0 i;
+        body = body i;
+      }),
+      same_back a.body b.body x y long rights.1,
+    )
 
 -- a port's encoding in its parts, and what follows it
 abbrev after_targets : PortState → List ℕ → List ℕ
 after_targets port rest = word (length port.messages) ++ (flat_map message_image port.messages ++ rest)
 
 abbrev after_set : PortState → List ℕ → List ℕ
-after_set port rest = target_encoding port.no_senders_target ++ (target_encoding port.port_destroyed_target ++ after_targets port rest)
+after_set port rest =
+    target_encoding port.no_senders_target ++ (target_encoding port.port_destroyed_target ++ after_targets port rest)
 
 abbrev after_counts : PortState → List ℕ → List ℕ
 after_counts port rest = set_encoding port.set ++ after_set port rest
 
 port_apart : (port : PortState) (rest : List ℕ)
-    → port_encoding port ++ rest ≡ word port.limit ++ (word port.sequence_number ++ (word port.make_send_count ++ after_counts port rest))
+    → port_encoding port ++ rest ≡ word port.limit
+    ++ (word port.sequence_number ++ (word port.make_send_count ++ after_counts port rest))
 port_apart port rest = simp append_assoc
 
 pub port_once : HasOneEncoding port_encoding EncodablePort
@@ -303,15 +353,27 @@ port_once a b x y fits fits_too e =
     let whole = sym (port_apart a x) ∙ e ∙ port_apart b y in
     let counts_a = word a.make_send_count ++ after_counts a x in
     let counts_b = word b.make_send_count ++ after_counts b y in
-    let limit = word_once a.limit b.limit (word a.sequence_number ++ counts_a) (word b.sequence_number ++ counts_b) fits.limit fits_too.limit whole in
-    let number = word_once a.sequence_number b.sequence_number counts_a counts_b fits.sequence_number fits_too.sequence_number limit.1 in
-    let count = word_once a.make_send_count b.make_send_count (after_counts a x) (after_counts b y) fits.make_send_count fits_too.make_send_count number.1 in
+    let limit =
+    word_once a.limit b.limit (word a.sequence_number ++ counts_a)
+    (word b.sequence_number ++ counts_b) fits.limit fits_too.limit whole in
+    let number =
+    word_once a.sequence_number b.sequence_number counts_a counts_b fits.sequence_number fits_too.sequence_number
+    limit.1 in
+    let count =
+    word_once a.make_send_count b.make_send_count (after_counts a x)
+    (after_counts b y) fits.make_send_count fits_too.make_send_count number.1 in
     let set = set_once a.set b.set (after_set a x) (after_set b y) fits.set fits_too.set count.1 in
     let destroyed_a = target_encoding a.port_destroyed_target ++ after_targets a x in
     let destroyed_b = target_encoding b.port_destroyed_target ++ after_targets b y in
-    let no_senders = target_once a.no_senders_target b.no_senders_target destroyed_a destroyed_b fits.no_senders_target fits_too.no_senders_target set.1 in
-    let destroyed = target_once a.port_destroyed_target b.port_destroyed_target (after_targets a x) (after_targets b y) fits.port_destroyed_target fits_too.port_destroyed_target no_senders.1 in
-    let messages = counted_once message_image EncodableMessage message_once a.messages b.messages x y fits.few_messages fits_too.few_messages fits.messages fits_too.messages destroyed.1 in
+    let no_senders =
+    target_once a.no_senders_target b.no_senders_target destroyed_a destroyed_b fits.no_senders_target
+    fits_too.no_senders_target set.1 in
+    let destroyed =
+    target_once a.port_destroyed_target b.port_destroyed_target (after_targets a x)
+    (after_targets b y) fits.port_destroyed_target fits_too.port_destroyed_target no_senders.1 in
+    let messages =
+    counted_once message_image EncodableMessage message_once a.messages b.messages x y fits.few_messages
+    fits_too.few_messages fits.messages fits_too.messages destroyed.1 in
     let same : a ≡ b = λ i. record {
       limit = limit.0 i;
       sequence_number = number.0 i;
@@ -331,7 +393,9 @@ entry_tag Set = 3
 entry_tag (Dead references) = 4
 
 abbrev after_tag : Entry → List ℕ → List ℕ
-after_tag (Port rights) rest = long_word rights.port ++ (number_of_bool rights.receive ∷ (word rights.send ++ (target_encoding rights.dead_name_target ++ rest)))
+after_tag (Port rights) rest =
+    long_word rights.port ++ (number_of_bool rights.receive ∷
+    (word rights.send ++ (target_encoding rights.dead_name_target ++ rest)))
 after_tag (SendOnce port target) rest = long_word port ++ (target_encoding target ++ rest)
 after_tag Set rest = rest
 after_tag (Dead references) rest = word references ++ rest
@@ -342,17 +406,25 @@ entry_apart (SendOnce port target) rest = simp append_assoc
 entry_apart Set rest = refl
 entry_apart (Dead references) rest = refl
 
-same_entry : (a b : Entry) (x y : List ℕ) → EncodableEntry a → EncodableEntry b → entry_tag a ≡ entry_tag b → after_tag a x ≡ after_tag b y → (a ≡ b) × (x ≡ y)
+same_entry : (a b : Entry) (x y : List ℕ) → EncodableEntry a → EncodableEntry b → entry_tag a ≡ entry_tag b
+    → after_tag a x ≡ after_tag b y → (a ≡ b) × (x ≡ y)
 same_entry (Port a) (Port b) x y fits fits_too tag e =
     let sends_a = word a.send ++ (target_encoding a.dead_name_target ++ x) in
     let sends_b = word b.send ++ (target_encoding b.dead_name_target ++ y) in
-    let port = long_word_once a.port b.port (number_of_bool a.receive ∷ sends_a) (number_of_bool b.receive ∷ sends_b) fits.0 fits_too.0 e in
+    let port =
+    long_word_once a.port b.port (number_of_bool a.receive ∷ sends_a)
+    (number_of_bool b.receive ∷ sends_b) fits.0 fits_too.0 e in
     let receive = bool_once a.receive b.receive sends_a sends_b port.1 in
-    let send = word_once a.send b.send (target_encoding a.dead_name_target ++ x) (target_encoding b.dead_name_target ++ y) fits.1 fits_too.1 receive.1 in
-    let target = target_once a.dead_name_target b.dead_name_target x y fits.2 fits_too.2 send.1 in
-    ((λ i. Port (record { port = port.0 i; receive = receive.0 i; send = send.0 i; dead_name_target = target.0 i })), target.1)
+    let send =
+    word_once a.send b.send (target_encoding a.dead_name_target ++ x)
+    (target_encoding b.dead_name_target ++ y) fits.1 fits_too.1 receive.1 in
+    let target = target_once a.dead_name_target b.dead_name_target x y fits.2 fits_too.2 send.1 in (
+      (λ i. Port (record { port = port.0 i; receive = receive.0 i; send = send.0 i; dead_name_target = target.0 i })),
+      target.1,
+    )
 same_entry (SendOnce a request) (SendOnce b request_too) x y fits fits_too tag e =
-    let port = long_word_once a b (target_encoding request ++ x) (target_encoding request_too ++ y) fits.0 fits_too.0 e in
+    let port =
+    long_word_once a b (target_encoding request ++ x) (target_encoding request_too ++ y) fits.0 fits_too.0 e in
     let target = target_once request request_too x y fits.1 fits_too.1 port.1 in
     ((λ i. SendOnce (port.0 i) (target.0 i)), target.1)
 same_entry Set Set x y fits fits_too tag e = (refl, e)
@@ -373,7 +445,8 @@ named_encoding e = word e.0 ++ entry_encoding e.1
 
 pub named_once : HasOneEncoding named_encoding EncodableNamed
 named_once a b x y fits fits_too e =
-    let whole = sym (append_assoc (word a.0) (entry_encoding a.1) x) ∙ e ∙ append_assoc (word b.0) (entry_encoding b.1) y in
+    let whole =
+    sym (append_assoc (word a.0) (entry_encoding a.1) x) ∙ e ∙ append_assoc (word b.0) (entry_encoding b.1) y in
     let name = word_once a.0 b.0 (entry_encoding a.1 ++ x) (entry_encoding b.1 ++ y) fits.0 fits_too.0 whole in
     let entry = entry_once a.1 b.1 x y fits.1 fits_too.1 name.1 in
     ((λ i. (name.0 i, entry.0 i)), entry.1)
@@ -382,7 +455,8 @@ pub names_once : HasOneEncoding names_encoding EncodableNames
 names_once a b x y fits fits_too e =
     let entries_a = flat_map named_encoding (finmap.entries a) in
     let entries_b = flat_map named_encoding (finmap.entries b) in
-    let whole = sym (append_assoc (word (finmap.len a)) entries_a x) ∙ e ∙ append_assoc (word (finmap.len b)) entries_b y in
+    let whole =
+    sym (append_assoc (word (finmap.len a)) entries_a x) ∙ e ∙ append_assoc (word (finmap.len b)) entries_b y in
     map_once named_encoding EncodableNamed named_once a b x y fits.few fits_too.few fits.entries fits_too.entries whole
 
 -- a space's number and its names, and a port's serial and what it keeps
@@ -391,7 +465,8 @@ space_encoding e = word e.0 ++ names_encoding e.1
 
 pub space_once : HasOneEncoding space_encoding EncodableSpace
 space_once a b x y fits fits_too e =
-    let whole = sym (append_assoc (word a.0) (names_encoding a.1) x) ∙ e ∙ append_assoc (word b.0) (names_encoding b.1) y in
+    let whole =
+    sym (append_assoc (word a.0) (names_encoding a.1) x) ∙ e ∙ append_assoc (word b.0) (names_encoding b.1) y in
     let space = word_once a.0 b.0 (names_encoding a.1 ++ x) (names_encoding b.1 ++ y) fits.0 fits_too.0 whole in
     let names = names_once a.1 b.1 x y fits.1 fits_too.1 space.1 in
     ((λ i. (space.0 i, names.0 i)), names.1)
@@ -401,30 +476,41 @@ live_port_encoding e = long_word e.0 ++ port_encoding e.1
 
 pub live_port_once : HasOneEncoding live_port_encoding EncodableLivePort
 live_port_once a b x y fits fits_too e =
-    let whole = sym (append_assoc (long_word a.0) (port_encoding a.1) x) ∙ e ∙ append_assoc (long_word b.0) (port_encoding b.1) y in
+    let whole =
+    sym (append_assoc (long_word a.0) (port_encoding a.1) x) ∙ e
+    ∙ append_assoc (long_word b.0) (port_encoding b.1) y in
     let serial = long_word_once a.0 b.0 (port_encoding a.1 ++ x) (port_encoding b.1 ++ y) fits.0 fits_too.0 whole in
     let port = port_once a.1 b.1 x y fits.1 fits_too.1 serial.1 in
     ((λ i. (serial.0 i, port.0 i)), port.1)
 
 -- a state's encoding in its parts, and what follows it
 abbrev after_spaces : State → List ℕ → List ℕ
-after_spaces state rest = word (finmap.len state.ports) ++ (flat_map live_port_encoding (finmap.entries state.ports) ++ rest)
+after_spaces state rest =
+    word (finmap.len state.ports) ++ (flat_map live_port_encoding (finmap.entries state.ports) ++ rest)
 
 abbrev after_next : State → List ℕ → List ℕ
-after_next state rest = word (finmap.len state.spaces) ++ (flat_map space_encoding (finmap.entries state.spaces) ++ after_spaces state rest)
+after_next state rest =
+    word (finmap.len state.spaces) ++ (flat_map space_encoding (finmap.entries state.spaces) ++ after_spaces state rest)
 
-image_apart : (state : State) (rest : List ℕ) → image_encoding state ++ rest ≡ long_word state.next ++ after_next state rest
+image_apart : (state : State) (rest : List ℕ)
+    → image_encoding state ++ rest ≡ long_word state.next ++ after_next state rest
 unfolding image_encoding
 image_apart state rest = simp append_assoc
 
 -- Equal bytes that begin with the image of a state begin with the image of only that state, followed by the same bytes.
 abbrev pub ImagesHaveOneEncoding : Type 0
-ImagesHaveOneEncoding = (a b : State) (x y : List ℕ) → Encodable a → Encodable b → image_encoding a ++ x ≡ image_encoding b ++ y → (a ≡ b) × (x ≡ y)
+ImagesHaveOneEncoding =
+    (a b : State) (x y : List ℕ) → Encodable a → Encodable b → image_encoding a ++ x ≡ image_encoding b ++ y → (a ≡ b)
+    × (x ≡ y)
 
 pub image_once : ImagesHaveOneEncoding
 image_once a b x y fits fits_too e =
     let whole = sym (image_apart a x) ∙ e ∙ image_apart b y in
     let next = long_word_once a.next b.next (after_next a x) (after_next b y) fits.next fits_too.next whole in
-    let spaces = map_once space_encoding EncodableSpace space_once a.spaces b.spaces (after_spaces a x) (after_spaces b y) fits.few_spaces fits_too.few_spaces fits.spaces fits_too.spaces next.1 in
-    let ports = map_once live_port_encoding EncodableLivePort live_port_once a.ports b.ports x y fits.few_ports fits_too.few_ports fits.ports fits_too.ports spaces.1 in
+    let spaces =
+    map_once space_encoding EncodableSpace space_once a.spaces b.spaces (after_spaces a x)
+    (after_spaces b y) fits.few_spaces fits_too.few_spaces fits.spaces fits_too.spaces next.1 in
+    let ports =
+    map_once live_port_encoding EncodableLivePort live_port_once a.ports b.ports x y fits.few_ports
+    fits_too.few_ports fits.ports fits_too.ports spaces.1 in
     ((λ i. record { spaces = spaces.0 i; ports = ports.0 i; next = next.0 i }), ports.1)

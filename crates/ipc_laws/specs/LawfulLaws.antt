@@ -13,7 +13,8 @@ abbrev pub LawfulAtRest : State → Type 0
 LawfulAtRest state = LawfulBut state []
 
 none_waits : (state : State) (serial : ℕ) → count_with kind.Receive state [] serial ≡ receive_count state serial
-none_waits state serial = ap (count_by (λ (r : Right). same_kind r.kind kind.Receive && r.port == serial)) (append-nil (placed state))
+none_waits state serial =
+    ap (count_by (λ (r : Right). same_kind r.kind kind.Receive && r.port == serial)) (append-nil (placed state))
 
 pub at_rest : (state : State) → Lawful state → LawfulAtRest state
 at_rest state lawful = record {
@@ -40,10 +41,12 @@ alone state lawful = record {
   next = lawful.next;
   one_receive = λ (serial : ℕ) (live : _). sym (none_waits state serial) ∙ lawful.one_receive serial live;
   live = lawful.live;
-  sets = λ (serial set : ℕ) (port : PortState) (at : _) (is : _). elim (lawful.sets serial set port at is) as (λ _. IsHeldAlongsideSet state serial set) [
-    | inl held ↦ held
-    | inr waits ↦ absurd (none_released serial waits)
-  ];
+  sets =
+      λ (serial set : ℕ) (port : PortState) (at : _) (is : _). elim (lawful.sets serial set port at is)
+      as (λ _. IsHeldAlongsideSet state serial set) [
+        | inl held ↦ held
+        | inr waits ↦ absurd (none_released serial waits)
+      ];
 }
 
 abbrev pub LawfulIsAtRest : Type 0

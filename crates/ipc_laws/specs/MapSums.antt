@@ -39,7 +39,8 @@ module _ {A : Type 0} where
   weigh-map f g (x ∷ xs) = ap (λ n. f (g x) + n) (weigh-map f g xs)
 
   -- the length of lists that are joined
-  pub length-flat_map : {B : Type 0} (f : A → List B) (xs : List A) → length (flat_map f xs) ≡ weigh (λ x. length (f x)) xs
+  pub length-flat_map : {B : Type 0} (f : A → List B) (xs : List A)
+      → length (flat_map f xs) ≡ weigh (λ x. length (f x)) xs
   length-flat_map f [] = refl
   length-flat_map f (x ∷ xs) = omega (arith, length-append (f x) (flat_map f xs), length-flat_map f xs)
 
@@ -51,7 +52,8 @@ module _ {A : Type 0} where
   weigh-sum f g [] = refl
   weigh-sum f g (x ∷ xs) = omega (arith, weigh-sum f g xs)
 
-pub weigh-flat_map : {A B : Type 0} (f : B → ℕ) (g : A → List B) (xs : List A) → weigh f (flat_map g xs) ≡ weigh (λ x. weigh f (g x)) xs
+pub weigh-flat_map : {A B : Type 0} (f : B → ℕ) (g : A → List B) (xs : List A)
+    → weigh f (flat_map g xs) ≡ weigh (λ x. weigh f (g x)) xs
 weigh-flat_map f g [] = refl
 weigh-flat_map f g (x ∷ xs) = weigh-append f (g x) (flat_map g xs) ∙ ap (λ n. weigh f (g x) + n) (weigh-flat_map f g xs)
 
@@ -63,18 +65,23 @@ not_none : {X : Type 0} (x : X) → Some x ≡ None → ⊥
 not_none x e = subst T (ap is_some e) tt
 
 module _ {X : Type 0} where
-  weigh-put : (f : ℕ → X → ℕ) (k : ℕ) (v : X) (es : List (ℕ × X)) → find nat_cmp k es ≡ None → weigh (λ e. f e.0 e.1) (put nat_cmp k v es) ≡ f k v + weigh (λ e. f e.0 e.1) es
+  weigh-put : (f : ℕ → X → ℕ) (k : ℕ) (v : X) (es : List (ℕ × X)) → find nat_cmp k es ≡ None
+      → weigh (λ e. f e.0 e.1) (put nat_cmp k v es) ≡ f k v + weigh (λ e. f e.0 e.1) es
   weigh-put f k v [] none = refl
   weigh-put f k v (e ∷ es) none =
       elim (nat_cmp k e.0) as (λ (r : Ordering). cond (is_eq r) (Some e.1) (find nat_cmp k es) ≡ None
-      → weigh (λ e. f e.0 e.1) (by_order r ((k, v) ∷ e ∷ es) ((e.0, v) ∷ es) (e ∷ put nat_cmp k v es)) ≡ f k v + (f e.0 e.1 + weigh (λ e. f e.0 e.1) es)) [
+      → weigh (λ e. f e.0 e.1) (by_order r ((k, v) ∷ e ∷ es) ((e.0, v) ∷ es) (e ∷ put nat_cmp k v es))
+      ≡ f k v + (f e.0 e.1 + weigh (λ e. f e.0 e.1) es)) [
         | Less ↦ λ (is : _). refl
         | Equal ↦ λ (is : _). absurd (not_none e.1 is)
         | Greater ↦ λ (is : _). omega (arith, weigh-put f k v es is)
       ] none
 
-  pub total-new : (f : ℕ → X → ℕ) (m : FinMap nat_cmp X) (k : ℕ) (v : X) → finmap.get m k ≡ None → total f (finmap.insert m k v) ≡ f k v + total f m
-  total-new f m k v none = ap (weigh (λ e. f e.0 e.1)) (entries-insert nat_cmp_total m k v) ∙ weigh-put f k v (finmap.entries m) (sym (get-entries m k) ∙ none)
+  pub total-new : (f : ℕ → X → ℕ) (m : FinMap nat_cmp X) (k : ℕ) (v : X) → finmap.get m k ≡ None
+      → total f (finmap.insert m k v) ≡ f k v + total f m
+  total-new f m k v none =
+      ap (weigh (λ e. f e.0 e.1)) (entries-insert nat_cmp_total m k v)
+      ∙ weigh-put f k v (finmap.entries m) (sym (get-entries m k) ∙ none)
 
 pub same_key : (k : ℕ) → eq_by_cmp nat_cmp k k ≡ true
 same_key k = (eq_by_cmp_equiv nat_cmp_total).refl k
@@ -105,21 +112,26 @@ module _ {X : Type 0} where
   removed : (m : FinMap nat_cmp X) (k : ℕ) → finmap.get (finmap.remove m k) k ≡ None
   removed m k = get-remove nat_cmp_total m k k ∙ ap (λ (b : Bool). cond b None (finmap.get m k)) (same_key k)
 
-  pub insert-insert : (m : FinMap nat_cmp X) (k : ℕ) (v w : X) → finmap.insert (finmap.insert m k v) k w ≡ finmap.insert m k w
+  pub insert-insert : (m : FinMap nat_cmp X) (k : ℕ) (v w : X)
+      → finmap.insert (finmap.insert m k v) k w ≡ finmap.insert m k w
   insert-insert m k v w = same_map nat_cmp_total nat_cmp-IsAntisymmetric _ _ (λ (q : ℕ).
-      get-insert nat_cmp_total (finmap.insert m k v) k w q ∙ ap (cond (eq_by_cmp nat_cmp q k) (Some w)) (get-insert nat_cmp_total m k v q)
+      get-insert nat_cmp_total (finmap.insert m k v) k w q
+      ∙ ap (cond (eq_by_cmp nat_cmp q k) (Some w)) (get-insert nat_cmp_total m k v q)
       ∙ twice (eq_by_cmp nat_cmp q k) (Some w) (Some v) (finmap.get m q) ∙ sym (get-insert nat_cmp_total m k w q))
 
   -- an entry that is taken out and put back
-  pub insert-remove : (m : FinMap nat_cmp X) (k : ℕ) (v : X) → finmap.insert (finmap.remove m k) k v ≡ finmap.insert m k v
+  pub insert-remove : (m : FinMap nat_cmp X) (k : ℕ) (v : X)
+      → finmap.insert (finmap.remove m k) k v ≡ finmap.insert m k v
   insert-remove m k v = same_map nat_cmp_total nat_cmp-IsAntisymmetric _ _ (λ (q : ℕ).
-      get-insert nat_cmp_total (finmap.remove m k) k v q ∙ ap (cond (eq_by_cmp nat_cmp q k) (Some v)) (get-remove nat_cmp_total m k q)
+      get-insert nat_cmp_total (finmap.remove m k) k v q
+      ∙ ap (cond (eq_by_cmp nat_cmp q k) (Some v)) (get-remove nat_cmp_total m k q)
       ∙ twice (eq_by_cmp nat_cmp q k) (Some v) None (finmap.get m q) ∙ sym (get-insert nat_cmp_total m k v q))
 
   pub insert-same : (m : FinMap nat_cmp X) (k : ℕ) (v : X) → finmap.get m k ≡ Some v → finmap.insert m k v ≡ m
   insert-same m k v there = same_map nat_cmp_total nat_cmp-IsAntisymmetric _ _ (λ (q : ℕ).
       get-insert nat_cmp_total m k v q
-      ∙ elim (eq_by_cmp nat_cmp q k) as (λ (b : Bool). eq_by_cmp nat_cmp q k ≡ b → cond b (Some v) (finmap.get m q) ≡ finmap.get m q) [
+      ∙ elim (eq_by_cmp nat_cmp q k)
+      as (λ (b : Bool). eq_by_cmp nat_cmp q k ≡ b → cond b (Some v) (finmap.get m q) ≡ finmap.get m q) [
         | true ↦ λ (e : _). sym there ∙ ap (finmap.get m) (sym (key_is q k e))
         | false ↦ λ (e : _). refl
       ] refl)
@@ -127,15 +139,18 @@ module _ {X : Type 0} where
   remove-absent : (m : FinMap nat_cmp X) (k : ℕ) → finmap.get m k ≡ None → finmap.remove m k ≡ m
   remove-absent m k none = same_map nat_cmp_total nat_cmp-IsAntisymmetric _ _ (λ (q : ℕ).
       get-remove nat_cmp_total m k q
-      ∙ elim (eq_by_cmp nat_cmp q k) as (λ (b : Bool). eq_by_cmp nat_cmp q k ≡ b → cond b None (finmap.get m q) ≡ finmap.get m q) [
+      ∙ elim (eq_by_cmp nat_cmp q k)
+      as (λ (b : Bool). eq_by_cmp nat_cmp q k ≡ b → cond b None (finmap.get m q) ≡ finmap.get m q) [
         | true ↦ λ (e : _). sym none ∙ ap (finmap.get m) (sym (key_is q k e))
         | false ↦ λ (e : _). refl
       ] refl)
 
   -- without an entry, the total is smaller by its weight
-  pub total-remove : (f : ℕ → X → ℕ) (m : FinMap nat_cmp X) (k : ℕ) → total f (finmap.remove m k) + weight f k (finmap.get m k) ≡ total f m
+  pub total-remove : (f : ℕ → X → ℕ) (m : FinMap nat_cmp X) (k : ℕ)
+      → total f (finmap.remove m k) + weight f k (finmap.get m k) ≡ total f m
   total-remove f m k =
-      elim (finmap.get m k) as (λ (o : Option X). finmap.get m k ≡ o → total f (finmap.remove m k) + weight f k o ≡ total f m) [
+      elim (finmap.get m k) as (λ (o : Option X). finmap.get m k ≡ o
+      → total f (finmap.remove m k) + weight f k o ≡ total f m) [
         | None ↦ λ (is : _). omega (arith, ap (total f) (remove-absent m k is))
         | Some x ↦ λ (is : _).
             let back : finmap.insert (finmap.remove m k) k x ≡ m = insert-remove m k x ∙ insert-same m k x is in
@@ -143,21 +158,36 @@ module _ {X : Type 0} where
       ] refl
 
   -- with another value under a key, the total differs by the two weights
-  pub total-insert : (f : ℕ → X → ℕ) (m : FinMap nat_cmp X) (k : ℕ) (v : X) → total f (finmap.insert m k v) + weight f k (finmap.get m k) ≡ total f m + f k v
+  pub total-insert : (f : ℕ → X → ℕ) (m : FinMap nat_cmp X) (k : ℕ) (v : X)
+      → total f (finmap.insert m k v) + weight f k (finmap.get m k) ≡ total f m + f k v
   total-insert f m k v =
-      omega (arith, total-new f (finmap.remove m k) k v (removed m k), ap (total f) (insert-remove m k v), total-remove f m k)
+      omega (
+        arith,
+        total-new f (finmap.remove m k) k v (removed m k),
+        ap (total f) (insert-remove m k v),
+        total-remove f m k,
+      )
 
-  below-mapped : (g : X → X) (k : ℕ) (es : List (ℕ × X)) → T (below_all nat_cmp k es) → T (below_all nat_cmp k (map (λ e. (e.0, g e.1)) es))
+  below-mapped : (g : X → X) (k : ℕ) (es : List (ℕ × X)) → T (below_all nat_cmp k es)
+      → T (below_all nat_cmp k (map (λ e. (e.0, g e.1)) es))
   below-mapped g k [] below = tt
   below-mapped g k (e ∷ es) below = both_of (is_lt (nat_cmp k e.0)) _ _ (below-mapped g k es) below
 
-  sorted-mapped : (g : X → X) (es : List (ℕ × X)) → T (is_sorted nat_cmp es) → T (is_sorted nat_cmp (map (λ e. (e.0, g e.1)) es))
+  sorted-mapped : (g : X → X) (es : List (ℕ × X)) → T (is_sorted nat_cmp es)
+      → T (is_sorted nat_cmp (map (λ e. (e.0, g e.1)) es))
   sorted-mapped g [] sorted = tt
-  sorted-mapped g (e ∷ es) sorted = two_of (below_all nat_cmp e.0 es) _ _ _ (below-mapped g e.0 es) (sorted-mapped g es) sorted
+  sorted-mapped g (e ∷ es) sorted =
+      two_of (below_all nat_cmp e.0 es) _ _ _ (below-mapped g e.0 es) (sorted-mapped g es) sorted
 
   -- the entries of a map with each value changed
-  pub entries-map_values : (g : X → X) (m : FinMap nat_cmp X) → finmap.entries (map_values g m) ≡ map (λ e. (e.0, g e.1)) (finmap.entries m)
-  entries-map_values g m = entries-from_sorted nat_cmp (map (λ e. (e.0, g e.1)) (finmap.entries m)) (sorted-mapped g (finmap.entries m) (entries_sorted m))
+  pub entries-map_values : (g : X → X) (m : FinMap nat_cmp X)
+      → finmap.entries (map_values g m) ≡ map (λ e. (e.0, g e.1)) (finmap.entries m)
+  entries-map_values g m =
+      entries-from_sorted nat_cmp (map (λ e. (e.0, g e.1)) (finmap.entries m))
+      (sorted-mapped g (finmap.entries m) (entries_sorted m))
 
-  pub total-map_values : (f : ℕ → X → ℕ) (g : X → X) (m : FinMap nat_cmp X) → total f (map_values g m) ≡ total (λ k x. f k (g x)) m
-  total-map_values f g m = ap (weigh (λ e. f e.0 e.1)) (entries-map_values g m) ∙ weigh-map (λ e. f e.0 e.1) (λ (e : ℕ × X). (e.0, g e.1)) (finmap.entries m)
+  pub total-map_values : (f : ℕ → X → ℕ) (g : X → X) (m : FinMap nat_cmp X)
+      → total f (map_values g m) ≡ total (λ k x. f k (g x)) m
+  total-map_values f g m =
+      ap (weigh (λ e. f e.0 e.1)) (entries-map_values g m) ∙ weigh-map (λ e. f e.0 e.1)
+      (λ (e : ℕ × X). (e.0, g e.1)) (finmap.entries m)

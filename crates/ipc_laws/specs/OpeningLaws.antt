@@ -25,26 +25,43 @@ no_entries [] e = refl
 no_entries (e ∷ es) long = absurd (omega (arith, long))
 
 pub total-empty : {X : Type 0} (f : ℕ → X → ℕ) → total f (finmap.empty {X = X} {R = nat_cmp}) ≡ 0
-total-empty {X} f = ap (weigh (λ (e : ℕ × X). f e.0 e.1)) (no_entries (finmap.entries (finmap.empty {X = X} {R = nat_cmp})) (sym (len-entries {R = nat_cmp} (finmap.empty {X = X})) ∙ len-empty nat_cmp X))
+total-empty {X} f =
+    ap (weigh (λ (e : ℕ × X). f e.0 e.1))
+    (no_entries (finmap.entries (finmap.empty {X = X} {R = nat_cmp}))
+    (sym (len-entries {R = nat_cmp} (finmap.empty {X = X})) ∙ len-empty nat_cmp X))
 
 pub no_names_lawful : LawfulNames finmap.empty
 no_names_lawful = record {
   few = omega (arith, len-empty nat_cmp Entry);
   named = λ (name : ℕ) (entry : Entry) (at : _). absurd (none_in_empty name entry at);
-  one_name = λ (one other serial : ℕ) (first second : Entry) (at : _) (at_too : _) (held : _) (held_too : _). absurd (none_in_empty one first at);
+  one_name =
+      λ (one other serial : ℕ) (first second : Entry) (at : _) (at_too : _) (held : _) (held_too : _). absurd
+      (none_in_empty one first at);
 }
 
 -- the only space is space 1
-only_space : (space : ℕ) (names : Names) → finmap.get opening_state.spaces space ≡ Some names → (space ≡ 1) × (finmap.empty ≡ names)
+only_space : (space : ℕ) (names : Names) → finmap.get opening_state.spaces space ≡ Some names → (space ≡ 1)
+    × (finmap.empty ≡ names)
 only_space space names at = elim (number_decided space 1) as (λ _. (space ≡ 1) × (finmap.empty ≡ names)) [
   | inl apart ↦ absurd (none_in_empty space names (sym (get-there finmap.empty 1 finmap.empty space apart) ∙ at))
-  | inr same ↦ (same, some_same finmap.empty names (sym (get-here finmap.empty 1 finmap.empty) ∙ ap (finmap.get (finmap.insert finmap.empty 1 finmap.empty)) (sym same) ∙ at))
+  | inr same ↦ (
+    same,
+    some_same finmap.empty names
+        (sym (get-here finmap.empty 1 finmap.empty)
+        ∙ ap (finmap.get (finmap.insert finmap.empty 1 finmap.empty)) (sym same) ∙ at),
+  )
 ]
 
 no_weight : (w : Weight) → state_weigh w opening_state ≡ 0
 unfolding state_weigh
 no_weight w =
-    omega (arith, total-new (λ s n. names_weigh w n) finmap.empty 1 finmap.empty (get-empty nat_cmp 1), total-empty {X = Names} (λ s n. names_weigh w n), total-empty {X = Entry} (λ n e. entry_weigh w e), total-empty {X = PortState} (port_weigh w))
+    omega (
+      arith,
+      total-new (λ s n. names_weigh w n) finmap.empty 1 finmap.empty (get-empty nat_cmp 1),
+      total-empty {X = Names} (λ s n. names_weigh w n),
+      total-empty {X = Entry} (λ n e. entry_weigh w e),
+      total-empty {X = PortState} (port_weigh w),
+    )
 
 no_port_lives : (serial : ℕ) → lives opening_state serial ≡ true → ⊥
 no_port_lives serial live = absurd (cc (sym (ap is_some (get-empty {X = PortState} nat_cmp serial)) ∙ live))
@@ -67,10 +84,15 @@ opening_is_lawful = (
     waits = tt;
     sets = λ (serial set : ℕ) (port : PortState) (at : _) (is : _). absurd (none_in_empty serial port at);
   }),
-  (λ (serial : ℕ). 0, λ (outer inner : ℕ) (carries : Carries opening_state outer inner). absurd (none_in_empty outer carries.0 carries.1)),
+  (
+    λ (serial : ℕ). 0,
+    λ (outer inner : ℕ) (carries : Carries opening_state outer inner). absurd
+        (none_in_empty outer carries.0 carries.1),
+  ),
 )
 
 -- its image
-pub opening-image : image_encoding opening_state ≡ 1 ∷ 0 ∷ 0 ∷ 0 ∷ 0 ∷ 0 ∷ 0 ∷ 0 ∷ 1 ∷ 0 ∷ 0 ∷ 0 ∷ 1 ∷ 0 ∷ 0 ∷ 0 ∷ 0 ∷ 0 ∷ 0 ∷ 0 ∷ 0 ∷ 0 ∷ 0 ∷ 0 ∷ []
+pub opening-image : image_encoding opening_state
+    ≡ 1 ∷ 0 ∷ 0 ∷ 0 ∷ 0 ∷ 0 ∷ 0 ∷ 0 ∷ 1 ∷ 0 ∷ 0 ∷ 0 ∷ 1 ∷ 0 ∷ 0 ∷ 0 ∷ 0 ∷ 0 ∷ 0 ∷ 0 ∷ 0 ∷ 0 ∷ 0 ∷ 0 ∷ []
 unfolding image_encoding
 opening-image = simp map_rules

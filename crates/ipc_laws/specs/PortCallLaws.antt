@@ -30,7 +30,8 @@ is_port_call (call.Receive limit large name waited) = false
 is_port_call c = true
 
 -- such a call is refused by its first failing test, or done
-pub as_called : (c : Call) (old : State) (space : ℕ) (names : Names) (answer : Reply) (new : State) (effects : List Effect) → is_port_call c ≡ true → ActsIn old space names c answer new effects
+pub as_called : (c : Call) (old : State) (space : ℕ) (names : Names) (answer : Reply) (new : State)
+    (effects : List Effect) → is_port_call c ≡ true → ActsIn old space names c answer new effects
     → Called (first_failing (tests_of old space names c)) old space names c answer new effects
 as_called (call.Send message) old space names answer new effects port acts = absurd (cc port)
 as_called (call.Receive limit large name waited) old space names answer new effects port acts = absurd (cc port)
@@ -60,132 +61,215 @@ pub record Answered (number : ℕ) (answer : Reply) : Type 0 where
   pub short : (number ≢ 1) → (number ≢ 14) → is_short answer ≡ true
 
 done_answers : (number : ℕ) → number_has_none number ≡ true → Answered number (reply.Done number)
-done_answers number none = record { success = λ c. refl; number_is = refl; results = λ c same. none_by_number c ∙ ap number_has_none same ∙ none; short = λ _ _. refl }
+done_answers number none =
+    record {
+      success = λ c. refl;
+      number_is = refl;
+      results = λ c same. none_by_number c ∙ ap number_has_none same ∙ none;
+      short = λ _ _. refl;
+    }
 
 -- an action with this answer
 by_answer : (number : ℕ) (action answer : Reply) → answer ≡ action → Answered number action → Answered number answer
 by_answer number action answer is answered = subst (Answered number) (sym is) answered
 
-by_action : (number : ℕ) (entry : Option Entry) (action : Entry → Action) (answer : Reply) (new : State) (effects : List Effect) → ((e : Entry) → Answered number (action e).answer) → ActsOn entry action answer new effects → Answered number answer
+by_action : (number : ℕ) (entry : Option Entry) (action : Entry → Action) (answer : Reply) (new : State)
+    (effects : List Effect) → ((e : Entry) → Answered number (action e).answer) → ActsOn entry action answer new effects
+    → Answered number answer
 by_action number None action answer new effects each acts = absurd acts
-by_action number (Some entry) action answer new effects each acts = by_answer number (action entry).answer answer acts.0 (each entry)
+by_action number (Some entry) action answer new effects each acts =
+    by_answer number (action entry).answer answer acts.0 (each entry)
 
-by_choice : (number : ℕ) (b : Bool) (one other : Action) → Answered number one.answer → Answered number other.answer → Answered number (if b then one else other).answer
+by_choice : (number : ℕ) (b : Bool) (one other : Action) → Answered number one.answer → Answered number other.answer
+    → Answered number (if b then one else other).answer
 by_choice number true one other a b = a
 by_choice number false one other a b = b
 
-deallocated_answers : (state : State) (space : ℕ) (names : Names) (name : ℕ) (entry : Entry) → Answered 7 (actions.deallocated state space names name entry).answer
+deallocated_answers : (state : State) (space : ℕ) (names : Names) (name : ℕ) (entry : Entry)
+    → Answered 7 (actions.deallocated state space names name entry).answer
 deallocated_answers state space names name (Port rights) = done_answers 7 refl
 deallocated_answers state space names name (SendOnce port target) = done_answers 7 refl
 deallocated_answers state space names name Set = done_answers 7 refl
 deallocated_answers state space names name (Dead references) = done_answers 7 refl
 
-modified_answers : (state : State) (space : ℕ) (names : Names) (name : ℕ) (entry : Entry) (kind delta : ℕ) → Answered 9 (actions.modified state space names name entry kind delta).answer
+modified_answers : (state : State) (space : ℕ) (names : Names) (name : ℕ) (entry : Entry) (kind delta : ℕ)
+    → Answered 9 (actions.modified state space names name entry kind delta).answer
 modified_answers state space names name (Port rights) kind delta =
-    by_choice 9 (is_right kind right.Send) _ _ (done_answers 9 refl) (by_choice 9 (delta == minus_one) _ _ (done_answers 9 refl) (done_answers 9 refl))
-modified_answers state space names name (SendOnce port target) kind delta = by_choice 9 (delta == minus_one) _ _ (done_answers 9 refl) (done_answers 9 refl)
-modified_answers state space names name Set kind delta = by_choice 9 (delta == minus_one) _ _ (done_answers 9 refl) (done_answers 9 refl)
+    by_choice 9 (is_right kind right.Send) _ _ (done_answers 9 refl)
+    (by_choice 9 (delta == minus_one) _ _ (done_answers 9 refl) (done_answers 9 refl))
+modified_answers state space names name (SendOnce port target) kind delta =
+    by_choice 9 (delta == minus_one) _ _ (done_answers 9 refl) (done_answers 9 refl)
+modified_answers state space names name Set kind delta =
+    by_choice 9 (delta == minus_one) _ _ (done_answers 9 refl) (done_answers 9 refl)
 modified_answers state space names name (Dead references) kind delta = done_answers 9 refl
 
-status_answers : (state : State) (port : Option PortState) (serial : ℕ) → Answered 13 (actions.status_action state port serial).answer
+status_answers : (state : State) (port : Option PortState) (serial : ℕ)
+    → Answered 13 (actions.status_action state port serial).answer
 status_answers state None serial = done_answers 13 refl
-status_answers state (Some port) serial = record { success = λ c. refl; number_is = refl; results = λ _ _. tt; short = λ _ _. refl }
+status_answers state (Some port) serial =
+    record { success = λ c. refl; number_is = refl; results = λ _ _. tt; short = λ _ _. refl }
 
 status_of_answers : (state : State) (serial : Option ℕ) → Answered 13 (actions.status_action_of state serial).answer
 status_of_answers state None = done_answers 13 refl
 status_of_answers state (Some serial) = status_answers state (finmap.get state.ports serial) serial
 
-extracted_answers : (taken : Option Taken) (space : ℕ) (answer : Reply) (new : State) (effects : List Effect) → actions.Extracted taken space answer new effects → Answered 18 answer
+extracted_answers : (taken : Option Taken) (space : ℕ) (answer : Reply) (new : State) (effects : List Effect)
+    → actions.Extracted taken space answer new effects → Answered 18 answer
 extracted_answers None space answer new effects acts = absurd acts
-extracted_answers (Some taken) space answer new effects acts = by_answer 18 (reply.Extracted acts.0 taken.right.kind) answer acts.1 (record { success = λ c. refl; number_is = refl; results = λ _ _. tt; short = λ _ _. refl })
+extracted_answers (Some taken) space answer new effects acts =
+    by_answer 18 (reply.Extracted acts.0 taken.right.kind) answer acts.1
+    (record { success = λ c. refl; number_is = refl; results = λ _ _. tt; short = λ _ _. refl })
 
-created_answers : (taken : Option Taken) (answer : Reply) (new : State) (effects : List Effect) → actions.Created taken answer new effects → Answered 20 answer
+created_answers : (taken : Option Taken) (answer : Reply) (new : State) (effects : List Effect)
+    → actions.Created taken answer new effects → Answered 20 answer
 created_answers None answer new effects acts = absurd acts
-created_answers (Some taken) answer new effects acts = by_answer 20 (reply.SpaceCreated acts.0 acts.1) answer acts.3 (record { success = λ c. refl; number_is = refl; results = λ _ _. tt; short = λ _ _. refl })
+created_answers (Some taken) answer new effects acts =
+    by_answer 20 (reply.SpaceCreated acts.0 acts.1) answer acts.3
+    (record { success = λ c. refl; number_is = refl; results = λ _ _. tt; short = λ _ _. refl })
 
-pub answers_done : (old : State) (space : ℕ) (names : Names) (c : Call) (answer : Reply) (new : State) (effects : List Effect) → Done old space names c answer new effects → Answered (number_of_call c) answer
+pub answers_done : (old : State) (space : ℕ) (names : Names) (c : Call) (answer : Reply) (new : State)
+    (effects : List Effect) → Done old space names c answer new effects → Answered (number_of_call c) answer
 unfolding Done
-answers_done old space names (call.Attach other) answer new effects acts = by_answer 0 _ answer acts.0 (done_answers 0 refl)
-answers_done old space names call.Names answer new effects acts = by_answer 1 _ answer acts.0 (record { success = λ c. refl; number_is = refl; results = λ _ _. tt; short = λ other _. absurd (other refl) })
-answers_done old space names (call.Type name) answer new effects acts = by_action 2 _ _ answer new effects (λ e. record { success = λ c. refl; number_is = refl; results = λ _ _. tt; short = λ _ _. refl }) acts
-answers_done old space names (call.Rename from to) answer new effects acts = by_action 3 _ _ answer new effects (λ e. done_answers 3 refl) acts
-answers_done old space names (call.AllocateName kind name) answer new effects acts = by_answer 4 _ answer acts.0 (done_answers 4 refl)
-answers_done old space names (call.Allocate kind) answer new effects acts = by_answer 5 (reply.Allocate acts.0) answer acts.2 (record { success = λ c. refl; number_is = refl; results = λ _ _. tt; short = λ _ _. refl })
-answers_done old space names (call.Destroy name) answer new effects acts = by_action 6 _ _ answer new effects (λ e. done_answers 6 refl) acts
-answers_done old space names (call.Deallocate name) answer new effects acts = by_action 7 _ _ answer new effects (deallocated_answers old space names name) acts
-answers_done old space names (call.GetRefs name kind) answer new effects acts = by_action 8 _ _ answer new effects (λ e. record { success = λ c. refl; number_is = refl; results = λ _ _. tt; short = λ _ _. refl }) acts
-answers_done old space names (call.ModRefs name kind delta) answer new effects acts = by_action 9 _ _ answer new effects (λ e. modified_answers old space names name e kind delta) acts
-answers_done old space names (call.SetQlimit name limit) answer new effects acts = by_action 10 _ _ answer new effects (λ e. done_answers 10 refl) acts
-answers_done old space names (call.SetMscount name count) answer new effects acts = by_action 11 _ _ answer new effects (λ e. done_answers 11 refl) acts
-answers_done old space names (call.SetSeqno name seqno) answer new effects acts = by_action 12 _ _ answer new effects (λ e. done_answers 12 refl) acts
-answers_done old space names (call.GetReceiveStatus name) answer new effects acts = by_action 13 _ _ answer new effects (λ e. status_of_answers old (received_port e)) acts
-answers_done old space names (call.GetSetStatus name) answer new effects acts = by_answer 14 _ answer acts.0 (record { success = λ c. refl; number_is = refl; results = λ _ _. tt; short = λ _ other. absurd (other refl) })
-answers_done old space names (call.MoveMember member after) answer new effects acts = by_action 15 _ _ answer new effects (λ e. done_answers 15 refl) acts
-answers_done old space names (call.RequestNotification name variant sync notify_name disposition) answer new effects acts =
-    by_answer 16 (reply.PreviousTarget acts.0) answer acts.1 (record { success = λ c. refl; number_is = refl; results = λ _ _. tt; short = λ _ _. refl })
-answers_done old space names (call.InsertRight name right_name disposition) answer new effects acts = by_answer 17 _ answer acts.0 (done_answers 17 refl)
-answers_done old space names (call.ExtractRight name disposition) answer new effects acts = extracted_answers _ space answer new effects acts
+answers_done old space names (call.Attach other) answer new effects acts =
+    by_answer 0 _ answer acts.0 (done_answers 0 refl)
+answers_done old space names call.Names answer new effects acts =
+    by_answer 1 _ answer acts.0
+    (record { success = λ c. refl; number_is = refl; results = λ _ _. tt; short = λ other _. absurd (other refl) })
+answers_done old space names (call.Type name) answer new effects acts =
+    by_action 2 _ _ answer new effects
+    (λ e. record { success = λ c. refl; number_is = refl; results = λ _ _. tt; short = λ _ _. refl }) acts
+answers_done old space names (call.Rename from to) answer new effects acts =
+    by_action 3 _ _ answer new effects (λ e. done_answers 3 refl) acts
+answers_done old space names (call.AllocateName kind name) answer new effects acts =
+    by_answer 4 _ answer acts.0 (done_answers 4 refl)
+answers_done old space names (call.Allocate kind) answer new effects acts =
+    by_answer 5 (reply.Allocate acts.0) answer acts.2
+    (record { success = λ c. refl; number_is = refl; results = λ _ _. tt; short = λ _ _. refl })
+answers_done old space names (call.Destroy name) answer new effects acts =
+    by_action 6 _ _ answer new effects (λ e. done_answers 6 refl) acts
+answers_done old space names (call.Deallocate name) answer new effects acts =
+    by_action 7 _ _ answer new effects (deallocated_answers old space names name) acts
+answers_done old space names (call.GetRefs name kind) answer new effects acts =
+    by_action 8 _ _ answer new effects
+    (λ e. record { success = λ c. refl; number_is = refl; results = λ _ _. tt; short = λ _ _. refl }) acts
+answers_done old space names (call.ModRefs name kind delta) answer new effects acts =
+    by_action 9 _ _ answer new effects (λ e. modified_answers old space names name e kind delta) acts
+answers_done old space names (call.SetQlimit name limit) answer new effects acts =
+    by_action 10 _ _ answer new effects (λ e. done_answers 10 refl) acts
+answers_done old space names (call.SetMscount name count) answer new effects acts =
+    by_action 11 _ _ answer new effects (λ e. done_answers 11 refl) acts
+answers_done old space names (call.SetSeqno name seqno) answer new effects acts =
+    by_action 12 _ _ answer new effects (λ e. done_answers 12 refl) acts
+answers_done old space names (call.GetReceiveStatus name) answer new effects acts =
+    by_action 13 _ _ answer new effects (λ e. status_of_answers old (received_port e)) acts
+answers_done old space names (call.GetSetStatus name) answer new effects acts =
+    by_answer 14 _ answer acts.0
+    (record { success = λ c. refl; number_is = refl; results = λ _ _. tt; short = λ _ other. absurd (other refl) })
+answers_done old space names (call.MoveMember member after) answer new effects acts =
+    by_action 15 _ _ answer new effects (λ e. done_answers 15 refl) acts
+answers_done old space names (call.RequestNotification name variant sync notify_name disposition) answer new effects
+    acts =
+    by_answer 16 (reply.PreviousTarget acts.0) answer acts.1
+    (record { success = λ c. refl; number_is = refl; results = λ _ _. tt; short = λ _ _. refl })
+answers_done old space names (call.InsertRight name right_name disposition) answer new effects acts =
+    by_answer 17 _ answer acts.0 (done_answers 17 refl)
+answers_done old space names (call.ExtractRight name disposition) answer new effects acts =
+    extracted_answers _ space answer new effects acts
 answers_done old space names (call.Send message) answer new effects acts = absurd acts
 answers_done old space names (call.Receive limit large name waited) answer new effects acts = absurd acts
-answers_done old space names (call.SpaceCreate name disposition) answer new effects acts = created_answers _ answer new effects acts
-answers_done old space names call.SpaceDestroy answer new effects acts = by_answer 21 _ answer acts.0 (done_answers 21 refl)
+answers_done old space names (call.SpaceCreate name disposition) answer new effects acts =
+    created_answers _ answer new effects acts
+answers_done old space names call.SpaceDestroy answer new effects acts =
+    by_answer 21 _ answer acts.0 (done_answers 21 refl)
 
 -- a reply to a call that is no send and no receive has the call's number
-called_number : (refusal : Option KernReturn) (old : State) (space : ℕ) (names : Names) (c : Call) (answer : Reply) (new : State) (effects : List Effect) → Called refusal old space names c answer new effects → number_of_reply answer ≡ number_of_call c
-called_number None old space names c answer new effects acts = (answers_done old space names c answer new effects acts).number_is
+called_number : (refusal : Option KernReturn) (old : State) (space : ℕ) (names : Names) (c : Call) (answer : Reply)
+    (new : State) (effects : List Effect) → Called refusal old space names c answer new effects
+    → number_of_reply answer ≡ number_of_call c
+called_number None old space names c answer new effects acts =
+    (answers_done old space names c answer new effects acts).number_is
 called_number (Some code) old space names c answer new effects acts = ap number_of_reply acts.0
 
-pub answer_number : (old : State) (space : ℕ) (names : Names) (c : Call) (answer : Reply) (new : State) (effects : List Effect) → is_port_call c ≡ true → ActsIn old space names c answer new effects → number_of_reply answer ≡ number_of_call c
-answer_number old space names c answer new effects port acts = called_number (first_failing (tests_of old space names c)) old space names c answer new effects (as_called c old space names answer new effects port acts)
+pub answer_number : (old : State) (space : ℕ) (names : Names) (c : Call) (answer : Reply) (new : State)
+    (effects : List Effect) → is_port_call c ≡ true → ActsIn old space names c answer new effects
+    → number_of_reply answer ≡ number_of_call c
+answer_number old space names c answer new effects port acts =
+    called_number (first_failing (tests_of old space names c)) old space names c answer new effects
+    (as_called c old space names answer new effects port acts)
 
 -- and a reply to a call with a record has the call's results
-called_results : (refusal : Option KernReturn) (old : State) (space : ℕ) (names : Names) (c : Call) (answer : Reply) (new : State) (effects : List Effect) → Called refusal old space names c answer new effects → HasItsResults c answer
-called_results None old space names c answer new effects acts = (answers_done old space names c answer new effects acts).results c refl
+called_results : (refusal : Option KernReturn) (old : State) (space : ℕ) (names : Names) (c : Call) (answer : Reply)
+    (new : State) (effects : List Effect) → Called refusal old space names c answer new effects → HasItsResults c answer
+called_results None old space names c answer new effects acts =
+    (answers_done old space names c answer new effects acts).results c refl
 called_results (Some code) old space names c answer new effects acts = subst (HasItsResults c) (sym acts.0) tt
 
-pub answer_results : (old : State) (space : ℕ) (names : Names) (c : Call) (answer : Reply) (new : State) (effects : List Effect) → is_port_call c ≡ true → ActsIn old space names c answer new effects → HasItsResults c answer
-answer_results old space names c answer new effects port acts = called_results (first_failing (tests_of old space names c)) old space names c answer new effects (as_called c old space names answer new effects port acts)
+pub answer_results : (old : State) (space : ℕ) (names : Names) (c : Call) (answer : Reply) (new : State)
+    (effects : List Effect) → is_port_call c ≡ true → ActsIn old space names c answer new effects
+    → HasItsResults c answer
+answer_results old space names c answer new effects port acts =
+    called_results (first_failing (tests_of old space names c)) old space names c answer new effects
+    (as_called c old space names answer new effects port acts)
 
 -- Calls that only read.
 
-unread : (entry : Option Entry) (old : State) (read : Entry → Reply) (answer : Reply) (new : State) (effects : List Effect) → ActsOn entry (λ e. record { answer = read e; state = old; effects = [] }) answer new effects → (new ≡ old) × (effects ≡ [])
+unread : (entry : Option Entry) (old : State) (read : Entry → Reply) (answer : Reply) (new : State)
+    (effects : List Effect) → ActsOn entry
+    (λ e. record { answer = read e; state = old; effects = [] }) answer new effects → (new ≡ old) × (effects ≡ [])
 unread None old read answer new effects acts = absurd acts
 unread (Some entry) old read answer new effects acts = (acts.1, acts.2)
 
-status_unread : (entry : Option Entry) (old : State) (answer : Reply) (new : State) (effects : List Effect) → ActsOn entry (λ e. actions.status_action_of old (received_port e)) answer new effects → (new ≡ old) × (effects ≡ [])
+status_unread : (entry : Option Entry) (old : State) (answer : Reply) (new : State) (effects : List Effect)
+    → ActsOn entry (λ e. actions.status_action_of old (received_port e)) answer new effects → (new ≡ old)
+    × (effects ≡ [])
 status_unread None old answer new effects acts = absurd acts
 status_unread (Some entry) old answer new effects acts = of_port (received_port entry) acts
   where
-    with_state : (port : Option PortState) (serial : ℕ) → actions.Acts (actions.status_action old port serial) answer new effects → (new ≡ old) × (effects ≡ [])
+    with_state : (port : Option PortState) (serial : ℕ)
+        → actions.Acts (actions.status_action old port serial) answer new effects → (new ≡ old) × (effects ≡ [])
     with_state None serial acts = (acts.1, acts.2)
     with_state (Some port) serial acts = (acts.1, acts.2)
 
-    of_port : (serial : Option ℕ) → actions.Acts (actions.status_action_of old serial) answer new effects → (new ≡ old) × (effects ≡ [])
+    of_port : (serial : Option ℕ) → actions.Acts (actions.status_action_of old serial) answer new effects → (new ≡ old)
+        × (effects ≡ [])
     of_port None acts = (acts.1, acts.2)
     of_port (Some serial) acts = with_state (finmap.get old.ports serial) serial acts
 
-done_unrecorded : (old : State) (space : ℕ) (names : Names) (c : Call) (answer : Reply) (new : State) (effects : List Effect) → is_recorded c ≡ false → Done old space names c answer new effects → (new ≡ old) × (effects ≡ [])
+done_unrecorded : (old : State) (space : ℕ) (names : Names) (c : Call) (answer : Reply) (new : State)
+    (effects : List Effect) → is_recorded c ≡ false → Done old space names c answer new effects → (new ≡ old)
+    × (effects ≡ [])
 unfolding Done
 done_unrecorded old space names (call.Attach other) answer new effects unrecorded acts = (acts.1, acts.2)
 done_unrecorded old space names call.Names answer new effects unrecorded acts = (acts.1, acts.2)
-done_unrecorded old space names (call.Type name) answer new effects unrecorded acts = unread _ old _ answer new effects acts
-done_unrecorded old space names (call.GetRefs name kind) answer new effects unrecorded acts = unread _ old _ answer new effects acts
-done_unrecorded old space names (call.GetReceiveStatus name) answer new effects unrecorded acts = status_unread _ old answer new effects acts
+done_unrecorded old space names (call.Type name) answer new effects unrecorded acts =
+    unread _ old _ answer new effects acts
+done_unrecorded old space names (call.GetRefs name kind) answer new effects unrecorded acts =
+    unread _ old _ answer new effects acts
+done_unrecorded old space names (call.GetReceiveStatus name) answer new effects unrecorded acts =
+    status_unread _ old answer new effects acts
 done_unrecorded old space names (call.GetSetStatus name) answer new effects unrecorded acts = (acts.1, acts.2)
 done_unrecorded old space names c answer new effects unrecorded acts = absurd (cc unrecorded)
 
 -- a call that is done and has no record only reads
-by_record : (c : Call) (answer : Reply) (recorded success : Bool) → is_recorded c ≡ recorded → succeeded c answer ≡ true → has_record c answer ≡ false → is_recorded c ≡ false
+by_record : (c : Call) (answer : Reply) (recorded success : Bool) → is_recorded c ≡ recorded → succeeded c answer ≡ true
+    → has_record c answer ≡ false → is_recorded c ≡ false
 by_record c answer false success is successful none = is
 by_record c answer true success is successful none = absurd (cc (is, successful, none))
 
-called_unrecorded : (refusal : Option KernReturn) (old : State) (space : ℕ) (names : Names) (c : Call) (answer : Reply) (new : State) (effects : List Effect) → has_record c answer ≡ false → Called refusal old space names c answer new effects
+called_unrecorded : (refusal : Option KernReturn) (old : State) (space : ℕ) (names : Names) (c : Call) (answer : Reply)
+    (new : State) (effects : List Effect) → has_record c answer ≡ false
+    → Called refusal old space names c answer new effects
     → (new ≡ old) × (effects ≡ [])
 called_unrecorded (Some code) old space names c answer new effects none acts = (acts.1, acts.2)
 called_unrecorded None old space names c answer new effects none acts =
-    done_unrecorded old space names c answer new effects (by_record c answer (is_recorded c) true refl ((answers_done old space names c answer new effects acts).success c) none) acts
+    done_unrecorded old space names c answer new effects
+    (by_record c answer (is_recorded c) true refl
+    ((answers_done old space names c answer new effects acts).success c) none) acts
 
 -- A call without a record changes nothing by itself and sets nothing off.
-pub unrecorded_act : (old : State) (space : ℕ) (names : Names) (c : Call) (answer : Reply) (new : State) (effects : List Effect) → is_port_call c ≡ true → has_record c answer ≡ false → ActsIn old space names c answer new effects → (new ≡ old) × (effects ≡ [])
+pub unrecorded_act : (old : State) (space : ℕ) (names : Names) (c : Call) (answer : Reply) (new : State)
+    (effects : List Effect) → is_port_call c ≡ true → has_record c answer ≡ false
+    → ActsIn old space names c answer new effects → (new ≡ old) × (effects ≡ [])
 unrecorded_act old space names c answer new effects port none acts =
-    called_unrecorded (first_failing (tests_of old space names c)) old space names c answer new effects none (as_called c old space names answer new effects port acts)
+    called_unrecorded (first_failing (tests_of old space names c)) old space names c answer new effects none
+    (as_called c old space names answer new effects port acts)

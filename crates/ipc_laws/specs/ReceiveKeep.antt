@@ -54,22 +54,39 @@ all_later : {A : Type 0} (P : A → Type 0) (xs : List A) → All P xs → All P
 all_later P [] all = all
 all_later P (x ∷ xs) all = All-tail P x xs all
 
-out_weighs : (w : Weight) (serial : ℕ) (port : PortState) (message : Message) (later : List Message) → port.messages ≡ message ∷ later → port_weigh w serial (oldest_out port) + message_weigh w serial message ≡ port_weigh w serial port
+out_weighs : (w : Weight) (serial : ℕ) (port : PortState) (message : Message) (later : List Message)
+    → port.messages ≡ message ∷ later
+    → port_weigh w serial (oldest_out port) + message_weigh w serial message ≡ port_weigh w serial port
 out_weighs w serial port message later is =
-    omega (arith, ap (λ (l : List Message). weigh (message_weigh w serial) l) is, ap (λ (l : List Message). weigh (message_weigh w serial) (drop 1 l)) is)
+    omega (
+      arith,
+      ap (λ (l : List Message). weigh (message_weigh w serial) l) is,
+      ap (λ (l : List Message). weigh (message_weigh w serial) (drop 1 l)) is,
+    )
 
-oldest_mid : (state : State) (serial : ℕ) (port : PortState) (message : Message) (later : List Message) → MidCall state empty_hand → finmap.get state.ports serial ≡ Some port → port.messages ≡ message ∷ later
+oldest_mid : (state : State) (serial : ℕ) (port : PortState) (message : Message) (later : List Message)
+    → MidCall state empty_hand → finmap.get state.ports serial ≡ Some port → port.messages ≡ message ∷ later
     → MidCall (without_oldest state serial) (message_hand serial message)
 oldest_mid state serial port message later mid at is =
     let lawful : LawfulPort port = (mid.parts.ports serial port at).2 in
     mid_port state serial oldest_out empty_hand (message_hand serial message) (record {
       port = port;
       there = at;
-      lawful = record { limit = lawful.limit; sequence_number = next_fits port.sequence_number lawful.sequence_number; make_send_count = lawful.make_send_count; messages = all_later LawfulMessage port.messages lawful.messages };
+      lawful =
+          record {
+            limit = lawful.limit;
+            sequence_number = next_fits port.sequence_number lawful.sequence_number;
+            make_send_count = lawful.make_send_count;
+            messages = all_later LawfulMessage port.messages lawful.messages;
+          };
       receives = λ (q : ℕ). omega (arith, out_weighs (receive_of q) serial port message later is);
       none_dead = λ (q : ℕ) (dead : _). omega (arith, out_weighs (any_of q) serial port message later is);
       set = λ (set : ℕ) (is : _). is;
-      acyclic = fewer_edges state (with_port state serial oldest_out) (changed_edges state serial oldest_out (λ (inner : ℕ) (p : PortState) (e : _). any_dropped (λ (m : Message). list_any (is_receive_right inner) m.rights) p.messages e)) mid.acyclic;
+      acyclic =
+          fewer_edges state (with_port state serial oldest_out)
+          (changed_edges state serial oldest_out
+          (λ (inner : ℕ) (p : PortState) (e : _). any_dropped
+          (λ (m : Message). list_any (is_receive_right inner) m.rights) p.messages e)) mid.acyclic;
     }) mid
 
 -- the destination right is no receive right
@@ -85,20 +102,26 @@ consumed_quiet kind.Send serial = record { waits = (tt, tt); receives = λ (q : 
 consumed_quiet kind.SendOnce serial = record { waits = tt; receives = λ (q : ℕ). refl }
 
 -- the message was lawful
-pub oldest_lawful : (port : PortState) (message : Message) (later : List Message) → LawfulPort port → port.messages ≡ message ∷ later → LawfulMessage message
+pub oldest_lawful : (port : PortState) (message : Message) (later : List Message) → LawfulPort port
+    → port.messages ≡ message ∷ later → LawfulMessage message
 oldest_lawful port message later lawful is =
-    let all : All LawfulMessage (message ∷ later) = subst (λ (l : List Message). All LawfulMessage l) is lawful.messages in
+    let all : All LawfulMessage (message ∷ later) =
+    subst (λ (l : List Message). All LawfulMessage l) is lawful.messages in
     all 0 message (omega arith)
 
 -- a message that was too large is destroyed
-destroyed_kept : (state : State) (serial : ℕ) (message : Message) → MidCall state (message_hand serial message) → LawfulMessage message → Kept state (destination_consumed message.destination serial ++ releases_of message)
+destroyed_kept : (state : State) (serial : ℕ) (message : Message) → MidCall state (message_hand serial message)
+    → LawfulMessage message → Kept state (destination_consumed message.destination serial ++ releases_of message)
 destroyed_kept state serial message mid lawful =
     let consumed = consumed_quiet message.destination serial in
-    kept_of_mid state (message_hand serial message) (destination_consumed message.destination serial ++ releases_of message) mid
-    (waiting-append (destination_consumed message.destination serial) (releases_of message) consumed.waits (releases_wait message))
+    kept_of_mid state (message_hand serial message)
+    (destination_consumed message.destination serial ++ releases_of message) mid
+    (waiting-append (destination_consumed message.destination serial) (releases_of message) consumed.waits
+    (releases_wait message))
     (λ (q : ℕ). omega (
       arith,
-      weigh-append (effect_weigh (receive_of q)) (destination_consumed message.destination serial) (releases_of message),
+      weigh-append (effect_weigh (receive_of q)) (destination_consumed message.destination serial)
+          (releases_of message),
       consumed.receives q,
       releases_carry (receive_of q) serial message,
       no_receive q serial message.destination lawful.destination,
@@ -109,7 +132,8 @@ destroyed_kept state serial message mid lawful =
 -- room for the names that they need, if every port that needs none has a name
 record Fits (start now : Names) (named : List ℕ) (rights : List CarriedRight) : Type 0 where
   room : finmap.len now + names_needed start named rights ≤ MAX_NAMES
-  known : (serial : ℕ) → (is_none (name_of_port start serial) && not (list_any (λ port. port == serial) named)) ≡ false → HasName now serial
+  known : (serial : ℕ) → (is_none (name_of_port start serial) && not (list_any (λ port. port == serial) named)) ≡ false
+      → HasName now serial
 
 none_is : (o : Option ℕ) → is_none o ≡ true → o ≡ None
 none_is None e = refl
@@ -120,128 +144,225 @@ front_true true c e = refl
 front_true false c e = absurd (cc e)
 
 -- a port that needs no name by the count has one
-has_one : (start now : Names) (named : List ℕ) (rights : List CarriedRight) (what : RightKind) (port : PortInMessage) → Fits start now named rights → wants_name start named what port ≡ false → (serial : ℕ) → port ≡ in_message.Live serial → (what ≢ kind.SendOnce) × HasName now serial
+has_one : (start now : Names) (named : List ℕ) (rights : List CarriedRight) (what : RightKind) (port : PortInMessage)
+    → Fits start now named rights → wants_name start named what port ≡ false → (serial : ℕ)
+    → port ≡ in_message.Live serial → (what ≢ kind.SendOnce) × HasName now serial
 has_one start now named rights what in_message.Null fits unwanted serial is = absurd (cc is)
 has_one start now named rights what in_message.Dead fits unwanted serial is = absurd (cc is)
 has_one start now named rights kind.SendOnce (in_message.Live n) fits unwanted serial is = absurd (cc unwanted)
-has_one start now named rights kind.Send (in_message.Live n) fits unwanted serial is = ((λ (e : _). cc e), subst (HasName now) (same_live n serial is) (fits.known n unwanted))
-has_one start now named rights kind.Receive (in_message.Live n) fits unwanted serial is = ((λ (e : _). cc e), subst (HasName now) (same_live n serial is) (fits.known n unwanted))
+has_one start now named rights kind.Send (in_message.Live n) fits unwanted serial is =
+    ((λ (e : _). cc e), subst (HasName now) (same_live n serial is) (fits.known n unwanted))
+has_one start now named rights kind.Receive (in_message.Live n) fits unwanted serial is =
+    ((λ (e : _). cc e), subst (HasName now) (same_live n serial is) (fits.known n unwanted))
 
-wants_none : (now : Names) (what : RightKind) (port : PortInMessage) → wants_name now [] what port ≡ true → ((serial : ℕ) → port ≡ in_message.Live serial → (what ≢ kind.SendOnce) × HasName now serial) → ⊥
+wants_none : (now : Names) (what : RightKind) (port : PortInMessage) → wants_name now [] what port ≡ true
+    → ((serial : ℕ) → port ≡ in_message.Live serial → (what ≢ kind.SendOnce) × HasName now serial) → ⊥
 wants_none now what in_message.Null wants has = cc wants
 wants_none now what in_message.Dead wants has = cc wants
 wants_none now kind.SendOnce (in_message.Live n) wants has = (has n refl).0 refl
-wants_none now kind.Send (in_message.Live n) wants has = not_unnamed now n (has n refl).1 (none_is (name_of_port now n) (front_true (is_none (name_of_port now n)) (not false) wants))
-wants_none now kind.Receive (in_message.Live n) wants has = not_unnamed now n (has n refl).1 (none_is (name_of_port now n) (front_true (is_none (name_of_port now n)) (not false) wants))
+wants_none now kind.Send (in_message.Live n) wants has =
+    not_unnamed now n (has n refl).1
+    (none_is (name_of_port now n) (front_true (is_none (name_of_port now n)) (not false) wants))
+wants_none now kind.Receive (in_message.Live n) wants has =
+    not_unnamed now n (has n refl).1
+    (none_is (name_of_port now n) (front_true (is_none (name_of_port now n)) (not false) wants))
 
 -- so a right that needs a name now was counted
-counted : (start now : Names) (named : List ℕ) (rights : List CarriedRight) (what : RightKind) (port : PortInMessage) → Fits start now named rights → wants_name now [] what port ≡ true → wants_name start named what port ≡ true
+counted : (start now : Names) (named : List ℕ) (rights : List CarriedRight) (what : RightKind) (port : PortInMessage)
+    → Fits start now named rights → wants_name now [] what port ≡ true → wants_name start named what port ≡ true
 counted start now named rights what port fits wants =
     elim (wants_name start named what port) as (λ (b : Bool). wants_name start named what port ≡ b → b ≡ true) [
       | true ↦ λ (_ : _). refl
-      | false ↦ λ (unwanted : _). absurd (wants_none now what port wants (has_one start now named rights what port fits unwanted))
+      | false ↦ λ (unwanted : _). absurd
+          (wants_none now what port wants (has_one start now named rights what port fits unwanted))
     ] refl
 
 -- (one more port has a name)
-one_named : (start now after : Names) (named : List ℕ) (rights : List CarriedRight) (what : RightKind) (n : ℕ) → Fits start now named rights → ((serial : ℕ) → HasName now serial → HasName after serial) → what ≢ kind.SendOnce
+one_named : (start now after : Names) (named : List ℕ) (rights : List CarriedRight) (what : RightKind) (n : ℕ)
+    → Fits start now named rights → ((serial : ℕ) → HasName now serial → HasName after serial) → what ≢ kind.SendOnce
     → ((serial : ℕ) → in_message.Live n ≡ in_message.Live serial → what ≢ kind.SendOnce → HasName after serial)
-    → (serial : ℕ) → (is_none (name_of_port start serial) && not (n == serial || list_any (λ port. port == serial) named)) ≡ false → HasName after serial
+    → (serial : ℕ) → (is_none (name_of_port start serial) && not
+    (n == serial || list_any (λ port. port == serial) named)) ≡ false → HasName after serial
 one_named start now after named rights what n fits still apart own serial unwanted =
-    elim (n == serial) as (λ (b : Bool). (n == serial) ≡ b → (is_none (name_of_port start serial) && not (b || list_any (λ port. port == serial) named)) ≡ false → HasName after serial) [
+    elim (n == serial) as (λ (b : Bool). (n == serial) ≡ b
+    → (is_none (name_of_port start serial) && not (b || list_any (λ port. port == serial) named)) ≡ false
+    → HasName after serial) [
       | true ↦ λ (same : _) (_ : _). own serial (ap (λ k. in_message.Live k) (number_same n serial same)) apart
       | false ↦ λ (_ : _) (e : _). still serial (fits.known serial e)
     ] refl unwanted
 
 -- the ports that have names, once one more right has arrived
-known_later : (start now after : Names) (named : List ℕ) (rights : List CarriedRight) (what : RightKind) (port : PortInMessage) → Fits start now named rights → ((serial : ℕ) → HasName now serial → HasName after serial)
+known_later : (start now after : Names) (named : List ℕ) (rights : List CarriedRight) (what : RightKind)
+    (port : PortInMessage) → Fits start now named rights → ((serial : ℕ) → HasName now serial → HasName after serial)
     → ((serial : ℕ) → port ≡ in_message.Live serial → what ≢ kind.SendOnce → HasName after serial)
-    → (serial : ℕ) → (is_none (name_of_port start serial) && not (list_any (λ port. port == serial) (named_with named what port))) ≡ false → HasName after serial
-known_later start now after named rights what in_message.Null fits still own serial unwanted = still serial (fits.known serial unwanted)
-known_later start now after named rights what in_message.Dead fits still own serial unwanted = still serial (fits.known serial unwanted)
-known_later start now after named rights kind.SendOnce (in_message.Live n) fits still own serial unwanted = still serial (fits.known serial unwanted)
+    → (serial : ℕ) → (is_none (name_of_port start serial) && not
+    (list_any (λ port. port == serial) (named_with named what port))) ≡ false → HasName after serial
+known_later start now after named rights what in_message.Null fits still own serial unwanted =
+    still serial (fits.known serial unwanted)
+known_later start now after named rights what in_message.Dead fits still own serial unwanted =
+    still serial (fits.known serial unwanted)
+known_later start now after named rights kind.SendOnce (in_message.Live n) fits still own serial unwanted =
+    still serial (fits.known serial unwanted)
 known_later start now after named rights kind.Send (in_message.Live n) fits still own serial unwanted =
     one_named start now after named rights kind.Send n fits still (λ (is : _). cc is) own serial unwanted
 known_later start now after named rights kind.Receive (in_message.Live n) fits still own serial unwanted =
     one_named start now after named rights kind.Receive n fits still (λ (is : _). cc is) own serial unwanted
 
-arrives_mid : (state : State) (space : ℕ) (start now : Names) (named : List ℕ) (rights : List CarriedRight) (given : List ℕ) (after : Names) (hand : Hand) → MidCall (with_names state space now) (λ w. hand w + weigh (carried_weigh w) rights)
+arrives_mid : (state : State) (space : ℕ) (start now : Names) (named : List ℕ) (rights : List CarriedRight)
+    (given : List ℕ) (after : Names) (hand : Hand)
+    → MidCall (with_names state space now) (λ w. hand w + weigh (carried_weigh w) rights)
     → Fits start now named rights → Arrives now rights given after → MidCall (with_names state space after) hand
 arrives_mid state space start now named [] given after hand mid fits (_, same) =
     subst (λ (n : Names). MidCall (with_names state space n) hand) (sym same)
-    (mid_hand (with_names state space now) (λ w. hand w + 0) hand mid (λ (q : ℕ). omega arith) (λ (q : ℕ) (dead : _). omega arith))
+    (mid_hand (with_names state space now) (λ w. hand w + 0) hand mid (λ (q : ℕ). omega arith)
+    (λ (q : ℕ) (dead : _). omega arith))
 arrives_mid state space start now named (right ∷ rights) given after hand mid fits (name, others, _, may, rest) =
     let here : State = with_names state space now in
     let later : Hand = λ w. hand w + weigh (carried_weigh w) rights in
     let wants : Bool = wants_name start named right.kind right.port in
     let next : Names = names_after now right.kind right.port name in
-    let in_hand : MidCall here (with_right later right) = mid_hand here (λ w. hand w + (carried_weigh w right + weigh (carried_weigh w) rights)) (with_right later right) mid (λ (q : ℕ). omega arith) (λ (q : ℕ) (dead : _). omega arith) in
-    let arrived = arrived_mid here space now later right.kind right.port name in_hand (get-here state.spaces space now) may
-    (λ (needs : _). omega (arith, fits.room, ap {B = ℕ} (λ (b : Bool). if b then 1 else 0) (counted start now named (right ∷ rights) right.kind right.port fits needs))) in
-    let moved : MidCall (with_names state space next) later = subst (λ (s : finmap.FinMap nat_cmp Names). MidCall (record state { spaces = s }) later) (insert-insert state.spaces space now next) arrived.mid in
+    let in_hand : MidCall here (with_right later right) =
+    mid_hand here (λ w. hand w + (carried_weigh w right + weigh (carried_weigh w) rights))
+    (with_right later right) mid (λ (q : ℕ). omega arith) (λ (q : ℕ) (dead : _). omega arith) in
+    let arrived =
+    arrived_mid here space now later right.kind right.port name in_hand (get-here state.spaces space now) may
+    (λ (needs : _). omega (
+      arith,
+      fits.room,
+      ap {B = ℕ} (λ (b : Bool). if b then 1 else 0)
+          (counted start now named (right ∷ rights) right.kind right.port fits needs),
+    )) in
+    let moved : MidCall (with_names state space next) later =
+    subst (λ (s : finmap.FinMap nat_cmp Names). MidCall (record state { spaces = s }) later)
+    (insert-insert state.spaces space now next) arrived.mid in
     arrives_mid state space start next (named_with named right.kind right.port) rights others after hand moved (record {
-      room = elim wants as (λ (b : Bool). wants ≡ b → finmap.len now + ((if b then 1 else 0) + names_needed start (named_with named right.kind right.port) rights) ≤ MAX_NAMES
+      room =
+          elim wants as (λ (b : Bool). wants ≡ b
+          → finmap.len now + ((if b then 1 else 0) + names_needed start
+          (named_with named right.kind right.port) rights) ≤ MAX_NAMES
           → finmap.len next + names_needed start (named_with named right.kind right.port) rights ≤ MAX_NAMES) [
             | true ↦ λ (_ : _) (room : _). omega (arith, room, arrived.more)
-            | false ↦ λ (unwanted : _) (room : _). omega (arith, room, arrived.same (has_one start now named (right ∷ rights) right.kind right.port fits unwanted))
+            | false ↦ λ (unwanted : _) (room : _). omega (
+              arith,
+              room,
+              arrived.same (has_one start now named
+                  (right ∷ rights) right.kind right.port fits unwanted),
+            )
           ] refl fits.room;
       known = known_later start now next named (right ∷ rights) right.kind right.port fits arrived.still arrived.own;
     }) rest
 
-reply_weighs : (w : Weight) (reply : Option CarriedRight) → weigh (carried_weigh w) (reply_right reply) ≡ reply_weigh w reply
+reply_weighs : (w : Weight) (reply : Option CarriedRight)
+    → weigh (carried_weigh w) (reply_right reply) ≡ reply_weigh w reply
 reply_weighs w None = refl
 reply_weighs w (Some right) = omega arith
 
 -- at first the names that ports have are those of the space
-known_first : (names : Names) (serial : ℕ) → (is_none (name_of_port names serial) && not false) ≡ false → HasName names serial
-known_first names serial unwanted = elim (name_of_port names serial) as (λ (o : Option ℕ). name_of_port names serial ≡ o → (is_none o && not false) ≡ false → HasName names serial) [
-  | None ↦ λ (_ : _) (e : _). absurd (cc e)
-  | Some name ↦ λ (is : _) (_ : _). let at = named_there names serial name is in record { name = name; entry = at.0; at = at.1; held = at.2 }
-] refl unwanted
+known_first : (names : Names) (serial : ℕ) → (is_none (name_of_port names serial) && not false) ≡ false
+    → HasName names serial
+known_first names serial unwanted =
+    elim (name_of_port names serial)
+    as (λ (o : Option ℕ). name_of_port names serial ≡ o → (is_none o && not false) ≡ false → HasName names serial) [
+      | None ↦ λ (_ : _) (e : _). absurd (cc e)
+      | Some name ↦ λ (is : _) (_ : _). let at = named_there names serial name is in
+          record { name = name; entry = at.0; at = at.1; held = at.2 }
+    ] refl unwanted
 
 -- A message is received.
-received_kept : (old : State) (space member serial : ℕ) (names : Names) (port : PortState) (message : Message) (later : List Message) (answer : Reply) (new : State) (effects : List Effect) → LawfulAtRest old → Acyclic old → finmap.get old.spaces space ≡ Some names
-    → finmap.get old.ports serial ≡ Some port → port.messages ≡ message ∷ later → lacks_names names message ≡ false → Received old space names member serial port message answer new effects → Kept new effects
-received_kept old space member serial names port message later answer new effects lawful acyclic there at is room (given, after, arrives, _, same, are) =
+received_kept : (old : State) (space member serial : ℕ) (names : Names) (port : PortState) (message : Message)
+    (later : List Message) (answer : Reply) (new : State) (effects : List Effect) → LawfulAtRest old → Acyclic old
+    → finmap.get old.spaces space ≡ Some names
+    → finmap.get old.ports serial ≡ Some port → port.messages ≡ message ∷ later → lacks_names names message ≡ false
+    → Received old space names member serial port message answer new effects → Kept new effects
+received_kept old space member serial names port message later answer new effects lawful acyclic there at is room
+    (given, after, arrives, _, same, are) =
     let out : State = without_oldest old serial in
-    let taken : MidCall out (message_hand serial message) = oldest_mid old serial port message later (mid_of old lawful acyclic) at is in
-    let there_out : finmap.get out.spaces space ≡ Some names = ap (λ (s : finmap.FinMap nat_cmp Names). finmap.get s space) (with_port_spaces old serial oldest_out) ∙ there in
-    let same_state : with_names out space names ≡ out = ap (λ (s : finmap.FinMap nat_cmp Names). record out { spaces = s }) (insert-same out.spaces space names there_out) in
+    let taken : MidCall out (message_hand serial message) =
+    oldest_mid old serial port message later (mid_of old lawful acyclic) at is in
+    let there_out : finmap.get out.spaces space ≡ Some names =
+    ap (λ (s : finmap.FinMap nat_cmp Names). finmap.get s space) (with_port_spaces old serial oldest_out) ∙ there in
+    let same_state : with_names out space names ≡ out =
+    ap (λ (s : finmap.FinMap nat_cmp Names). record out { spaces = s })
+    (insert-same out.spaces space names there_out) in
     let message_lawful : LawfulMessage message = oldest_lawful port message later (lawful.ports serial port at).2 is in
-    let all_weigh : (w : Weight) → weigh (carried_weigh w) (arriving message) ≡ reply_weigh w message.reply + weigh (carried_weigh w) message.rights =
-    λ (w : Weight). omega (arith, weigh-append (carried_weigh w) (reply_right message.reply) message.rights, reply_weighs w message.reply) in
-    let in_hand : MidCall out (λ w. empty_hand w + weigh (carried_weigh w) (arriving message)) = mid_hand out (message_hand serial message) (λ w. empty_hand w + weigh (carried_weigh w) (arriving message)) taken
-    (λ (q : ℕ). omega (arith, all_weigh (receive_of q), no_receive q serial message.destination message_lawful.destination)) (λ (q : ℕ) (dead : _). omega (arith, all_weigh (any_of q))) in
-    let arrived : MidCall (with_names out space after) empty_hand = arrives_mid out space names names [] (arriving message) given after empty_hand (subst (λ (s : State). MidCall s (λ w. empty_hand w + weigh (carried_weigh w) (arriving message))) (sym same_state) in_hand)
-    (record { room = ltb-false MAX_NAMES (finmap.len names + names_needed names [] (arriving message)) room; known = λ (n : ℕ) (unwanted : _). known_first names n unwanted }) arrives in
+    let all_weigh : (w : Weight) → weigh (carried_weigh w) (arriving message)
+    ≡ reply_weigh w message.reply + weigh (carried_weigh w) message.rights =
+    λ (w : Weight). omega (
+      arith,
+      weigh-append (carried_weigh w) (reply_right message.reply) message.rights,
+      reply_weighs w message.reply,
+    ) in
+    let in_hand : MidCall out (λ w. empty_hand w + weigh (carried_weigh w) (arriving message)) =
+    mid_hand out (message_hand serial message)
+    (λ w. empty_hand w + weigh (carried_weigh w) (arriving message)) taken
+    (λ (q : ℕ). omega (
+      arith,
+      all_weigh (receive_of q),
+      no_receive q serial message.destination message_lawful.destination,
+    ))
+    (λ (q : ℕ) (dead : _). omega (arith, all_weigh (any_of q))) in
+    let arrived : MidCall (with_names out space after) empty_hand =
+    arrives_mid out space names names [] (arriving message) given after empty_hand
+    (subst (λ (s : State). MidCall s (λ w. empty_hand w + weigh (carried_weigh w) (arriving message)))
+    (sym same_state) in_hand)
+    (record {
+      room = ltb-false MAX_NAMES (finmap.len names + names_needed names [] (arriving message)) room;
+      known = λ (n : ℕ) (unwanted : _). known_first names n unwanted;
+    }) arrives in
     let consumed = consumed_quiet message.destination serial in
-    subst (λ (s : State). Kept s effects) (sym same) (subst (λ (l : List Effect). Kept (with_names out space after) l) (sym are) (kept_of_mid (with_names out space after) empty_hand (destination_consumed message.destination serial) arrived consumed.waits consumed.receives))
+    subst (λ (s : State). Kept s effects) (sym same)
+    (subst (λ (l : List Effect). Kept (with_names out space after) l) (sym are)
+    (kept_of_mid (with_names out space after) empty_hand
+    (destination_consumed message.destination serial) arrived consumed.waits consumed.receives))
 
-too_large_kept : (old : State) (member serial : ℕ) (port : PortState) (message : Message) (later : List Message) (large : Bool) (answer : Reply) (new : State) (effects : List Effect) → LawfulAtRest old → Acyclic old
-    → finmap.get old.ports serial ≡ Some port → port.messages ≡ message ∷ later → TooLarge old member serial message large answer new effects → Kept new effects
-too_large_kept old member serial port message later true answer new effects lawful acyclic at is (_, same, are) = kept_as old new effects lawful acyclic same are
+too_large_kept : (old : State) (member serial : ℕ) (port : PortState) (message : Message) (later : List Message)
+    (large : Bool) (answer : Reply) (new : State) (effects : List Effect) → LawfulAtRest old → Acyclic old
+    → finmap.get old.ports serial ≡ Some port → port.messages ≡ message ∷ later
+    → TooLarge old member serial message large answer new effects → Kept new effects
+too_large_kept old member serial port message later true answer new effects lawful acyclic at is (_, same, are) =
+    kept_as old new effects lawful acyclic same are
 too_large_kept old member serial port message later false answer new effects lawful acyclic at is (_, same, are) =
-    let taken : MidCall (without_oldest old serial) (message_hand serial message) = oldest_mid old serial port message later (mid_of old lawful acyclic) at is in
-    subst (λ (s : State). Kept s effects) (sym same) (subst (λ (l : List Effect). Kept (without_oldest old serial) l) (sym are)
-    (destroyed_kept (without_oldest old serial) serial message taken (oldest_lawful port message later (lawful.ports serial port at).2 is)))
+    let taken : MidCall (without_oldest old serial) (message_hand serial message) =
+    oldest_mid old serial port message later (mid_of old lawful acyclic) at is in
+    subst (λ (s : State). Kept s effects) (sym same)
+    (subst (λ (l : List Effect). Kept (without_oldest old serial) l) (sym are)
+    (destroyed_kept (without_oldest old serial) serial message taken
+    (oldest_lawful port message later (lawful.ports serial port at).2 is)))
 
 -- A receive.
 
-taken_out_kept : (old : State) (space member serial : ℕ) (names : Names) (receipt : Receipt) (port : PortState) (message : Message) (later : List Message) (answer : Reply) (new : State) (effects : List Effect) → LawfulAtRest old → Acyclic old → finmap.get old.spaces space ≡ Some names
-    → finmap.get old.ports serial ≡ Some port → port.messages ≡ message ∷ later → TakesOut old space names receipt member serial port message answer new effects → Kept new effects
-taken_out_kept old space member serial names receipt port message later answer new effects lawful acyclic there at is takes =
-    elim (nat_lt receipt.limit (message_size message)) as (λ (b : Bool). MatchBool b (TooLarge old member serial message receipt.large answer new effects)
-    (MatchBool (lacks_names names message) ((answer ≡ without_message RcvHeaderErrorSpace 0 0) × (new ≡ old) × (effects ≡ [])) (Received old space names member serial port message answer new effects)) → Kept new effects) [
-      | true ↦ λ (large : _). too_large_kept old member serial port message later receipt.large answer new effects lawful acyclic at is large
-      | false ↦ elim (lacks_names names message) as (λ (b : Bool). lacks_names names message ≡ b → MatchBool b ((answer ≡ without_message RcvHeaderErrorSpace 0 0) × (new ≡ old) × (effects ≡ [])) (Received old space names member serial port message answer new effects) → Kept new effects) [
-        | true ↦ λ (_ : _) (refused : _). kept_as old new effects lawful acyclic refused.1 refused.2
-        | false ↦ λ (room : _) (received : _). received_kept old space member serial names port message later answer new effects lawful acyclic there at is room received
-      ] refl
+taken_out_kept : (old : State) (space member serial : ℕ) (names : Names) (receipt : Receipt) (port : PortState)
+    (message : Message) (later : List Message) (answer : Reply) (new : State) (effects : List Effect) → LawfulAtRest old
+    → Acyclic old → finmap.get old.spaces space ≡ Some names
+    → finmap.get old.ports serial ≡ Some port → port.messages ≡ message ∷ later
+    → TakesOut old space names receipt member serial port message answer new effects → Kept new effects
+taken_out_kept old space member serial names receipt port message later answer new effects lawful acyclic there at is
+    takes =
+    elim (nat_lt receipt.limit (message_size message))
+    as (λ (b : Bool). MatchBool b (TooLarge old member serial message receipt.large answer new effects)
+    (MatchBool (lacks_names names message)
+    ((answer ≡ without_message RcvHeaderErrorSpace 0 0) × (new ≡ old) × (effects ≡ []))
+    (Received old space names member serial port message answer new effects)) → Kept new effects) [
+      | true ↦ λ (large : _). too_large_kept old member serial port message later receipt.large answer new effects
+          lawful acyclic at is large
+      | false ↦ elim (lacks_names names message)
+          as (λ (b : Bool). lacks_names names message ≡ b
+          → MatchBool b ((answer ≡ without_message RcvHeaderErrorSpace 0 0) × (new ≡ old) × (effects ≡ []))
+          (Received old space names member serial port message answer new effects) → Kept new effects) [
+            | true ↦ λ (_ : _) (refused : _). kept_as old new effects lawful acyclic refused.1 refused.2
+            | false ↦ λ (room : _) (received : _). received_kept old space member serial names port message later answer new
+                effects lawful acyclic there at is room received
+          ] refl
     ] takes
 
-pub receive_kept : (old : State) (space : ℕ) (names : Names) (receipt : Receipt) (answer : Reply) (new : State) (effects : List Effect) → LawfulAtRest old → Acyclic old → finmap.get old.spaces space ≡ Some names
+pub receive_kept : (old : State) (space : ℕ) (names : Names) (receipt : Receipt) (answer : Reply) (new : State)
+    (effects : List Effect) → LawfulAtRest old → Acyclic old → finmap.get old.spaces space ≡ Some names
     → Receives old space names receipt answer new effects → Kept new effects
 receive_kept old space names receipt answer new effects lawful acyclic there receives =
-    elim (receive_refusal old names receipt) as (λ (o : Option KernReturn). MatchOption o (Takes old space names receipt answer new effects) (λ code. (answer ≡ without_message code 0 0) × (new ≡ old) × (effects ≡ [])) → Kept new effects) [
-      | None ↦ λ (taken : _). taken_out_kept old space taken.0 taken.1 names receipt taken.2 taken.3 taken.4 answer new effects lawful acyclic there taken.7 taken.8 taken.9
+    elim (receive_refusal old names receipt)
+    as (λ (o : Option KernReturn). MatchOption o (Takes old space names receipt answer new effects)
+    (λ code. (answer ≡ without_message code 0 0) × (new ≡ old) × (effects ≡ [])) → Kept new effects) [
+      | None ↦ λ (taken : _). taken_out_kept old space taken.0 taken.1 names receipt taken.2 taken.3 taken.4 answer new
+          effects lawful acyclic there taken.7 taken.8 taken.9
       | Some code ↦ λ (refused : _). kept_as old new effects lawful acyclic refused.1 refused.2
     ] receives

@@ -32,7 +32,8 @@ message_shown (reply.Message code size member message) = message
 message_shown _ = []
 
 -- one receive: the message that was taken or looked at, and what became of it
-pub record Taking (old : State) (space : ℕ) (names : Names) (receipt : Receipt) (answer : Reply) (new : State) (effects : List Effect) : Type 0 where
+pub record Taking (old : State) (space : ℕ) (names : Names) (receipt : Receipt) (answer : Reply) (new : State)
+    (effects : List Effect) : Type 0 where
   pub member : ℕ
   pub serial : ℕ
   pub port : PortState
@@ -43,26 +44,37 @@ pub record Taking (old : State) (space : ℕ) (names : Names) (receipt : Receipt
   pub first : port.messages ≡ message ∷ later
   pub takes : TakesOut old space names receipt member serial port message answer new effects
 
-one_serial : (names : Names) (member serial other : ℕ) → HoldsReceiveRight names member serial → HoldsReceiveRight names member other → serial ≡ other
+one_serial : (names : Names) (member serial other : ℕ) → HoldsReceiveRight names member serial
+    → HoldsReceiveRight names member other → serial ≡ other
 one_serial names member serial other here there =
     let entry : here.0 ≡ there.0 = some_same here.0 there.0 (sym here.1 ∙ there.1) in
     some_same serial other (sym here.2 ∙ ap received_port entry ∙ there.2)
 
 -- the code of a receive says whether the message was too large, or lacked names, or was received
-pub data Outcomes (old : State) (space : ℕ) (names : Names) (receipt : Receipt) (member serial : ℕ) (port : PortState) (message : Message) (answer : Reply) (new : State) (effects : List Effect) : Type 0 where
-  was_large : TooLarge old member serial message receipt.large answer new effects → Outcomes old space names receipt member serial port message answer new effects
-  was_lacking : answer ≡ without_message RcvHeaderErrorSpace 0 0 → new ≡ old → effects ≡ [] → Outcomes old space names receipt member serial port message answer new effects
-  was_received : Received old space names member serial port message answer new effects → Outcomes old space names receipt member serial port message answer new effects
+pub data Outcomes (old : State) (space : ℕ) (names : Names) (receipt : Receipt) (member serial : ℕ) (port : PortState)
+    (message : Message) (answer : Reply) (new : State) (effects : List Effect) : Type 0 where
+  was_large : TooLarge old member serial message receipt.large answer new effects
+      → Outcomes old space names receipt member serial port message answer new effects
+  was_lacking : answer ≡ without_message RcvHeaderErrorSpace 0 0 → new ≡ old → effects ≡ []
+      → Outcomes old space names receipt member serial port message answer new effects
+  was_received : Received old space names member serial port message answer new effects
+      → Outcomes old space names receipt member serial port message answer new effects
 
-pub outcome_of : (old : State) (space : ℕ) (names : Names) (receipt : Receipt) (member serial : ℕ) (port : PortState) (message : Message) (answer : Reply) (new : State) (effects : List Effect)
-    → TakesOut old space names receipt member serial port message answer new effects → Outcomes old space names receipt member serial port message answer new effects
+pub outcome_of : (old : State) (space : ℕ) (names : Names) (receipt : Receipt) (member serial : ℕ) (port : PortState)
+    (message : Message) (answer : Reply) (new : State) (effects : List Effect)
+    → TakesOut old space names receipt member serial port message answer new effects
+    → Outcomes old space names receipt member serial port message answer new effects
 outcome_of old space names receipt member serial port message answer new effects takes =
-    elim (nat_lt receipt.limit (message_size message)) as (λ (b : Bool). MatchBool b (TooLarge old member serial message receipt.large answer new effects)
-    (MatchBool (lacks_names names message) ((answer ≡ without_message RcvHeaderErrorSpace 0 0) × (new ≡ old) × (effects ≡ [])) (Received old space names member serial port message answer new effects))
+    elim (nat_lt receipt.limit (message_size message))
+    as (λ (b : Bool). MatchBool b (TooLarge old member serial message receipt.large answer new effects)
+    (MatchBool (lacks_names names message)
+    ((answer ≡ without_message RcvHeaderErrorSpace 0 0) × (new ≡ old) × (effects ≡ []))
+    (Received old space names member serial port message answer new effects))
     → Outcomes old space names receipt member serial port message answer new effects) [
       | true ↦ λ (here : _). was_large here
       | false ↦ λ (here : _). elim (lacks_names names message) as (λ (b : Bool).
-          MatchBool b ((answer ≡ without_message RcvHeaderErrorSpace 0 0) × (new ≡ old) × (effects ≡ [])) (Received old space names member serial port message answer new effects)
+          MatchBool b ((answer ≡ without_message RcvHeaderErrorSpace 0 0) × (new ≡ old) × (effects ≡ []))
+          (Received old space names member serial port message answer new effects)
           → Outcomes old space names receipt member serial port message answer new effects) [
             | true ↦ λ (short : _). was_lacking short.0 short.1 short.2
             | false ↦ λ (whole : _). was_received whole
@@ -74,22 +86,36 @@ pub record SameLeft (one other : State) (effects others : List Effect) : Type 0 
   pub state : one ≡ other
   pub effects_are : effects ≡ others
 
-same_large : (old : State) (member serial : ℕ) (message : Message) (keeps : Bool) (answer : Reply) (one other : State) (effects others : List Effect)
-    → TooLarge old member serial message keeps answer one effects → TooLarge old member serial message keeps answer other others → SameLeft one other effects others
-same_large old member serial message keeps answer one other effects others here there = record { state = here.1 ∙ sym there.1; effects_are = here.2 ∙ sym there.2 }
+same_large : (old : State) (member serial : ℕ) (message : Message) (keeps : Bool) (answer : Reply) (one other : State)
+    (effects others : List Effect)
+    → TooLarge old member serial message keeps answer one effects
+    → TooLarge old member serial message keeps answer other others → SameLeft one other effects others
+same_large old member serial message keeps answer one other effects others here there =
+    record { state = here.1 ∙ sym there.1; effects_are = here.2 ∙ sym there.2 }
 
-same_received : (old : State) (space : ℕ) (names : Names) (member serial : ℕ) (port : PortState) (message : Message) (answer : Reply) (one other : State) (effects others : List Effect)
-    → LawfulMessage message → Received old space names member serial port message answer one effects → Received old space names member serial port message answer other others → SameLeft one other effects others
+same_received : (old : State) (space : ℕ) (names : Names) (member serial : ℕ) (port : PortState) (message : Message)
+    (answer : Reply) (one other : State) (effects others : List Effect)
+    → LawfulMessage message → Received old space names member serial port message answer one effects
+    → Received old space names member serial port message answer other others → SameLeft one other effects others
 unfolding message_shown
 same_received old space names member serial port message answer one other effects others lawful here there =
-    let encodings : received_encoding message member port.sequence_number here.0 ≡ received_encoding message member port.sequence_number there.0 = ap message_shown (sym here.3 ∙ there.3) in
+    let encodings : received_encoding message member port.sequence_number here.0
+    ≡ received_encoding message member port.sequence_number there.0 = ap message_shown (sym here.3 ∙ there.3) in
     let given : here.0 ≡ there.0 = one_choice names (arriving message) here.0 there.0 here.1 there.1 here.2 there.2
-    (encoding_told message member port.sequence_number here.0 there.0 lawful (as_many_names names (arriving message) here.0 here.1 here.2) (as_many_names names (arriving message) there.0 there.1 there.2) encodings) in
-    let after : here.1 ≡ there.1 = one_arrival names (arriving message) here.0 here.1 there.1 here.2 (subst (λ (g : List ℕ). Arrives names (arriving message) g there.1) (sym given) there.2) in
-    record { state = here.4 ∙ ap (λ (n : Names). with_names (without_oldest old serial) space n) after ∙ sym there.4; effects_are = here.5 ∙ sym there.5 }
+    (encoding_told message member port.sequence_number here.0 there.0 lawful
+    (as_many_names names (arriving message) here.0 here.1 here.2)
+    (as_many_names names (arriving message) there.0 there.1 there.2) encodings) in
+    let after : here.1 ≡ there.1 =
+    one_arrival names (arriving message) here.0 here.1 there.1 here.2
+    (subst (λ (g : List ℕ). Arrives names (arriving message) g there.1) (sym given) there.2) in
+    record {
+      state = here.4 ∙ ap (λ (n : Names). with_names (without_oldest old serial) space n) after ∙ sym there.4;
+      effects_are = here.5 ∙ sym there.5;
+    }
 
 -- which message two receives from one name took
-record SameMessage (old : State) (serial other_serial : ℕ) (port other_port : PortState) (message other_message : Message) : Type 0 where
+record SameMessage (old : State) (serial other_serial : ℕ) (port other_port : PortState)
+    (message other_message : Message) : Type 0 where
   same_serial : serial ≡ other_serial
   same_port : port ≡ other_port
   same_message : message ≡ other_message
@@ -98,22 +124,32 @@ first_or : Message → List Message → Message
 first_or d [] = d
 first_or d (message ∷ messages) = message
 
-same_message_of : (old : State) (space : ℕ) (names : Names) (receipt : Receipt) (answer : Reply) (one other : State) (effects others : List Effect)
-    (here : Taking old space names receipt answer one effects) (there : Taking old space names receipt answer other others)
-    → here.member ≡ there.member → SameMessage old here.serial there.serial here.port there.port here.message there.message
+same_message_of : (old : State) (space : ℕ) (names : Names) (receipt : Receipt) (answer : Reply) (one other : State)
+    (effects others : List Effect)
+    (here : Taking old space names receipt answer one effects)
+    (there : Taking old space names receipt answer other others)
+    → here.member ≡ there.member → SameMessage old here.serial there.serial here.port there.port here.message
+    there.message
 unfolding first_or
 same_message_of old space names receipt answer one other effects others here there member =
-    let serial : here.serial ≡ there.serial = one_serial names here.member here.serial there.serial here.holds (subst (λ (m : ℕ). HoldsReceiveRight names m there.serial) (sym member) there.holds) in
-    let port : here.port ≡ there.port = some_same here.port there.port (sym here.live ∙ ap (λ (s : ℕ). finmap.get old.ports s) serial ∙ there.live) in
+    let serial : here.serial ≡ there.serial =
+    one_serial names here.member here.serial there.serial here.holds
+    (subst (λ (m : ℕ). HoldsReceiveRight names m there.serial) (sym member) there.holds) in
+    let port : here.port ≡ there.port =
+    some_same here.port there.port (sym here.live ∙ ap (λ (s : ℕ). finmap.get old.ports s) serial ∙ there.live) in
     record {
       same_serial = serial;
       same_port = port;
-      same_message = ap (first_or here.message) (sym here.first ∙ ap (λ (p : PortState). p.messages) port ∙ there.first);
+      same_message =
+          ap (first_or here.message) (sym here.first ∙ ap (λ (p : PortState). p.messages) port ∙ there.first);
     }
 
-same_large_of : (old : State) (space : ℕ) (names : Names) (receipt : Receipt) (answer : Reply) (one other : State) (effects others : List Effect)
-    (here : Taking old space names receipt answer one effects) (there : Taking old space names receipt answer other others)
-    → TooLarge old here.member here.serial here.message receipt.large answer one effects → TooLarge old there.member there.serial there.message receipt.large answer other others
+same_large_of : (old : State) (space : ℕ) (names : Names) (receipt : Receipt) (answer : Reply) (one other : State)
+    (effects others : List Effect)
+    (here : Taking old space names receipt answer one effects)
+    (there : Taking old space names receipt answer other others)
+    → TooLarge old here.member here.serial here.message receipt.large answer one effects
+    → TooLarge old there.member there.serial there.message receipt.large answer other others
     → SameLeft one other effects others
 unfolding member_shown
 same_large_of old space names receipt answer one other effects others here there first second =
@@ -121,14 +157,19 @@ same_large_of old space names receipt answer one other effects others here there
     let same = same_message_of old space names receipt answer one other effects others here there member in
     let moved : TooLarge old here.member here.serial here.message receipt.large answer other others =
     subst (λ (m : ℕ). TooLarge old m here.serial here.message receipt.large answer other others) (sym member)
-    (subst (λ (s : ℕ). TooLarge old there.member s here.message receipt.large answer other others) (sym same.same_serial)
-    (subst (λ (m : Message). TooLarge old there.member there.serial m receipt.large answer other others) (sym same.same_message) second)) in
+    (subst (λ (s : ℕ). TooLarge old there.member s here.message receipt.large answer other others)
+    (sym same.same_serial)
+    (subst (λ (m : Message). TooLarge old there.member there.serial m receipt.large answer other others)
+    (sym same.same_message) second)) in
     same_large old here.member here.serial here.message receipt.large answer one other effects others first moved
 
-same_received_of : (old : State) (space : ℕ) (names : Names) (receipt : Receipt) (answer : Reply) (one other : State) (effects others : List Effect)
-    (here : Taking old space names receipt answer one effects) (there : Taking old space names receipt answer other others)
+same_received_of : (old : State) (space : ℕ) (names : Names) (receipt : Receipt) (answer : Reply) (one other : State)
+    (effects others : List Effect)
+    (here : Taking old space names receipt answer one effects)
+    (there : Taking old space names receipt answer other others)
     → LawfulMessage here.message
-    → Received old space names here.member here.serial here.port here.message answer one effects → Received old space names there.member there.serial there.port there.message answer other others
+    → Received old space names here.member here.serial here.port here.message answer one effects
+    → Received old space names there.member there.serial there.port there.message answer other others
     → SameLeft one other effects others
 unfolding member_shown
 same_received_of old space names receipt answer one other effects others here there lawful first second =
@@ -136,12 +177,17 @@ same_received_of old space names receipt answer one other effects others here th
     let same = same_message_of old space names receipt answer one other effects others here there member in
     let moved : Received old space names here.member here.serial here.port here.message answer other others =
     subst (λ (m : ℕ). Received old space names m here.serial here.port here.message answer other others) (sym member)
-    (subst (λ (s : ℕ). Received old space names there.member s here.port here.message answer other others) (sym same.same_serial)
-    (subst (λ (p : PortState). Received old space names there.member there.serial p here.message answer other others) (sym same.same_port)
-    (subst (λ (m : Message). Received old space names there.member there.serial there.port m answer other others) (sym same.same_message) second))) in
-    same_received old space names here.member here.serial here.port here.message answer one other effects others lawful first moved
+    (subst (λ (s : ℕ). Received old space names there.member s here.port here.message answer other others)
+    (sym same.same_serial)
+    (subst (λ (p : PortState). Received old space names there.member there.serial p here.message answer other others)
+    (sym same.same_port)
+    (subst (λ (m : Message). Received old space names there.member there.serial there.port m answer other others)
+    (sym same.same_message) second))) in
+    same_received old space names here.member here.serial here.port here.message answer one other effects others lawful
+    first moved
 
-large_code : (answer : Reply) (size member : ℕ) → answer ≡ without_message RcvTooLarge size member → code_shown answer ≡ 0x1000_4004
+large_code : (answer : Reply) (size member : ℕ) → answer ≡ without_message RcvTooLarge size member
+    → code_shown answer ≡ 0x1000_4004
 unfolding code_shown
 large_code answer size member is = ap code_shown is
 
@@ -149,32 +195,45 @@ lacking_code : (answer : Reply) → answer ≡ without_message RcvHeaderErrorSpa
 unfolding code_shown
 lacking_code answer is = ap code_shown is
 
-received_code : (answer : Reply) (size member : ℕ) (encoding : List ℕ) → answer ≡ reply.Message Success size member encoding → code_shown answer ≡ 0
+received_code : (answer : Reply) (size member : ℕ) (encoding : List ℕ)
+    → answer ≡ reply.Message Success size member encoding → code_shown answer ≡ 0
 unfolding code_shown
 received_code answer size member encoding is = ap code_shown is
 
-outcomes_same : (old : State) (space : ℕ) (names : Names) (receipt : Receipt) (answer : Reply) (one other : State) (effects others : List Effect)
-    (here : Taking old space names receipt answer one effects) (there : Taking old space names receipt answer other others)
+outcomes_same : (old : State) (space : ℕ) (names : Names) (receipt : Receipt) (answer : Reply) (one other : State)
+    (effects others : List Effect)
+    (here : Taking old space names receipt answer one effects)
+    (there : Taking old space names receipt answer other others)
     → LawfulMessage here.message
-    → Outcomes old space names receipt here.member here.serial here.port here.message answer one effects → Outcomes old space names receipt there.member there.serial there.port there.message answer other others
+    → Outcomes old space names receipt here.member here.serial here.port here.message answer one effects
+    → Outcomes old space names receipt there.member there.serial there.port there.message answer other others
     → SameLeft one other effects others
-outcomes_same old space names receipt answer one other effects others here there lawful (was_large first) (was_large second) =
+outcomes_same old space names receipt answer one other effects others here there lawful (was_large first)
+    (was_large second) =
     same_large_of old space names receipt answer one other effects others here there first second
-outcomes_same old space names receipt answer one other effects others here there lawful (was_large first) (was_lacking is as_before none) =
+outcomes_same old space names receipt answer one other effects others here there lawful (was_large first)
+    (was_lacking is as_before none) =
     absurd (omega (arith, large_code answer _ _ first.0, lacking_code answer is))
-outcomes_same old space names receipt answer one other effects others here there lawful (was_large first) (was_received second) =
+outcomes_same old space names receipt answer one other effects others here there lawful (was_large first)
+    (was_received second) =
     absurd (omega (arith, large_code answer _ _ first.0, received_code answer _ _ _ second.3))
-outcomes_same old space names receipt answer one other effects others here there lawful (was_lacking is as_before none) (was_large second) =
+outcomes_same old space names receipt answer one other effects others here there lawful (was_lacking is as_before none)
+    (was_large second) =
     absurd (omega (arith, large_code answer _ _ second.0, lacking_code answer is))
-outcomes_same old space names receipt answer one other effects others here there lawful (was_lacking is as_before none) (was_lacking is_too as_before_too none_too) =
+outcomes_same old space names receipt answer one other effects others here there lawful (was_lacking is as_before none)
+    (was_lacking is_too as_before_too none_too) =
     record { state = as_before ∙ sym as_before_too; effects_are = none ∙ sym none_too }
-outcomes_same old space names receipt answer one other effects others here there lawful (was_lacking is as_before none) (was_received second) =
+outcomes_same old space names receipt answer one other effects others here there lawful (was_lacking is as_before none)
+    (was_received second) =
     absurd (omega (arith, lacking_code answer is, received_code answer _ _ _ second.3))
-outcomes_same old space names receipt answer one other effects others here there lawful (was_received first) (was_large second) =
+outcomes_same old space names receipt answer one other effects others here there lawful (was_received first)
+    (was_large second) =
     absurd (omega (arith, received_code answer _ _ _ first.3, large_code answer _ _ second.0))
-outcomes_same old space names receipt answer one other effects others here there lawful (was_received first) (was_lacking is as_before none) =
+outcomes_same old space names receipt answer one other effects others here there lawful (was_received first)
+    (was_lacking is as_before none) =
     absurd (omega (arith, received_code answer _ _ _ first.3, lacking_code answer is))
-outcomes_same old space names receipt answer one other effects others here there lawful (was_received first) (was_received second) =
+outcomes_same old space names receipt answer one other effects others here there lawful (was_received first)
+    (was_received second) =
     same_received_of old space names receipt answer one other effects others here there lawful first second
 
 -- a receive as its definition has it, whatever the test of its sources said
@@ -182,35 +241,60 @@ abbrev pub Takes : State → ℕ → Names → Receipt → Reply → State → L
 Takes old space names receipt answer new effects =
     (member : ℕ) × (serial : ℕ) × (port : PortState) × (message : Message) × (later : List Message)
     × Contains (source_names (sources old names receipt.name (finmap.get names receipt.name))) member
-    × HoldsReceiveRight names member serial × (finmap.get old.ports serial ≡ Some port) × (port.messages ≡ message ∷ later)
+    × HoldsReceiveRight names member serial × (finmap.get old.ports serial ≡ Some port)
+    × (port.messages ≡ message ∷ later)
     × TakesOut old space names receipt member serial port message answer new effects
 
 abbrev pub Refuses : Option KernReturn → State → ℕ → Names → Receipt → Reply → State → List Effect → Type 0
 Refuses refusal old space names receipt answer new effects =
-    MatchOption refusal (Takes old space names receipt answer new effects) (λ code. (answer ≡ without_message code 0 0) × (new ≡ old) × (effects ≡ []))
+    MatchOption refusal (Takes old space names receipt answer new effects)
+    (λ code. (answer ≡ without_message code 0 0) × (new ≡ old) × (effects ≡ []))
 
-pub taking_of : (old : State) (space : ℕ) (names : Names) (receipt : Receipt) (answer : Reply) (new : State) (effects : List Effect)
+pub taking_of : (old : State) (space : ℕ) (names : Names) (receipt : Receipt) (answer : Reply) (new : State)
+    (effects : List Effect)
     → Takes old space names receipt answer new effects → Taking old space names receipt answer new effects
 taking_of old space names receipt answer new effects takes =
-    record { member = takes.0; serial = takes.1; port = takes.2; message = takes.3; later = takes.4; holds = takes.6; live = takes.7; first = takes.8; takes = takes.9 }
+    record {
+      member = takes.0;
+      serial = takes.1;
+      port = takes.2;
+      message = takes.3;
+      later = takes.4;
+      holds = takes.6;
+      live = takes.7;
+      first = takes.8;
+      takes = takes.9;
+    }
 
 -- two receives with one reply leave one state and one list of effects
 zero_less : (first : Message) (later : List Message) → 0 < length (first ∷ later)
 zero_less first later = omega arith
 
-pub same_taking : (old : State) (space : ℕ) (names : Names) (receipt : Receipt) (answer : Reply) (one other : State) (effects others : List Effect)
-    → LawfulAtRest old → Taking old space names receipt answer one effects → Taking old space names receipt answer other others → SameLeft one other effects others
+pub same_taking : (old : State) (space : ℕ) (names : Names) (receipt : Receipt) (answer : Reply) (one other : State)
+    (effects others : List Effect)
+    → LawfulAtRest old → Taking old space names receipt answer one effects
+    → Taking old space names receipt answer other others → SameLeft one other effects others
 same_taking old space names receipt answer one other effects others lawful here there =
     let port_is = (lawful.ports here.serial here.port here.live).2 in
-    let first_is : LawfulMessage here.message = (subst (λ (l : List Message). All LawfulMessage l) here.first port_is.messages) 0 here.message (zero_less here.message here.later) in
+    let first_is : LawfulMessage here.message =
+    (subst (λ (l : List Message). All LawfulMessage l) here.first port_is.messages) 0 here.message
+    (zero_less here.message here.later) in
     outcomes_same old space names receipt answer one other effects others here there first_is
     (outcome_of old space names receipt here.member here.serial here.port here.message answer one effects here.takes)
-    (outcome_of old space names receipt there.member there.serial there.port there.message answer other others there.takes)
+    (outcome_of old space names receipt there.member there.serial there.port there.message answer other others
+    there.takes)
 
-pub same_receive : (old : State) (space : ℕ) (names : Names) (receipt : Receipt) (answer : Reply) (one other : State) (effects others : List Effect)
-    → LawfulAtRest old → Receives old space names receipt answer one effects → Receives old space names receipt answer other others → SameLeft one other effects others
+pub same_receive : (old : State) (space : ℕ) (names : Names) (receipt : Receipt) (answer : Reply) (one other : State)
+    (effects others : List Effect)
+    → LawfulAtRest old → Receives old space names receipt answer one effects
+    → Receives old space names receipt answer other others → SameLeft one other effects others
 same_receive old space names receipt answer one other effects others lawful here there =
-    elim (receive_refusal old names receipt) as (λ (r : Option KernReturn). Refuses r old space names receipt answer one effects → Refuses r old space names receipt answer other others → SameLeft one other effects others) [
-      | None ↦ λ (first : _) (second : _). same_taking old space names receipt answer one other effects others lawful (taking_of old space names receipt answer one effects first) (taking_of old space names receipt answer other others second)
-      | Some code ↦ λ (first : _) (second : _). record { state = first.1 ∙ sym second.1; effects_are = first.2 ∙ sym second.2 }
+    elim (receive_refusal old names receipt)
+    as (λ (r : Option KernReturn). Refuses r old space names receipt answer one effects
+    → Refuses r old space names receipt answer other others → SameLeft one other effects others) [
+      | None ↦ λ (first : _) (second : _). same_taking old space names receipt answer one other effects others lawful
+          (taking_of old space names receipt answer one effects first)
+          (taking_of old space names receipt answer other others second)
+      | Some code ↦ λ (first : _) (second : _).
+          record { state = first.1 ∙ sym second.1; effects_are = first.2 ∙ sym second.2 }
     ] here there

@@ -31,11 +31,15 @@ abbrev AreRefusals : Tests → Type 0
 AreRefusals [] = Unit {0}
 AreRefusals (test ∷ tests) = (is_success test.1 ≡ false) × AreRefusals tests
 
-unless_fails : {X : Type 0} (tests : Tests) (r : Result X KernReturn) → AreRefusals tests → Fails r → Fails (unless_failing tests r)
+unless_fails : {X : Type 0} (tests : Tests) (r : Result X KernReturn) → AreRefusals tests → Fails r
+    → Fails (unless_failing tests r)
 unless_fails [] r codes rest = rest
-unless_fails (test ∷ tests) r codes rest = elim test.0 as (λ (b : Bool). Fails (if b then Err test.1 else unless_failing tests r)) [ true ↦ record { code = codes.0 } | false ↦ unless_fails tests r codes.1 rest ]
+unless_fails (test ∷ tests) r codes rest =
+    elim test.0 as (λ (b : Bool). Fails (if b then Err test.1 else unless_failing tests r))
+    [ true ↦ record { code = codes.0 } | false ↦ unless_fails tests r codes.1 rest ]
 
-and_then_fails : {X Y : Type 0} (r : Result X KernReturn) (next : X → Result Y KernReturn) → Fails r → ((x : X) → Fails (next x)) → Fails (and_then r next)
+and_then_fails : {X Y : Type 0} (r : Result X KernReturn) (next : X → Result Y KernReturn) → Fails r
+    → ((x : X) → Fails (next x)) → Fails (and_then r next)
 and_then_fails (Ok x) next first rest = rest x
 and_then_fails (Err code) next first rest = record { code = first.code }
 
@@ -46,34 +50,49 @@ or_fails code (Some x) is = record { code = tt }
 fine : {X : Type 0} (x : X) → Fails (Ok x)
 fine x = record { code = tt }
 
-if_fails : {X : Type 0} (b : Bool) (one other : Result X KernReturn) → Fails one → Fails other → Fails (if b then one else other)
+if_fails : {X : Type 0} (b : Bool) (one other : Result X KernReturn) → Fails one → Fails other
+    → Fails (if b then one else other)
 if_fails true one other a b = a
 if_fails false one other a b = b
 
-destination_fails : (state : State) (space name : ℕ) (disposition : Disposition) → Fails (take_destination state space name disposition)
+destination_fails : (state : State) (space name : ℕ) (disposition : Disposition)
+    → Fails (take_destination state space name disposition)
 destination_fails state space name disposition =
-    and_then_fails (or_refused SendInvalidDest (copy_in state space name disposition)) (λ (taken : Taken). and_then (or_refused SendInvalidDest (sending.live_port taken.right.port)) (λ (serial : ℕ). Ok (taken, serial)))
+    and_then_fails (or_refused SendInvalidDest (copy_in state space name disposition))
+    (λ (taken : Taken). and_then (or_refused SendInvalidDest (sending.live_port taken.right.port))
+    (λ (serial : ℕ). Ok (taken, serial)))
     (or_fails SendInvalidDest (copy_in state space name disposition) refl) (λ (taken : Taken).
-    and_then_fails (or_refused SendInvalidDest (sending.live_port taken.right.port)) (λ (serial : ℕ). Ok (taken, serial)) (or_fails SendInvalidDest (sending.live_port taken.right.port) refl) (λ (serial : ℕ). fine (taken, serial)))
+    and_then_fails (or_refused SendInvalidDest (sending.live_port taken.right.port))
+    (λ (serial : ℕ). Ok (taken, serial)) (or_fails SendInvalidDest (sending.live_port taken.right.port) refl)
+    (λ (serial : ℕ). fine (taken, serial)))
 
-reply_fails : (state : State) (space name : ℕ) (disposition : Option Disposition) → Fails (take_reply state space name disposition)
+reply_fails : (state : State) (space name : ℕ) (disposition : Option Disposition)
+    → Fails (take_reply state space name disposition)
 reply_fails state space name None = fine _
 reply_fails state space name (Some disposition) =
-    if_fails (is_null_or_dead name) _ _ (fine _) (and_then_fails (or_refused SendInvalidReply _) _ (or_fails SendInvalidReply _ refl) (λ (taken : Taken). fine _))
+    if_fails (is_null_or_dead name) _ _ (fine _)
+    (and_then_fails (or_refused SendInvalidReply _) _ (or_fails SendInvalidReply _ refl)
+    (λ (taken : Taken). fine _))
 
-header_fails : (state : State) (space remote : ℕ) (destination : Disposition) (local : ℕ) (reply : Option Disposition) → Fails (take_header state space remote destination local reply)
+header_fails : (state : State) (space remote : ℕ) (destination : Disposition) (local : ℕ) (reply : Option Disposition)
+    → Fails (take_header state space remote destination local reply)
 header_fails state space remote destination local reply =
     if_fails (sending.reply_goes_first destination reply) _ _
-    (and_then_fails (take_reply state space local reply) _ (reply_fails state space local reply) (λ (first : TakenReply).
-    and_then_fails (take_destination first.state space remote destination) _ (destination_fails first.state space remote destination) (λ (second : Taken × ℕ). fine _)))
-    (and_then_fails (take_destination state space remote destination) _ (destination_fails state space remote destination) (λ (first : Taken × ℕ).
-    and_then_fails (take_reply first.0.state space local reply) _ (reply_fails first.0.state space local reply) (λ (second : TakenReply). fine _)))
+    (and_then_fails (take_reply state space local reply) _ (reply_fails state space local reply)
+    (λ (first : TakenReply).
+    and_then_fails (take_destination first.state space remote destination) _
+    (destination_fails first.state space remote destination) (λ (second : Taken × ℕ). fine _)))
+    (and_then_fails (take_destination state space remote destination) _
+    (destination_fails state space remote destination) (λ (first : Taken × ℕ).
+    and_then_fails (take_reply first.0.state space local reply) _ (reply_fails first.0.state space local reply)
+    (λ (second : TakenReply). fine _)))
 
 within_fails : (n : ℕ) (bytes : List ℕ) → Fails (items_within n bytes)
 within_fails zero bytes = fine _
 within_fails (suc n) [] = fine _
 within_fails (suc n) (b ∷ bytes) =
-    unless_fails (tests_of_item (b ∷ bytes)) _ (refl, (refl, (refl, (refl, (refl, tt))))) (and_then_fails (items_within n _) _ (within_fails n _) (λ (items : List Item). fine _))
+    unless_fails (tests_of_item (b ∷ bytes)) _ (refl, (refl, (refl, (refl, (refl, tt)))))
+    (and_then_fails (items_within n _) _ (within_fails n _) (λ (items : List Item). fine _))
 
 items_fail : (complex : Bool) (body : List ℕ) → Fails (sending.items_if_complex complex body)
 unfolding items_of
@@ -82,12 +101,17 @@ items_fail false body = fine _
 
 reply_disposition_fails : (n name : ℕ) → Fails (sending.reply_disposition n name)
 reply_disposition_fails n name =
-    if_fails (n == 0 && name == MACH_PORT_NULL) _ _ (fine _) (and_then_fails (or_refused SendInvalidHeader _) _ (or_fails SendInvalidHeader _ refl) (λ (disposition : Disposition). fine _))
+    if_fails (n == 0 && name == MACH_PORT_NULL) _ _ (fine _)
+    (and_then_fails (or_refused SendInvalidHeader _) _ (or_fails SendInvalidHeader _ refl)
+    (λ (disposition : Disposition). fine _))
 
-of_items_fails : (state : State) (space : ℕ) (parts : UsedParts) (destination : Disposition) (reply : Option Disposition) (items : List Item) → Fails (ready_of_items state space parts destination reply items)
+of_items_fails : (state : State) (space : ℕ) (parts : UsedParts) (destination : Disposition)
+    (reply : Option Disposition) (items : List Item) → Fails (ready_of_items state space parts destination reply items)
 of_items_fails state space parts destination reply items =
-    unless_fails ((nat_lt MAX_MESSAGE_PORTS (sending.ports_in items), SendNoBuffer) ∷ (is_null_or_dead parts.remote, SendInvalidDest) ∷ []) _ (refl, (refl, tt))
-    (and_then_fails (take_header state space parts.remote destination parts.local reply) _ (header_fails state space parts.remote destination parts.local reply) (λ (header : TakenHeader).
+    unless_fails ((nat_lt MAX_MESSAGE_PORTS (sending.ports_in items), SendNoBuffer) ∷
+    (is_null_or_dead parts.remote, SendInvalidDest) ∷ []) _ (refl, (refl, tt))
+    (and_then_fails (take_header state space parts.remote destination parts.local reply) _
+    (header_fails state space parts.remote destination parts.local reply) (λ (header : TakenHeader).
     and_then_fails (or_refused SendInvalidRight _) _ (or_fails SendInvalidRight _ refl) (λ (taken : TakenRights).
     unless_fails (sending.tests_of_queue (sending.ready_message parts items header taken)) (Ok _) (refl, tt) (fine _))))
 
@@ -96,30 +120,41 @@ unfolding ready_to_send
 ready_fails state space message =
     let parts : UsedParts = used_parts message in
     unless_fails (sending.tests_of_size parts.size) _ (refl, (refl, tt))
-    (and_then_fails (or_refused SendInvalidHeader _) _ (or_fails SendInvalidHeader _ refl) (λ (destination : Disposition).
-    and_then_fails (sending.reply_disposition parts.local_disposition parts.local) _ (reply_disposition_fails parts.local_disposition parts.local) (λ (reply : Option Disposition).
-    and_then_fails (sending.items_if_complex parts.complex parts.body) _ (items_fail parts.complex parts.body) (λ (items : List Item). of_items_fails state space parts destination reply items))))
+    (and_then_fails (or_refused SendInvalidHeader _) _ (or_fails SendInvalidHeader _ refl)
+    (λ (destination : Disposition).
+    and_then_fails (sending.reply_disposition parts.local_disposition parts.local) _
+    (reply_disposition_fails parts.local_disposition parts.local) (λ (reply : Option Disposition).
+    and_then_fails (sending.items_if_complex parts.complex parts.body) _ (items_fail parts.complex parts.body)
+    (λ (items : List Item). of_items_fails state space parts destination reply items))))
 
 -- A send that has a record was done: its message has a size that messages may have, and nothing comes back.
 pub record SendDone (message : List ℕ) (answer : Reply) : Type 0 where
   pub size : IsMessageSize (length message)
   pub answer_is : answer ≡ without_message Success 0 MACH_PORT_NULL
 
-done_of : (old : State) (space : ℕ) (message : List ℕ) (answer : Reply) (ready : Ready) → ready_to_send old space message ≡ Ok ready → answer ≡ without_message Success 0 MACH_PORT_NULL → SendDone message answer
+done_of : (old : State) (space : ℕ) (message : List ℕ) (answer : Reply) (ready : Ready)
+    → ready_to_send old space message ≡ Ok ready → answer ≡ without_message Success 0 MACH_PORT_NULL
+    → SendDone message answer
 unfolding ready_to_send
 done_of old space message answer ready is answered =
     let fits = size_fits message (passed_tests (sending.tests_of_size (length message)) _ ready is).0 in
     record { size = (fits.whole, fits.small, fits.words); answer_is = answered }
 
-pub send_done : (old : State) (space : ℕ) (names : Names) (message : List ℕ) (answer : Reply) (new : State) (effects : List Effect) → ActsIn old space names (call.Send message) answer new effects → has_record (call.Send message) answer ≡ true → SendDone message answer
+pub send_done : (old : State) (space : ℕ) (names : Names) (message : List ℕ) (answer : Reply) (new : State)
+    (effects : List Effect) → ActsIn old space names (call.Send message) answer new effects
+    → has_record (call.Send message) answer ≡ true → SendDone message answer
 send_done old space names message answer new effects acts recorded =
-    elim (ready_to_send old space message) as (λ (r : Result Ready KernReturn). ready_to_send old space message ≡ r → MatchResult r
-    (λ (ready : Ready). (answer ≡ without_message Success 0 MACH_PORT_NULL) × (new ≡ (sent ready).0) × (effects ≡ (sent ready).1))
+    elim (ready_to_send old space message)
+    as (λ (r : Result Ready KernReturn). ready_to_send old space message ≡ r → MatchResult r
+    (λ (ready : Ready). (answer ≡ without_message Success 0 MACH_PORT_NULL) × (new ≡ (sent ready).0)
+    × (effects ≡ (sent ready).1))
     (λ code. IsRefusedWith (without_message code 0 MACH_PORT_NULL) old answer new effects) → SendDone message answer) [
       | Ok ready ↦ λ (is : _) (done : _). done_of old space message answer ready is done.0
       | Err code ↦ λ (is : _) (refused : _).
-          let fails : is_success code ≡ false = (subst (λ (r : Result Ready KernReturn). Fails r) is (ready_fails old space message)).code in
-          let none : has_record (call.Send message) (without_message code 0 MACH_PORT_NULL) ≡ true = subst (λ (a : Reply). has_record (call.Send message) a ≡ true) refused.0 recorded in
+          let fails : is_success code ≡ false =
+          (subst (λ (r : Result Ready KernReturn). Fails r) is (ready_fails old space message)).code in
+          let none : has_record (call.Send message) (without_message code 0 MACH_PORT_NULL) ≡ true =
+          subst (λ (a : Reply). has_record (call.Send message) a ≡ true) refused.0 recorded in
           absurd (neither (is_success code) fails none)
     ] refl acts
   where
@@ -129,8 +164,11 @@ send_done old space names message answer new effects acts recorded =
 
 -- Sends that have records.
 abbrev pub RecordedSendsAreDone : Type 0
-RecordedSendsAreDone = (old : State) (space : ℕ) (names : Names) (message : List ℕ) (answer : Reply) (new : State) (effects : List Effect)
-    → ActsIn old space names (call.Send message) answer new effects → has_record (call.Send message) answer ≡ true → SendDone message answer
+RecordedSendsAreDone =
+    (old : State) (space : ℕ) (names : Names) (message : List ℕ) (answer : Reply) (new : State) (effects : List Effect)
+    → ActsIn old space names (call.Send message) answer new effects → has_record (call.Send message) answer ≡ true
+    → SendDone message answer
 
 pub recorded_sends : RecordedSendsAreDone
-recorded_sends old space names message answer new effects acts recorded = send_done old space names message answer new effects acts recorded
+recorded_sends old space names message answer new effects acts recorded =
+    send_done old space names message answer new effects acts recorded

@@ -32,18 +32,28 @@ use Rattle.words.specs.WordLaws.{length-word}
 use Rattle.words.specs.Words.{word}
 
 -- A body is as long with its ports' names as without them.
-filled_long : (items : List Item) (names : List ℕ) → AreItems items → length names ≡ port_count items → length (items_encoding (filled items names)) ≡ length (items_encoding items)
+filled_long : (items : List Item) (names : List ℕ) → AreItems items → length names ≡ port_count items
+    → length (items_encoding (filled items names)) ≡ length (items_encoding items)
 unfolding port_count
 filled_long [] names fit many = refl
 filled_long (item ∷ items) names fit many =
-    elim (is_port_item item) as (λ (b : Bool). is_port_item item ≡ b → length names ≡ (elim b as (λ _. ℕ) [ true ↦ item.number | false ↦ 0 ]) + port_count items
-    → length (items_encoding (if b then record item { content = flat_map word (take item.number names) } ∷ filled items (drop item.number names) else item ∷ filled items names)) ≡ length (items_encoding (item ∷ items))) [
+    elim (is_port_item item) as (λ (b : Bool). is_port_item item ≡ b
+    → length names ≡ (elim b as (λ _. ℕ) [ true ↦ item.number | false ↦ 0 ]) + port_count items
+    → length (items_encoding (if b
+    then record item { content = flat_map word (take item.number names) } ∷ filled items (drop item.number names)
+    else item ∷ filled items names)) ≡ length (items_encoding (item ∷ items))) [
       | false ↦ λ (_ : _) (here : _).
-          omega (arith, length-append (item_encoding item) (items_encoding (filled items names)), length-append (item_encoding item) (items_encoding items), filled_long items names fit.1 (omega (arith, here)))
+          omega (
+            arith,
+            length-append (item_encoding item) (items_encoding (filled items names)),
+            length-append (item_encoding item) (items_encoding items),
+            filled_long items names fit.1 (omega (arith, here)),
+          )
       | true ↦ λ (port : _) (here : _).
           let n : ℕ = item.number in
           let next : Item = record item { content = flat_map word (take n names) } in
-          let content : length item.content ≡ padded (n * 32) = fit.0.long ∙ ap (λ (k : ℕ). padded (n * k)) (fit.0.ports port) in
+          let content : length item.content ≡ padded (n * 32) =
+          fit.0.long ∙ ap (λ (k : ℕ). padded (n * k)) (fit.0.ports port) in
           omega (
             arith,
             length-append (item_encoding next) (items_encoding (filled items (drop n names))),
@@ -56,7 +66,9 @@ filled_long (item ∷ items) names fit many =
           )
     ] refl many
 
-ports_long : (message : Message) (names : List ℕ) → LawfulMessage message → HoldsPorts message.body message.rights → length names ≡ length message.rights → length (body_filled (items_of message.body) message.body names) ≡ length message.body
+ports_long : (message : Message) (names : List ℕ) → LawfulMessage message → HoldsPorts message.body message.rights
+    → length names ≡ length message.rights
+    → length (body_filled (items_of message.body) message.body names) ≡ length message.body
 ports_long message names lawful holds many =
     let read = items_read message.body holds.items lawful.bytes holds.tiled in
     let counted : length message.rights ≡ port_count holds.items =
@@ -64,7 +76,8 @@ ports_long message names lawful holds many =
     ap (λ (items : Result (List Item) KernReturn). length (body_filled items message.body names)) holds.tiled
     ∙ filled_long holds.items names read.fit (many ∙ counted) ∙ read.long
 
-pub body_long : (message : Message) (names : List ℕ) → LawfulMessage message → length names ≡ length message.rights → length (received_body message names) ≡ length message.body
+pub body_long : (message : Message) (names : List ℕ) → LawfulMessage message → length names ≡ length message.rights
+    → length (received_body message names) ≡ length message.body
 body_long message names lawful many =
     elim message.complex as (λ (b : Bool). MatchBool b (HoldsPorts message.body message.rights) (message.rights ≡ [])
     → length (if b then body_filled (items_of message.body) message.body names else message.body) ≡ length message.body) [
@@ -72,11 +85,13 @@ body_long message names lawful many =
       | false ↦ λ (_ : _). refl
     ] lawful.ports
 
-pub names_left : (reply : Option CarriedRight) (rights : List CarriedRight) (given : List ℕ) → length given ≡ length (reply_right reply ++ rights) → length (body_names reply given) ≡ length rights
+pub names_left : (reply : Option CarriedRight) (rights : List CarriedRight) (given : List ℕ)
+    → length given ≡ length (reply_right reply ++ rights) → length (body_names reply given) ≡ length rights
 names_left None rights given many = many
 names_left (Some right) rights given many = omega (arith, many, length-drop 1 given)
 
-pub encoding_long : (bits remote local seqno id : ℕ) (body : List ℕ) → length (message_encoding bits remote local seqno id body) ≡ header_length + length body
+pub encoding_long : (bits remote local seqno id : ℕ) (body : List ℕ)
+    → length (message_encoding bits remote local seqno id body) ≡ header_length + length body
 encoding_long bits remote local seqno id body =
     let size : ℕ = header_length + length body in
     let after_seqno : List ℕ = word id ++ body in
@@ -99,10 +114,14 @@ encoding_long bits remote local seqno id body =
       length-word id,
     )
 
-received_long : (message : Message) (member seqno : ℕ) (given : List ℕ) → LawfulMessage message → length given ≡ length (arriving message) → length (received_encoding message member seqno given) ≡ message_size message
+received_long : (message : Message) (member seqno : ℕ) (given : List ℕ) → LawfulMessage message
+    → length given ≡ length (arriving message)
+    → length (received_encoding message member seqno given) ≡ message_size message
 received_long message member seqno given lawful many =
-    encoding_long (received_bits message) (reply_name message.reply given) member seqno message.id (received_body message (body_names message.reply given))
-    ∙ ap (λ (n : ℕ). header_length + n) (body_long message (body_names message.reply given) lawful (names_left message.reply message.rights given many))
+    encoding_long (received_bits message) (reply_name message.reply given) member seqno message.id
+    (received_body message (body_names message.reply given))
+    ∙ ap (λ (n : ℕ). header_length + n)
+    (body_long message (body_names message.reply given) lawful (names_left message.reply message.rights given many))
 
 -- A receive that has a record brings a message of its size, or destroyed one and brings none.
 pub record ReceiveDone (receipt : Receipt) (answer : Reply) : Type 0 where
@@ -119,7 +138,9 @@ call_of receipt = call.Receive receipt.limit receipt.large receipt.name receipt.
 
 -- a receive that is refused with another code has no record
 abbrev HasNone : KernReturn → Type 0
-HasNone code = (limit name : ℕ) (large waited : Bool) → has_record (call.Receive limit large name waited) (without_message code 0 MACH_PORT_NULL) ≡ true → ⊥
+HasNone code =
+    (limit name : ℕ) (large waited : Bool)
+    → has_record (call.Receive limit large name waited) (without_message code 0 MACH_PORT_NULL) ≡ true → ⊥
 
 lacking_none : HasNone RcvHeaderErrorSpace
 lacking_none limit name true waited e = cc e
@@ -150,21 +171,28 @@ either_none true one other a b = a
 either_none false one other a b = b
 
 refusals_none : (old : State) (names : Names) (receipt : Receipt) → IfSome (receive_refusal old names receipt) HasNone
-refusals_none old names receipt = elim (sources old names receipt.name (finmap.get names receipt.name)) as (λ (o : Option (List ℕ)). IfSome (refusal_of_sources old names receipt o) HasNone) [
-  | None ↦ either_none receipt.waited RcvPortDied RcvInvalidName died_none invalid_none
-  | Some among ↦ elim (is_in_set old names receipt.name) as (λ (b : Bool). IfSome (if b then Some (if receipt.waited then RcvPortChanged else RcvInSet) else if all_empty old names among then Some RcvTimedOut else None) HasNone) [
-    | true ↦ either_none receipt.waited RcvPortChanged RcvInSet changed_none in_set_none
-    | false ↦ elim (all_empty old names among) as (λ (b : Bool). IfSome (if b then Some RcvTimedOut else None) HasNone) [ true ↦ timed_out_none | false ↦ tt ]
-  ]
-]
+refusals_none old names receipt =
+    elim (sources old names receipt.name (finmap.get names receipt.name))
+    as (λ (o : Option (List ℕ)). IfSome (refusal_of_sources old names receipt o) HasNone) [
+      | None ↦ either_none receipt.waited RcvPortDied RcvInvalidName died_none invalid_none
+      | Some among ↦ elim (is_in_set old names receipt.name)
+          as (λ (b : Bool). IfSome (if b then Some (if receipt.waited then RcvPortChanged else RcvInSet)
+          else if all_empty old names among then Some RcvTimedOut else None) HasNone) [
+            | true ↦ either_none receipt.waited RcvPortChanged RcvInSet changed_none in_set_none
+            | false ↦ elim (all_empty old names among) as (λ (b : Bool). IfSome (if b then Some RcvTimedOut else None) HasNone)
+                [ true ↦ timed_out_none | false ↦ tt ]
+          ]
+    ]
 
 -- the message of a receive is lawful, and the name of its port is one that may be reported
 record Told (message : Message) (member : ℕ) : Type 0 where
   lawful : LawfulMessage message
   named : (MACH_PORT_NULL < member) × (member < MACH_PORT_DEAD)
 
-destroyed_done : (old : State) (member serial : ℕ) (receipt : Receipt) (message : Message) (answer : Reply) (new : State) (effects : List Effect) → Told message member
-    → nat_lt receipt.limit (message_size message) ≡ true → TooLarge old member serial message receipt.large answer new effects → ReceiveDone receipt answer
+destroyed_done : (old : State) (member serial : ℕ) (receipt : Receipt) (message : Message) (answer : Reply)
+    (new : State) (effects : List Effect) → Told message member
+    → nat_lt receipt.limit (message_size message) ≡ true
+    → TooLarge old member serial message receipt.large answer new effects → ReceiveDone receipt answer
 destroyed_done old member serial receipt message answer new effects told larger large =
     record {
       code = RcvTooLarge;
@@ -172,57 +200,101 @@ destroyed_done old member serial receipt message answer new effects told larger 
       member = member;
       message = [];
       answer_is = large.0;
-      brings = ((omega arith, told.lawful.small, told.lawful.whole_words), told.named.0, told.named.1, (ltb-true receipt.limit (message_size message) larger, refl));
+      brings = (
+        (omega arith, told.lawful.small, told.lawful.whole_words),
+        told.named.0,
+        told.named.1,
+        (ltb-true receipt.limit (message_size message) larger, refl),
+      );
       small = omega arith;
     }
 
-brought_done : (old : State) (space member serial : ℕ) (names : Names) (receipt : Receipt) (port : PortState) (message : Message) (answer : Reply) (new : State) (effects : List Effect) → Told message member
-    → nat_lt receipt.limit (message_size message) ≡ false → Received old space names member serial port message answer new effects → ReceiveDone receipt answer
-brought_done old space member serial names receipt port message answer new effects told within (given, after, arrives, shown, same, are) =
-    let long = received_long message member port.sequence_number given told.lawful (as_many_names names (arriving message) given after arrives) in
+brought_done : (old : State) (space member serial : ℕ) (names : Names) (receipt : Receipt) (port : PortState)
+    (message : Message) (answer : Reply) (new : State) (effects : List Effect) → Told message member
+    → nat_lt receipt.limit (message_size message) ≡ false
+    → Received old space names member serial port message answer new effects → ReceiveDone receipt answer
+brought_done old space member serial names receipt port message answer new effects told within
+    (given, after, arrives, shown, same, are) =
+    let long =
+    received_long message member port.sequence_number given told.lawful
+    (as_many_names names (arriving message) given after arrives) in
     record {
       code = Success;
       size = message_size message;
       member = member;
       message = received_encoding message member port.sequence_number given;
       answer_is = shown;
-      brings = ((omega arith, told.lawful.small, told.lawful.whole_words), told.named.0, told.named.1, (ltb-false receipt.limit (message_size message) within, long));
+      brings = (
+        (omega arith, told.lawful.small, told.lawful.whole_words),
+        told.named.0,
+        told.named.1,
+        (ltb-false receipt.limit (message_size message) within, long),
+      );
       small = omega (arith, long, told.lawful.small);
     }
 
-taken_done : (old : State) (space member serial : ℕ) (names : Names) (receipt : Receipt) (port : PortState) (message : Message) (answer : Reply) (new : State) (effects : List Effect) → Told message member
-    → TakesOut old space names receipt member serial port message answer new effects → has_record (call_of receipt) answer ≡ true → ReceiveDone receipt answer
+taken_done : (old : State) (space member serial : ℕ) (names : Names) (receipt : Receipt) (port : PortState)
+    (message : Message) (answer : Reply) (new : State) (effects : List Effect) → Told message member
+    → TakesOut old space names receipt member serial port message answer new effects
+    → has_record (call_of receipt) answer ≡ true → ReceiveDone receipt answer
 taken_done old space member serial names receipt port message answer new effects told takes recorded =
-    elim (nat_lt receipt.limit (message_size message)) as (λ (b : Bool). nat_lt receipt.limit (message_size message) ≡ b → MatchBool b (TooLarge old member serial message receipt.large answer new effects)
-    (MatchBool (lacks_names names message) ((answer ≡ without_message RcvHeaderErrorSpace 0 MACH_PORT_NULL) × (new ≡ old) × (effects ≡ [])) (Received old space names member serial port message answer new effects))
+    elim (nat_lt receipt.limit (message_size message))
+    as (λ (b : Bool). nat_lt receipt.limit (message_size message) ≡ b
+    → MatchBool b (TooLarge old member serial message receipt.large answer new effects)
+    (MatchBool (lacks_names names message)
+    ((answer ≡ without_message RcvHeaderErrorSpace 0 MACH_PORT_NULL) × (new ≡ old) × (effects ≡ []))
+    (Received old space names member serial port message answer new effects))
     → ReceiveDone receipt answer) [
-      | true ↦ λ (larger : _) (large : _). destroyed_done old member serial receipt message answer new effects told larger large
+      | true ↦ λ (larger : _) (large : _). destroyed_done old member serial receipt message answer new effects told
+          larger large
       | false ↦ λ (within : _) (here : _). elim (lacks_names names message) as (λ (b : Bool).
-          MatchBool b ((answer ≡ without_message RcvHeaderErrorSpace 0 MACH_PORT_NULL) × (new ≡ old) × (effects ≡ [])) (Received old space names member serial port message answer new effects) → ReceiveDone receipt answer) [
-            | true ↦ λ (lacks : _). absurd (lacking_none receipt.limit receipt.name receipt.large receipt.waited (subst (λ (a : Reply). has_record (call_of receipt) a ≡ true) lacks.0 recorded))
-            | false ↦ λ (whole : _). brought_done old space member serial names receipt port message answer new effects told within whole
+          MatchBool b ((answer ≡ without_message RcvHeaderErrorSpace 0 MACH_PORT_NULL) × (new ≡ old) × (effects ≡ []))
+          (Received old space names member serial port message answer new effects) → ReceiveDone receipt answer) [
+            | true ↦ λ (lacks : _). absurd
+                (lacking_none receipt.limit receipt.name receipt.large receipt.waited
+                (subst (λ (a : Reply). has_record (call_of receipt) a ≡ true) lacks.0 recorded))
+            | false ↦ λ (whole : _). brought_done old space member serial names receipt port message answer new effects
+                told within whole
           ] here
     ] refl takes
 
-receipt_taken : (old : State) (space : ℕ) (names : Names) (receipt : Receipt) (answer : Reply) (new : State) (effects : List Effect) → LawfulAtRest old → finmap.get old.spaces space ≡ Some names
-    → Takes old space names receipt answer new effects → has_record (call_of receipt) answer ≡ true → ReceiveDone receipt answer
-receipt_taken old space names receipt answer new effects lawful there (member, serial, port, message, later, among, holds, live, first, takes) recorded =
+receipt_taken : (old : State) (space : ℕ) (names : Names) (receipt : Receipt) (answer : Reply) (new : State)
+    (effects : List Effect) → LawfulAtRest old → finmap.get old.spaces space ≡ Some names
+    → Takes old space names receipt answer new effects → has_record (call_of receipt) answer ≡ true
+    → ReceiveDone receipt answer
+receipt_taken old space names receipt answer new effects lawful there
+    (member, serial, port, message, later, among, holds, live, first, takes) recorded =
     let named = (lawful.spaces space names there).2.named member holds.0 holds.1 in
     taken_done old space member serial names receipt port message answer new effects
-    (record { lawful = oldest_lawful port message later (lawful.ports serial port live).2 first; named = (named.0, named.1) }) takes recorded
+    (record {
+      lawful = oldest_lawful port message later (lawful.ports serial port live).2 first;
+      named = (named.0, named.1);
+    }) takes recorded
 
-pub receive_done : (old : State) (space : ℕ) (names : Names) (receipt : Receipt) (answer : Reply) (new : State) (effects : List Effect) → LawfulAtRest old → finmap.get old.spaces space ≡ Some names
-    → Receives old space names receipt answer new effects → has_record (call_of receipt) answer ≡ true → ReceiveDone receipt answer
+pub receive_done : (old : State) (space : ℕ) (names : Names) (receipt : Receipt) (answer : Reply) (new : State)
+    (effects : List Effect) → LawfulAtRest old → finmap.get old.spaces space ≡ Some names
+    → Receives old space names receipt answer new effects → has_record (call_of receipt) answer ≡ true
+    → ReceiveDone receipt answer
 receive_done old space names receipt answer new effects lawful there receives recorded =
-    elim (receive_refusal old names receipt) as (λ (o : Option KernReturn). IfSome o HasNone → MatchOption o (Takes old space names receipt answer new effects) (λ code. (answer ≡ without_message code 0 MACH_PORT_NULL) × (new ≡ old) × (effects ≡ [])) → ReceiveDone receipt answer) [
-      | None ↦ λ (_ : _) (takes : _). receipt_taken old space names receipt answer new effects lawful there takes recorded
-      | Some code ↦ λ (none : _) (refused : _). absurd (none receipt.limit receipt.name receipt.large receipt.waited (subst (λ (a : Reply). has_record (call_of receipt) a ≡ true) refused.0 recorded))
+    elim (receive_refusal old names receipt)
+    as (λ (o : Option KernReturn). IfSome o HasNone
+    → MatchOption o (Takes old space names receipt answer new effects)
+    (λ code. (answer ≡ without_message code 0 MACH_PORT_NULL) × (new ≡ old) × (effects ≡ []))
+    → ReceiveDone receipt answer) [
+      | None ↦ λ (_ : _) (takes : _). receipt_taken old space names receipt answer new effects lawful there takes
+          recorded
+      | Some code ↦ λ (none : _) (refused : _). absurd
+          (none receipt.limit receipt.name receipt.large receipt.waited
+          (subst (λ (a : Reply). has_record (call_of receipt) a ≡ true) refused.0 recorded))
     ] (refusals_none old names receipt) receives
 
 -- Receives that have records, from lawful states.
 abbrev pub RecordedReceivesAreDone : Type 0
-RecordedReceivesAreDone = (old : State) (space : ℕ) (names : Names) (receipt : Receipt) (answer : Reply) (new : State) (effects : List Effect)
-    → LawfulAtRest old → finmap.get old.spaces space ≡ Some names → Receives old space names receipt answer new effects → has_record (call_of receipt) answer ≡ true → ReceiveDone receipt answer
+RecordedReceivesAreDone =
+    (old : State) (space : ℕ) (names : Names) (receipt : Receipt) (answer : Reply) (new : State) (effects : List Effect)
+    → LawfulAtRest old → finmap.get old.spaces space ≡ Some names → Receives old space names receipt answer new effects
+    → has_record (call_of receipt) answer ≡ true → ReceiveDone receipt answer
 
 pub recorded_receives : RecordedReceivesAreDone
-recorded_receives old space names receipt answer new effects lawful there receives recorded = receive_done old space names receipt answer new effects lawful there receives recorded
+recorded_receives old space names receipt answer new effects lawful there receives recorded =
+    receive_done old space names receipt answer new effects lawful there receives recorded

@@ -28,7 +28,9 @@ pub record IsAnsweredWhole (c : Call) (answer : Reply) : Type 0 where
   pub call_frame : length (call_encoding c) ≤ MAX_FRAME_CONTENT
   pub reply_frame : length (reply_encoding answer) ≤ MAX_FRAME_CONTENT
 
-sent_whole : (old : State) (space : ℕ) (names : Names) (message : List ℕ) (answer : Reply) (new : State) (effects : List Effect) → ActsIn old space names (call.Send message) answer new effects → has_record (call.Send message) answer ≡ true
+sent_whole : (old : State) (space : ℕ) (names : Names) (message : List ℕ) (answer : Reply) (new : State)
+    (effects : List Effect) → ActsIn old space names (call.Send message) answer new effects
+    → has_record (call.Send message) answer ≡ true
     → IsAnsweredWhole (call.Send message) answer
 sent_whole old space names message answer new effects acts recorded =
     let done = send_done old space names message answer new effects acts recorded in
@@ -40,11 +42,15 @@ sent_whole old space names message answer new effects acts recorded =
       reply_frame = omega (arith, message_length Success 0 0 []);
     })
 
-received_whole : (old : State) (space : ℕ) (names : Names) (limit name : ℕ) (large waited : Bool) (answer : Reply) (new : State) (effects : List Effect) → LawfulAtRest old → finmap.get old.spaces space ≡ Some names
-    → Receives old space names (record { limit = limit; large = large; name = name; waited = waited }) answer new effects → has_record (call.Receive limit large name waited) answer ≡ true
+received_whole : (old : State) (space : ℕ) (names : Names) (limit name : ℕ) (large waited : Bool) (answer : Reply)
+    (new : State) (effects : List Effect) → LawfulAtRest old → finmap.get old.spaces space ≡ Some names
+    → Receives old space names (record { limit = limit; large = large; name = name; waited = waited }) answer new
+    effects → has_record (call.Receive limit large name waited) answer ≡ true
     → IsAnsweredWhole (call.Receive limit large name waited) answer
 received_whole old space names limit name large waited answer new effects lawful there receives recorded =
-    let done = receive_done old space names (record { limit = limit; large = large; name = name; waited = waited }) answer new effects lawful there receives recorded in
+    let done =
+    receive_done old space names (record { limit = limit; large = large; name = name; waited = waited }) answer new
+    effects lawful there receives recorded in
     subst (IsAnsweredWhole (call.Receive limit large name waited)) (sym done.answer_is) (record {
       whole = tt;
       number_is = refl;
@@ -60,10 +66,14 @@ refused_none (call.Receive limit true name waited) = refl
 refused_none (call.Receive limit false name waited) = refl
 refused_none c = refl
 
-from_whole : (o : Option Names) (old : State) (space : ℕ) (c : Call) (answer : Reply) (new : State) (effects : List Effect) → finmap.get old.spaces space ≡ o → Lawful old → ActsFrom old space o c answer new effects → has_record c answer ≡ true
+from_whole : (o : Option Names) (old : State) (space : ℕ) (c : Call) (answer : Reply) (new : State)
+    (effects : List Effect) → finmap.get old.spaces space ≡ o → Lawful old → ActsFrom old space o c answer new effects
+    → has_record c answer ≡ true
     → IsAnsweredWhole c answer
-from_whole None old space c answer new effects there lawful acts recorded = absurd (cc (recorded, ap (has_record c) acts.0 ∙ refused_none c))
-from_whole (Some names) old space (call.Send message) answer new effects there lawful acts recorded = sent_whole old space names message answer new effects acts recorded
+from_whole None old space c answer new effects there lawful acts recorded =
+    absurd (cc (recorded, ap (has_record c) acts.0 ∙ refused_none c))
+from_whole (Some names) old space (call.Send message) answer new effects there lawful acts recorded =
+    sent_whole old space names message answer new effects acts recorded
 from_whole (Some names) old space (call.Receive limit large name waited) answer new effects there lawful acts recorded =
     received_whole old space names limit name large waited answer new effects (at_rest old lawful) there acts recorded
 from_whole (Some names) old space c answer new effects there lawful acts recorded = record {
@@ -74,18 +84,23 @@ from_whole (Some names) old space c answer new effects there lawful acts recorde
   reply_frame = omega (arith, (from_within (Some names) old space c answer new effects there refl lawful acts).bytes);
 }
 
-pub answered_whole : (old : State) (space : ℕ) (c : Call) (answer : Reply) (new : State) → Lawful old → Step old space c answer new → has_record c answer ≡ true → IsAnsweredWhole c answer
+pub answered_whole : (old : State) (space : ℕ) (c : Call) (answer : Reply) (new : State) → Lawful old
+    → Step old space c answer new → has_record c answer ≡ true → IsAnsweredWhole c answer
 unfolding Step
-answered_whole old space c answer new lawful step recorded = from_whole (finmap.get old.spaces space) old space c answer step.0 step.1 refl lawful step.2 recorded
+answered_whole old space c answer new lawful step recorded =
+    from_whole (finmap.get old.spaces space) old space c answer step.0 step.1 refl lawful step.2 recorded
 
 -- What is kept of a step with a record, from a lawful state, is a record that a segment may hold, if its numbers are in
 -- range.
 abbrev pub RecordedStepsAreRecords : Type 0
-RecordedStepsAreRecords = (old : State) (space : ℕ) (c : Call) (answer : Reply) (new : State) → Lawful old → space < 2 ^ 32 → FitsCall c → FitsReply answer → Step old space c answer new → IsTrue (has_record c answer)
+RecordedStepsAreRecords =
+    (old : State) (space : ℕ) (c : Call) (answer : Reply) (new : State) → Lawful old → space < 2 ^ 32 → FitsCall c
+    → FitsReply answer → Step old space c answer new → IsTrue (has_record c answer)
     → IsRecord (canonical_record (record { space = space; call = c; reply = answer }))
 
 pub recorded_steps : RecordedStepsAreRecords
 recorded_steps old space c answer new lawful fits call_fits reply_fits step recorded =
     let whole = answered_whole old space c answer new lawful step recorded in
     canonical_is_record (record { space = space; call = c; reply = answer }) fits call_fits whole.whole
-    (record { fits = reply_fits; of_one_call = whole.number_is; results = whole.results; recorded = recorded }) whole.call_frame whole.reply_frame
+    (record { fits = reply_fits; of_one_call = whole.number_is; results = whole.results; recorded = recorded })
+    whole.call_frame whole.reply_frame

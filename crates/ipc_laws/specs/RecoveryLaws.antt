@@ -18,11 +18,14 @@ use Rattle.words.specs.WordLaws.{same_long_word}
 use Rattle.words.specs.Words.{long_word}
 
 -- a header has one epoch
-pub one_epoch : (one other : ℕ) (xs ys : List ℕ) → one < 2 ^ 64 → other < 2 ^ 64 → segment_header open_gate one ++ xs ≡ segment_header open_gate other ++ ys → one ≡ other
-one_epoch one other xs ys fits fits_too is = same_long_word one other xs ys fits fits_too (ap (λ (l : List ℕ). drop 8 l) is)
+pub one_epoch : (one other : ℕ) (xs ys : List ℕ) → one < 2 ^ 64 → other < 2 ^ 64
+    → segment_header open_gate one ++ xs ≡ segment_header open_gate other ++ ys → one ≡ other
+one_epoch one other xs ys fits fits_too is =
+    same_long_word one other xs ys fits fits_too (ap (λ (l : List ℕ). drop 8 l) is)
 
 -- an image is of its epoch, and open
-pub image_header_is : (epoch : ℕ) (slot : List ℕ) (state : State) → epoch < 2 ^ 64 → HoldsImage epoch slot state → IsOfEpoch (epoch % 2) epoch slot
+pub image_header_is : (epoch : ℕ) (slot : List ℕ) (state : State) → epoch < 2 ^ 64 → HoldsImage epoch slot state
+    → IsOfEpoch (epoch % 2) epoch slot
 image_header_is epoch slot state fits image = record {
   rest = (long_word (length (image_encoding state)) ++ image_encoding state) ++ image.rest;
   encoding = image.encoding;
@@ -37,43 +40,75 @@ parity_small : (n : ℕ) → n % 2 < 2
 parity_small n = omega arith
 
 -- there is one greatest epoch
-same_epoch : (slots : Slots) (base other : State) (records more : List Record) (one : IsStored slots base records) (two : IsStored slots other more) → one.epoch ≡ two.epoch
+same_epoch : (slots : Slots) (base other : State) (records more : List Record) (one : IsStored slots base records)
+    (two : IsStored slots other more) → one.epoch ≡ two.epoch
 same_epoch slots base other records more one two =
     omega (
       arith,
-      one.latest (two.epoch % 2) two.epoch (parity_small two.epoch) (image_is_open two.epoch (slots.image (two.epoch % 2)) other two.image) (image_header_is two.epoch (slots.image (two.epoch % 2)) other two.fits two.image),
-      two.latest (one.epoch % 2) one.epoch (parity_small one.epoch) (image_is_open one.epoch (slots.image (one.epoch % 2)) base one.image) (image_header_is one.epoch (slots.image (one.epoch % 2)) base one.fits one.image),
+      one.latest (two.epoch % 2) two.epoch (parity_small two.epoch)
+          (image_is_open two.epoch (slots.image (two.epoch % 2)) other two.image)
+          (image_header_is two.epoch (slots.image (two.epoch % 2)) other two.fits two.image),
+      two.latest (one.epoch % 2) one.epoch (parity_small one.epoch)
+          (image_is_open one.epoch (slots.image (one.epoch % 2)) base one.image)
+          (image_header_is one.epoch (slots.image (one.epoch % 2)) base one.fits one.image),
     )
 
 -- a slot holds the image of one state
-one_image : (epoch : ℕ) (slot : List ℕ) (one other : State) → HoldsImage epoch slot one → HoldsImage epoch slot other → one ≡ other
+one_image : (epoch : ℕ) (slot : List ℕ) (one other : State) → HoldsImage epoch slot one → HoldsImage epoch slot other
+    → one ≡ other
 one_image epoch slot one other first second =
-    let whole : (open_gate ∷ image_content epoch (image_encoding one)) ++ first.rest ≡ (open_gate ∷ image_content epoch (image_encoding other)) ++ second.rest = sym first.encoding ∙ second.encoding in
-    let behind : (long_word (length (image_encoding one)) ++ image_encoding one) ++ first.rest ≡ (long_word (length (image_encoding other)) ++ image_encoding other) ++ second.rest = ap (λ (l : List ℕ). drop 16 l) whole in
-    let encodings : image_encoding one ++ first.rest ≡ image_encoding other ++ second.rest = ap (λ (l : List ℕ). drop 8 l) behind in
-    (image_once one other first.rest second.rest (lawful_is_encodable one first.lawful first.short) (lawful_is_encodable other second.lawful second.short) encodings).0
+    let whole : (open_gate ∷ image_content epoch (image_encoding one)) ++ first.rest
+    ≡ (open_gate ∷ image_content epoch (image_encoding other)) ++ second.rest = sym first.encoding
+    ∙ second.encoding in
+    let behind : (long_word (length (image_encoding one)) ++ image_encoding one) ++ first.rest
+    ≡ (long_word (length (image_encoding other)) ++ image_encoding other) ++ second.rest = ap
+    (λ (l : List ℕ). drop 16 l) whole in
+    let encodings : image_encoding one ++ first.rest ≡ image_encoding other ++ second.rest =
+    ap (λ (l : List ℕ). drop 8 l) behind in
+    (image_once one other first.rest second.rest (lawful_is_encodable one first.lawful first.short)
+    (lawful_is_encodable other second.lawful second.short) encodings).0
 
 -- what the other segment adds is determined
 
-pub segment_epoch : (number epoch before : ℕ) (slot : List ℕ) (records : List Record) → EncodesSegment epoch slot records → epoch < 2 ^ 64 → IsOfEpoch number before slot → before ≡ epoch
-segment_epoch number epoch before slot records encoded fits header = one_epoch before epoch header.rest encoded.content header.fits fits (sym header.encoding ∙ encoded.encoding)
+pub segment_epoch : (number epoch before : ℕ) (slot : List ℕ) (records : List Record)
+    → EncodesSegment epoch slot records → epoch < 2 ^ 64 → IsOfEpoch number before slot → before ≡ epoch
+segment_epoch number epoch before slot records encoded fits header =
+    one_epoch before epoch header.rest encoded.content header.fits fits (sym header.encoding ∙ encoded.encoding)
 
-pub segment_is_open : (epoch : ℕ) (slot : List ℕ) (records : List Record) → EncodesSegment epoch slot records → IsOpen segment_header_length slot
-segment_is_open epoch slot records encoded = subst (IsOpen segment_header_length) (sym encoded.encoding) (omega arith, refl)
+pub segment_is_open : (epoch : ℕ) (slot : List ℕ) (records : List Record) → EncodesSegment epoch slot records
+    → IsOpen segment_header_length slot
+segment_is_open epoch slot records encoded =
+    subst (IsOpen segment_header_length) (sym encoded.encoding) (omega arith, refl)
 
 header_is_open : (number epoch : ℕ) (slot : List ℕ) → IsOfEpoch number epoch slot → IsOpen segment_header_length slot
 header_is_open number epoch slot header = subst (IsOpen segment_header_length) (sym header.encoding) (omega arith, refl)
 
-one_next : (epoch : ℕ) (slot : List ℕ) (one other : List Record) → Continues epoch slot one → Continues epoch slot other → one ≡ other
+one_next : (epoch : ℕ) (slot : List ℕ) (one other : List Record) → Continues epoch slot one → Continues epoch slot other
+    → one ≡ other
 one_next epoch slot one other (inl closed) (inl closed_too) = closed.1 ∙ sym closed_too.1
-one_next epoch slot one other (inl closed) (inr (inl before)) = absurd (closed.0 (header_is_open (before.0 % 2) before.0 slot before.2))
-one_next epoch slot one other (inl closed) (inr (inr encoded)) = absurd (closed.0 (segment_is_open (epoch + 1) slot other encoded.1))
-one_next epoch slot one other (inr (inl before)) (inl closed) = absurd (closed.0 (header_is_open (before.0 % 2) before.0 slot before.2))
+one_next epoch slot one other (inl closed) (inr (inl before)) =
+    absurd (closed.0 (header_is_open (before.0 % 2) before.0 slot before.2))
+one_next epoch slot one other (inl closed) (inr (inr encoded)) =
+    absurd (closed.0 (segment_is_open (epoch + 1) slot other encoded.1))
+one_next epoch slot one other (inr (inl before)) (inl closed) =
+    absurd (closed.0 (header_is_open (before.0 % 2) before.0 slot before.2))
 one_next epoch slot one other (inr (inl before)) (inr (inl before_too)) = before.3 ∙ sym before_too.3
-one_next epoch slot one other (inr (inl before)) (inr (inr encoded)) = absurd (omega (arith, before.1, segment_epoch (before.0 % 2) (epoch + 1) before.0 slot other encoded.1 encoded.0 before.2))
-one_next epoch slot one other (inr (inr encoded)) (inl closed) = absurd (closed.0 (segment_is_open (epoch + 1) slot one encoded.1))
-one_next epoch slot one other (inr (inr encoded)) (inr (inl before)) = absurd (omega (arith, before.1, segment_epoch (before.0 % 2) (epoch + 1) before.0 slot one encoded.1 encoded.0 before.2))
-one_next epoch slot one other (inr (inr encoded)) (inr (inr encoded_too)) = one_segment (epoch + 1) slot one other encoded.1 encoded_too.1
+one_next epoch slot one other (inr (inl before)) (inr (inr encoded)) =
+    absurd (omega (
+      arith,
+      before.1,
+      segment_epoch (before.0 % 2) (epoch + 1) before.0 slot other encoded.1 encoded.0 before.2,
+    ))
+one_next epoch slot one other (inr (inr encoded)) (inl closed) =
+    absurd (closed.0 (segment_is_open (epoch + 1) slot one encoded.1))
+one_next epoch slot one other (inr (inr encoded)) (inr (inl before)) =
+    absurd (omega (
+      arith,
+      before.1,
+      segment_epoch (before.0 % 2) (epoch + 1) before.0 slot one encoded.1 encoded.0 before.2,
+    ))
+one_next epoch slot one other (inr (inr encoded)) (inr (inr encoded_too)) =
+    one_segment (epoch + 1) slot one other encoded.1 encoded_too.1
 
 -- the parts of a store in use, for one epoch
 record Parts (slots : Slots) (epoch : ℕ) (base : State) (records : List Record) : Type 0 where
@@ -84,21 +119,36 @@ record Parts (slots : Slots) (epoch : ℕ) (base : State) (records : List Record
   other : Continues epoch (slots.segment ((epoch + 1) % 2)) next
   joined : records ≡ first ++ next
 
-parts_of : (slots : Slots) (base : State) (records : List Record) (stored : IsStored slots base records) → Parts slots stored.epoch base records
-parts_of slots base records stored = record { image = stored.image; first = stored.first; next = stored.next; segment = stored.segment; other = stored.other; joined = stored.joined }
+parts_of : (slots : Slots) (base : State) (records : List Record) (stored : IsStored slots base records)
+    → Parts slots stored.epoch base records
+parts_of slots base records stored =
+    record {
+      image = stored.image;
+      first = stored.first;
+      next = stored.next;
+      segment = stored.segment;
+      other = stored.other;
+      joined = stored.joined;
+    }
 
-one_of_parts : (slots : Slots) (epoch : ℕ) (base other : State) (records more : List Record) → Parts slots epoch base records → Parts slots epoch other more → (base ≡ other) × (records ≡ more)
+one_of_parts : (slots : Slots) (epoch : ℕ) (base other : State) (records more : List Record)
+    → Parts slots epoch base records → Parts slots epoch other more → (base ≡ other) × (records ≡ more)
 one_of_parts slots epoch base other records more one two = (
   one_image epoch (slots.image (epoch % 2)) base other one.image two.image,
-  one.joined ∙ (λ i. one_segment epoch (slots.segment (epoch % 2)) one.first two.first one.segment two.segment i ++ one_next epoch (slots.segment ((epoch + 1) % 2)) one.next two.next one.other two.other i) ∙ sym two.joined,
+  one.joined ∙ (λ i. one_segment epoch (slots.segment (epoch % 2)) one.first two.first one.segment two.segment i
+      ++ one_next epoch (slots.segment ((epoch + 1) % 2)) one.next two.next one.other two.other i) ∙ sym two.joined,
 )
 
 -- A disk encodes at most one base with one list of records.
 abbrev pub EncodesOnce : Type 0
-EncodesOnce = (slots : Slots) (base other : State) (records more : List Record) → Encodes slots base records → Encodes slots other more → (base ≡ other) × (records ≡ more)
+EncodesOnce =
+    (slots : Slots) (base other : State) (records more : List Record) → Encodes slots base records
+    → Encodes slots other more → (base ≡ other) × (records ≡ more)
 
 stored_open : (slots : Slots) (base : State) (records : List Record) → IsNew slots → IsStored slots base records → ⊥
-stored_open slots base records new stored = new.no_image (stored.epoch % 2) (parity_small stored.epoch) (image_is_open stored.epoch (slots.image (stored.epoch % 2)) base stored.image)
+stored_open slots base records new stored =
+    new.no_image (stored.epoch % 2) (parity_small stored.epoch)
+    (image_is_open stored.epoch (slots.image (stored.epoch % 2)) base stored.image)
 
 pub encodes_once : EncodesOnce
 encodes_once slots base other records more one two = elim one.reading as (λ _. (base ≡ other) × (records ≡ more)) [
@@ -109,7 +159,8 @@ encodes_once slots base other records more one two = elim one.reading as (λ _. 
   | inr stored ↦ elim two.reading as (λ _. (base ≡ other) × (records ≡ more)) [
     | inl new ↦ absurd (stored_open slots base records new.0 stored)
     | inr stored_too ↦ one_of_parts slots stored_too.epoch base other records more
-        (subst (λ (e : ℕ). Parts slots e base records) (same_epoch slots base other records more stored stored_too) (parts_of slots base records stored)) (parts_of slots other more stored_too)
+        (subst (λ (e : ℕ). Parts slots e base records) (same_epoch slots base other records more stored stored_too)
+        (parts_of slots base records stored)) (parts_of slots other more stored_too)
   ]
 ]
 
@@ -136,11 +187,18 @@ record Beginning (base : State) (records : List Record) : Type 0 where
 
 beginning : (slots : Slots) (base : State) (records : List Record) → Encodes slots base records → Beginning base records
 beginning slots base records encoded = elim encoded.reading as (λ _. Beginning base records) [
-  | inl new ↦ record { lawful = subst Lawful (sym new.1) opening_is_lawful.0; acyclic = subst Acyclic (sym new.1) opening_is_lawful.1; fit = subst FitCalls (sym new.2) tt }
+  | inl new ↦ record {
+    lawful = subst Lawful (sym new.1) opening_is_lawful.0;
+    acyclic = subst Acyclic (sym new.1) opening_is_lawful.1;
+    fit = subst FitCalls (sym new.2) tt;
+  }
   | inr stored ↦ record {
     lawful = stored.image.lawful;
     acyclic = stored.image.acyclic;
-    fit = subst FitCalls (sym stored.joined) (fit_both stored.first stored.next (records_fit stored.first stored.segment.encoded.canonical) (next_fit stored.epoch (slots.segment ((stored.epoch + 1) % 2)) stored.next stored.other));
+    fit =
+        subst FitCalls (sym stored.joined)
+        (fit_both stored.first stored.next (records_fit stored.first stored.segment.encoded.canonical)
+        (next_fit stored.epoch (slots.segment ((stored.epoch + 1) % 2)) stored.next stored.other));
   }
 ]
 
@@ -152,7 +210,9 @@ pub recovers_once : RecoversOnce
 recovers_once slots one other first second =
     let same = encodes_once slots first.base second.base first.records second.records first.encoded second.encoded in
     let begins = beginning slots second.base second.records second.encoded in
-    one_run second.base second.records one other begins.fit begins.lawful begins.acyclic (subst (λ (s : State). Run s second.records one) same.0 (subst (λ (l : List Record). Run first.base l one) same.1 first.run)) second.run
+    one_run second.base second.records one other begins.fit begins.lawful begins.acyclic
+    (subst (λ (s : State). Run s second.records one) same.0
+    (subst (λ (l : List Record). Run first.base l one) same.1 first.run)) second.run
 
 abbrev pub RecoversLawful : Type 0
 RecoversLawful = (slots : Slots) (state : State) → Recovered slots state → Lawful state × Acyclic state
@@ -164,7 +224,8 @@ recovers_lawful slots state recovered =
 
 -- And no disk from which a state is recovered is of another version.
 
-of_version_one : (header number epoch : ℕ) (slot : List ℕ) → IsOfEpoch number epoch slot → HasOtherVersion header slot → ⊥
+of_version_one : (header number epoch : ℕ) (slot : List ℕ) → IsOfEpoch number epoch slot → HasOtherVersion header slot
+    → ⊥
 of_version_one header number epoch slot is other = other.1 (ap (λ (l : List ℕ). slice_index l 1) is.encoding)
 
 abbrev pub RecoversVersionOne : Type 0

@@ -9,23 +9,31 @@ use Rattle.ipc_laws.specs.CanonicalLaws.{made_as_canonical}
 use Rattle.ipc_laws.specs.StepsKeep.{FitCalls}
 
 -- one more step
-pub run-push : (old mid new : State) (records : List Record) (next : Record) → Run old records mid → Step mid next.space next.call next.reply new → Run old (records ++ next ∷ []) new
-run-push old mid new [] next so_far step = (new, subst (λ (s : State). Step s next.space next.call next.reply new) so_far step, refl)
-run-push old mid new (first ∷ records) next so_far step = (so_far.0, so_far.1, run-push so_far.0 mid new records next so_far.2 step)
+pub run-push : (old mid new : State) (records : List Record) (next : Record) → Run old records mid
+    → Step mid next.space next.call next.reply new → Run old (records ++ next ∷ []) new
+run-push old mid new [] next so_far step =
+    (new, subst (λ (s : State). Step s next.space next.call next.reply new) so_far step, refl)
+run-push old mid new (first ∷ records) next so_far step =
+    (so_far.0, so_far.1, run-push so_far.0 mid new records next so_far.2 step)
 
 -- a run over records that follow one another is two runs
-pub run_split : (old new : State) (records more : List Record) → Run old (records ++ more) new → (mid : State) × Run old records mid × Run mid more new
+pub run_split : (old new : State) (records more : List Record) → Run old (records ++ more) new → (mid : State)
+    × Run old records mid × Run mid more new
 run_split old new [] more run = (old, refl, run)
 run_split old new (first ∷ records) more run =
     let later = run_split run.0 new records more run.2 in (later.0, (run.0, run.1, later.1), later.2)
 
 -- Records and what is kept of them run alike.
 abbrev pub RecordsRunAsCanonical : Type 0
-RecordsRunAsCanonical = (old : State) (records : List Record) (new : State) → FitCalls records → Run old (map canonical_record records) new ↔ Run old records new
+RecordsRunAsCanonical =
+    (old : State) (records : List Record) (new : State) → FitCalls records
+    → Run old (map canonical_record records) new ↔ Run old records new
 
 pub run_as_canonical : RecordsRunAsCanonical
 run_as_canonical old [] new fits = ((λ run. run), (λ run. run))
 run_as_canonical old (first ∷ records) new fits =
     let here = λ (mid : State). made_as_canonical old first.space first.call first.reply mid fits.0 in
-    let there = λ (mid : State). run_as_canonical mid records new fits.1 in
-    ((λ run. (run.0, (here run.0).0 run.1, (there run.0).0 run.2)), (λ run. (run.0, (here run.0).1 run.1, (there run.0).1 run.2)))
+    let there = λ (mid : State). run_as_canonical mid records new fits.1 in (
+      (λ run. (run.0, (here run.0).0 run.1, (there run.0).0 run.2)),
+      (λ run. (run.0, (here run.0).1 run.1, (there run.0).1 run.2)),
+    )

@@ -54,15 +54,19 @@ or_left true c e = absurd (cc e)
 or_left false c e = (refl, e)
 
 -- a right that is some port's receive right
-receive_is : (inner : ℕ) (right : CarriedRight) → is_receive_right inner right ≡ true → (same_kind right.kind kind.Receive ≡ true) × (right.port ≡ in_message.Live inner)
+receive_is : (inner : ℕ) (right : CarriedRight) → is_receive_right inner right ≡ true
+    → (same_kind right.kind kind.Receive ≡ true) × (right.port ≡ in_message.Live inner)
 receive_is inner right is =
-    elim right.port as (λ (p : PortInMessage). (same_kind right.kind kind.Receive && is_port p inner) ≡ true → (same_kind right.kind kind.Receive ≡ true) × (p ≡ in_message.Live inner)) [
+    elim right.port as (λ (p : PortInMessage). (same_kind right.kind kind.Receive && is_port p inner) ≡ true
+    → (same_kind right.kind kind.Receive ≡ true) × (p ≡ in_message.Live inner)) [
       | Null ↦ λ (e : _). absurd (no_and (same_kind right.kind kind.Receive) e)
       | in_message.Dead ↦ λ (e : _). absurd (no_and (same_kind right.kind kind.Receive) e)
-      | Live serial ↦ λ (e : _). elim (same_kind right.kind kind.Receive) as (λ (b : Bool). (b && (serial == inner)) ≡ true → (b ≡ true) × (in_message.Live serial ≡ in_message.Live inner)) [
-        | true ↦ λ (same : _). (refl, ap (λ k. in_message.Live k) (number_same serial inner same))
-        | false ↦ λ (f : _). absurd (cc f)
-      ] e
+      | Live serial ↦ λ (e : _). elim (same_kind right.kind kind.Receive)
+          as (λ (b : Bool). (b && (serial == inner)) ≡ true → (b ≡ true)
+          × (in_message.Live serial ≡ in_message.Live inner)) [
+            | true ↦ λ (same : _). (refl, ap (λ k. in_message.Live k) (number_same serial inner same))
+            | false ↦ λ (f : _). absurd (cc f)
+          ] e
     ] is
 
 -- such a right weighs no more than all together, and makes no circle if none does
@@ -70,18 +74,25 @@ record Carried (state : State) (queue : ℕ) (rank : ℕ → ℕ) (rights : List
   lighter : rank inner < heavy rank rights
   free : is_circular state inner queue ≡ false
 
-carried_one : (state : State) (queue : ℕ) (rank : ℕ → ℕ) (rights : List CarriedRight) (inner : ℕ) → list_any (is_receive_right inner) rights ≡ true → list_any (goes_in_circle state queue) rights ≡ false → Carried state queue rank rights inner
+carried_one : (state : State) (queue : ℕ) (rank : ℕ → ℕ) (rights : List CarriedRight) (inner : ℕ)
+    → list_any (is_receive_right inner) rights ≡ true → list_any (goes_in_circle state queue) rights ≡ false
+    → Carried state queue rank rights inner
 unfolding port_heavy
 carried_one state queue rank [] inner any none = absurd (cc any)
 carried_one state queue rank (right ∷ rights) inner any none =
     let both = or_left (goes_in_circle state queue right) (list_any (goes_in_circle state queue) rights) none in
-    elim (is_receive_right inner right) as (λ (b : Bool). is_receive_right inner right ≡ b → (b || list_any (is_receive_right inner) rights) ≡ true → Carried state queue rank (right ∷ rights) inner) [
+    elim (is_receive_right inner right)
+    as (λ (b : Bool). is_receive_right inner right ≡ b → (b || list_any (is_receive_right inner) rights) ≡ true
+    → Carried state queue rank (right ∷ rights) inner) [
       | true ↦ λ (is : _) (_ : _).
           let what = receive_is inner right is in
           record {
             lighter = omega (arith, ap (port_heavy rank) what.1);
-            free = sym (ap (λ (b : Bool). b && elim (live_port right.port) as (λ _. Bool) [ None ↦ false | Some serial ↦ is_circular state serial queue ]) what.0
-                ∙ ap (λ (p : PortInMessage). elim (live_port p) as (λ _. Bool) [ None ↦ false | Some serial ↦ is_circular state serial queue ]) what.1) ∙ both.0;
+            free =
+                sym (ap (λ (b : Bool). b && elim (live_port right.port) as (λ _. Bool)
+                [ None ↦ false | Some serial ↦ is_circular state serial queue ]) what.0
+                ∙ ap (λ (p : PortInMessage). elim (live_port p) as (λ _. Bool)
+                [ None ↦ false | Some serial ↦ is_circular state serial queue ]) what.1) ∙ both.0;
           }
       | false ↦ λ (_ : _) (later : _).
           let rest = carried_one state queue rank rights inner later both.1 in
@@ -91,69 +102,99 @@ carried_one state queue rank (right ∷ rights) inner any none =
 raised : State → (ℕ → ℕ) → ℕ → ℕ → ℕ → ℕ
 raised state rank queue more x = rank x + cond (meets state (finmap.len state.ports) x queue) more 0
 
-queued_acyclic : (state : State) (queue : ℕ) (message : Message) → TravelsOnce state → list_any (goes_in_circle state queue) message.rights ≡ false → Acyclic state → Acyclic (queued state queue message)
+queued_acyclic : (state : State) (queue : ℕ) (message : Message) → TravelsOnce state
+    → list_any (goes_in_circle state queue) message.rights ≡ false → Acyclic state
+    → Acyclic (queued state queue message)
 unfolding raised is_circular
 queued_acyclic state queue message once none (rank, grows) =
     let n : ℕ = finmap.len state.ports in
     let more : ℕ = heavy rank message.rights in (
       raised state rank queue more,
-      λ (outer inner : ℕ) (edge : _). elim (queued_edges state queue message outer inner edge) as (λ _. raised state rank queue more inner < raised state rank queue more outer) [
-        | inl before ↦
-            elim (meets state n inner queue) as (λ (b : Bool). meets state n inner queue ≡ b → rank inner + cond b more 0 < rank outer + cond (meets state n outer queue) more 0) [
-              | true ↦ λ (met : _).
-                  let above : meets state n outer queue ≡ true = met_more rank state grows n queue inner outer (few_above rank (rank queue) state) met (one_carrier state once inner outer before) in
-                  omega (arith, grows outer inner before, ap (λ (b : Bool). cond b more 0) above)
-              | false ↦ λ (unmet : _). omega (arith, grows outer inner before)
-            ] refl
-        | inr new ↦
-            let carried = carried_one state queue rank message.rights inner new.1 none in
-            omega (
-              arith,
-              ap (raised state rank queue more) new.0,
-              ap (λ (b : Bool). cond b more 0) (meets_itself state n queue),
-              ap (λ (b : Bool). cond b more 0) carried.free,
-              carried.lighter,
-            )
-      ],
+      λ (outer inner : ℕ) (edge : _). elim (queued_edges state queue message outer inner edge)
+          as (λ _. raised state rank queue more inner < raised state rank queue more outer) [
+            | inl before ↦
+                elim (meets state n inner queue)
+                as (λ (b : Bool). meets state n inner queue ≡ b
+                → rank inner + cond b more 0 < rank outer + cond (meets state n outer queue) more 0) [
+                  | true ↦ λ (met : _).
+                      let above : meets state n outer queue ≡ true =
+                      met_more rank state grows n queue inner outer (few_above rank (rank queue) state) met
+                      (one_carrier state once inner outer before) in
+                      omega (arith, grows outer inner before, ap (λ (b : Bool). cond b more 0) above)
+                  | false ↦ λ (unmet : _). omega (arith, grows outer inner before)
+                ] refl
+            | inr new ↦
+                let carried = carried_one state queue rank message.rights inner new.1 none in
+                omega (
+                  arith,
+                  ap (raised state rank queue more) new.0,
+                  ap (λ (b : Bool). cond b more 0) (meets_itself state n queue),
+                  ap (λ (b : Bool). cond b more 0) carried.free,
+                  carried.lighter,
+                )
+          ],
     )
 
 -- A ready message is sent.
 
 queue_live : (ready : Ready) → MidReady ready → lives ready.state ready.port ≡ true
-queue_live ready is = elim (lives ready.state ready.port) as (λ (b : Bool). lives ready.state ready.port ≡ b → b ≡ true) [
-  | true ↦ λ (_ : _). refl
-  | false ↦ λ (dead : _). absurd (omega (arith, is.mid.in_hand ready.port dead, own_weight ready.port ready.message.destination))
-] refl
+queue_live ready is =
+    elim (lives ready.state ready.port) as (λ (b : Bool). lives ready.state ready.port ≡ b → b ≡ true) [
+      | true ↦ λ (_ : _). refl
+      | false ↦ λ (dead : _). absurd
+          (omega (arith, is.mid.in_hand ready.port dead, own_weight ready.port ready.message.destination))
+    ] refl
 
-queued_kept : (ready : Ready) → MidReady ready → list_any (goes_in_circle ready.state ready.port) ready.message.rights ≡ false → Kept (queued ready.state ready.port ready.message) ready.notices
+queued_kept : (ready : Ready) → MidReady ready
+    → list_any (goes_in_circle ready.state ready.port) ready.message.rights ≡ false
+    → Kept (queued ready.state ready.port ready.message) ready.notices
 queued_kept ready is none =
     let at = lives_some ready.state ready.port (queue_live ready is) in
     let lawful : LawfulPort at.0 = (is.mid.parts.ports ready.port at.0 at.1).2 in
     let hand : Hand = λ w. message_weigh w ready.port ready.message in
     let change : PortState → PortState = λ p. record p { messages = p.messages ++ ready.message ∷ [] } in
-    let weighs : (w : Weight) → port_weigh w ready.port (change at.0) ≡ port_weigh w ready.port at.0 + message_weigh w ready.port ready.message =
+    let weighs : (w : Weight) → port_weigh w ready.port (change at.0)
+    ≡ port_weigh w ready.port at.0 + message_weigh w ready.port ready.message =
     λ (w : Weight). omega (arith, weigh-append (message_weigh w ready.port) at.0.messages (ready.message ∷ [])) in
-    let mid : MidCall (queued ready.state ready.port ready.message) empty_hand = mid_port ready.state ready.port change hand empty_hand (record {
+    let mid : MidCall (queued ready.state ready.port ready.message) empty_hand =
+    mid_port ready.state ready.port change hand empty_hand (record {
       port = at.0;
       there = at.1;
-      lawful = record { limit = lawful.limit; sequence_number = lawful.sequence_number; make_send_count = lawful.make_send_count; messages = All-push LawfulMessage at.0.messages ready.message lawful.messages is.lawful };
+      lawful =
+          record {
+            limit = lawful.limit;
+            sequence_number = lawful.sequence_number;
+            make_send_count = lawful.make_send_count;
+            messages = All-push LawfulMessage at.0.messages ready.message lawful.messages is.lawful;
+          };
       receives = λ (q : ℕ). omega (arith, weighs (receive_of q));
       none_dead = λ (q : ℕ) (dead : _). omega (arith, weighs (any_of q));
       set = λ (set : ℕ) (e : _). e;
-      acyclic = queued_acyclic ready.state ready.port ready.message (mid_travels_once ready.state hand is.mid) none is.mid.acyclic;
+      acyclic =
+          queued_acyclic ready.state ready.port ready.message
+          (mid_travels_once ready.state hand is.mid) none is.mid.acyclic;
     }) is.mid in
-    kept_of_mid (queued ready.state ready.port ready.message) empty_hand ready.notices mid is.quiet.waits is.quiet.receives
+    kept_of_mid (queued ready.state ready.port ready.message) empty_hand ready.notices mid is.quiet.waits
+    is.quiet.receives
 
-circular_kept : (ready : Ready) → MidReady ready → Kept ready.state (ready.notices ++ (release ready.message.destination ready.port ∷ releases_of ready.message))
+circular_kept : (ready : Ready) → MidReady ready
+    → Kept ready.state (ready.notices ++ (release ready.message.destination ready.port ∷ releases_of ready.message))
 circular_kept ready is =
     let hand : Hand = λ w. message_weigh w ready.port ready.message in
     let rest : List Effect = release ready.message.destination ready.port ∷ releases_of ready.message in
-    kept_of_mid ready.state hand (ready.notices ++ rest) is.mid (waiting-append ready.notices rest is.quiet.waits (tt, releases_wait ready.message))
-    (λ (q : ℕ). omega (arith, weigh-append (effect_weigh (receive_of q)) ready.notices rest, is.quiet.receives q, releases_carry (receive_of q) ready.port ready.message))
+    kept_of_mid ready.state hand (ready.notices ++ rest) is.mid
+    (waiting-append ready.notices rest is.quiet.waits (tt, releases_wait ready.message))
+    (λ (q : ℕ). omega (
+      arith,
+      weigh-append (effect_weigh (receive_of q)) ready.notices rest,
+      is.quiet.receives q,
+      releases_carry (receive_of q) ready.port ready.message,
+    ))
 
 abbrev sent_as : Bool → Ready → Outcome
 sent_as b ready =
-    if b then (ready.state, ready.notices ++ (release ready.message.destination ready.port ∷ releases_of ready.message)) else (queued ready.state ready.port ready.message, ready.notices)
+    if b then (ready.state, ready.notices ++ (release ready.message.destination ready.port ∷ releases_of ready.message))
+    else (queued ready.state ready.port ready.message, ready.notices)
 
 sent_kept : (ready : Ready) → MidReady ready → Kept (sent ready).0 (sent ready).1
 unfolding sent
@@ -164,11 +205,18 @@ sent_kept ready is =
       | false ↦ λ (none : _). queued_kept ready is none
     ] refl
 
-pub send_kept : (old : State) (space : ℕ) (names : Names) (message : List ℕ) (answer : Reply) (new : State) (effects : List Effect) → AreBytes message → LawfulAtRest old → Acyclic old → finmap.get old.spaces space ≡ Some names
+pub send_kept : (old : State) (space : ℕ) (names : Names) (message : List ℕ) (answer : Reply) (new : State)
+    (effects : List Effect) → AreBytes message → LawfulAtRest old → Acyclic old
+    → finmap.get old.spaces space ≡ Some names
     → ActsIn old space names (call.Send message) answer new effects → Kept new effects
 send_kept old space names message answer new effects fits lawful acyclic there acts =
-    elim (ready_to_send old space message) as (λ (r : Result Ready KernReturn). IfOk r MidReady → MatchResult r (λ (ready : Ready). (answer ≡ without_message Success 0 0) × (new ≡ (sent ready).0) × (effects ≡ (sent ready).1))
+    elim (ready_to_send old space message)
+    as (λ (r : Result Ready KernReturn). IfOk r MidReady
+    → MatchResult r (λ (ready : Ready). (answer ≡ without_message Success 0 0) × (new ≡ (sent ready).0)
+    × (effects ≡ (sent ready).1))
     (λ code. (answer ≡ without_message code 0 0) × (new ≡ old) × (effects ≡ [])) → Kept new effects) [
-      | Ok ready ↦ λ (is : _) (done : _). subst (λ (s : State). Kept s effects) (sym done.1) (subst (λ (l : List Effect). Kept (sent ready).0 l) (sym done.2) (sent_kept ready is))
+      | Ok ready ↦ λ (is : _) (done : _). subst
+          (λ (s : State). Kept s effects) (sym done.1)
+          (subst (λ (l : List Effect). Kept (sent ready).0 l) (sym done.2) (sent_kept ready is))
       | Err code ↦ λ (_ : _) (refused : _). kept_as old new effects lawful acyclic refused.1 refused.2
     ] (ready_mid old space names message fits (mid_of old lawful acyclic) there) acts

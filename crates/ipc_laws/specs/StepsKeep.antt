@@ -41,77 +41,115 @@ use Rattle.ipc_model.specs.encodings.Encodings.{FitsCall}
 -- mach_port_deallocate
 
 -- the name holds more than a receive right
-some_left : (receive : Bool) (port send : ℕ) → (receive ≡ true) ⊎ (0 < send) → (is_some (if receive then Some port else None) && send == 0) ≡ false → (send == 0) ≡ false
+some_left : (receive : Bool) (port send : ℕ) → (receive ≡ true) ⊎ (0 < send)
+    → (is_some (if receive then Some port else None) && send == 0) ≡ false → (send == 0) ≡ false
 some_left true port send either passes = passes
 some_left false port send (inl receive) passes = absurd (cc receive)
 some_left false port zero (inr less) passes = absurd (omega (arith, less))
 some_left false port (suc send) (inr less) passes = not_equal (suc send) 0 (λ (e : _). absurd (omega (arith, e)))
 
-has_references : (rights : PortRights) → LawfulEntry (Port rights) → (false || (has_receive (Port rights) && rights.send == 0)) ≡ false → (rights.send == 0) ≡ false
+has_references : (rights : PortRights) → LawfulEntry (Port rights)
+    → (false || (has_receive (Port rights) && rights.send == 0)) ≡ false → (rights.send == 0) ≡ false
 has_references rights lawful passes = some_left rights.receive rights.port rights.send lawful.0 passes
 
-deallocated_kept : (old : State) (space name : ℕ) (names : Names) (entry : Entry) → LawfulAtRest old → Acyclic old → finmap.get old.spaces space ≡ Some names → finmap.get names name ≡ Some entry
-    → (is_set entry || (has_receive entry && send_references entry == 0)) ≡ false → Kept (actions.deallocated old space names name entry).state (actions.deallocated old space names name entry).effects
+deallocated_kept : (old : State) (space name : ℕ) (names : Names) (entry : Entry) → LawfulAtRest old → Acyclic old
+    → finmap.get old.spaces space ≡ Some names → finmap.get names name ≡ Some entry
+    → (is_set entry || (has_receive entry && send_references entry == 0)) ≡ false
+    → Kept (actions.deallocated old space names name entry).state
+    (actions.deallocated old space names name entry).effects
 deallocated_kept old space name names (Port rights) lawful acyclic there at passes =
     let own = ((lawful.spaces space names there).2.named name (Port rights) at).2 in
-    send_left_kept old space name names rights (rights.send - 1) 7 lawful acyclic there at (has_references rights own passes) (omega (arith, own.1))
+    send_left_kept old space name names rights (rights.send - 1) 7 lawful acyclic there at
+    (has_references rights own passes) (omega (arith, own.1))
 deallocated_kept old space name names (SendOnce port target) lawful acyclic there at passes =
-    subst (λ (s : State). Kept s (actions.effects_of_name name (SendOnce port target))) (sym (changed_space old space names (λ (n : Names). finmap.remove n name) there)) (gone_kept old space name names (SendOnce port target) lawful acyclic there at tt)
+    subst (λ (s : State). Kept s (actions.effects_of_name name (SendOnce port target)))
+    (sym (changed_space old space names (λ (n : Names). finmap.remove n name) there))
+    (gone_kept old space name names (SendOnce port target) lawful acyclic there at tt)
 deallocated_kept old space name names Set lawful acyclic there at passes = absurd (cc passes)
 deallocated_kept old space name names (Dead references) lawful acyclic there at passes =
     let own = ((lawful.spaces space names there).2.named name (Dead references) at).2 in
     dead_left_kept old space name names references (references - 1) 7 lawful acyclic there at (omega (arith, own.1))
 
-deallocate_kept : (old : State) (space name : ℕ) (names : Names) (answer : Reply) (new : State) (effects : List Effect) → LawfulAtRest old → Acyclic old → finmap.get old.spaces space ≡ Some names
-    → first_failing (tests_of old space names (call.Deallocate name)) ≡ None → Done old space names (call.Deallocate name) answer new effects → Kept new effects
+deallocate_kept : (old : State) (space name : ℕ) (names : Names) (answer : Reply) (new : State) (effects : List Effect)
+    → LawfulAtRest old → Acyclic old → finmap.get old.spaces space ≡ Some names
+    → first_failing (tests_of old space names (call.Deallocate name)) ≡ None
+    → Done old space names (call.Deallocate name) answer new effects → Kept new effects
 unfolding Done tests_of
 deallocate_kept old space name names answer new effects lawful acyclic there passes done =
-    let barred : Bool = name_is (λ entry. is_set entry || (has_receive entry && send_references entry == 0)) names name in
-    let second : first_failing ((barred, InvalidRight) ∷ []) ≡ None = (first_passes (is_no_name names name, InvalidName) ((barred, InvalidRight) ∷ []) passes).1 in
+    let barred : Bool =
+    name_is (λ entry. is_set entry || (has_receive entry && send_references entry == 0)) names name in
+    let second : first_failing ((barred, InvalidRight) ∷ []) ≡ None =
+    (first_passes (is_no_name names name, InvalidName) ((barred, InvalidRight) ∷ []) passes).1 in
     let free : barred ≡ false = (first_passes (barred, InvalidRight) [] second).0 in
-    elim (finmap.get names name) as (λ (o : Option Entry). finmap.get names name ≡ o → entry_is (λ entry. is_set entry || (has_receive entry && send_references entry == 0)) o ≡ false → ActsOn o (actions.deallocated old space names name) answer new effects → Kept new effects) [
+    elim (finmap.get names name) as (λ (o : Option Entry). finmap.get names name ≡ o
+    → entry_is (λ entry. is_set entry || (has_receive entry && send_references entry == 0)) o ≡ false
+    → ActsOn o (actions.deallocated old space names name) answer new effects → Kept new effects) [
       | None ↦ λ (_ : _) (_ : _) (acts : _). absurd acts
       | Some entry ↦ λ (at : _) (allowed : _) (acts : _).
-          subst (λ (s : State). Kept s effects) (sym acts.1) (subst (λ (l : List Effect). Kept (actions.deallocated old space names name entry).state l) (sym acts.2) (deallocated_kept old space name names entry lawful acyclic there at allowed))
+          subst (λ (s : State). Kept s effects) (sym acts.1)
+          (subst (λ (l : List Effect). Kept (actions.deallocated old space names name entry).state l) (sym acts.2)
+          (deallocated_kept old space name names entry lawful acyclic there at allowed))
     ] refl free done
 
 -- mach_port_allocate and mach_port_allocate_name
 
 given_as : (state new : State) (effects : List Effect) → Kept state [] → new ≡ state → effects ≡ [] → Kept new effects
-given_as state new effects kept same none = subst (λ (s : State). Kept s effects) (sym same) (subst (λ (l : List Effect). Kept state l) (sym none) kept)
+given_as state new effects kept same none =
+    subst (λ (s : State). Kept s effects) (sym same) (subst (λ (l : List Effect). Kept state l) (sym none) kept)
 
-allocate_kept : (old : State) (space which : ℕ) (names : Names) (answer : Reply) (new : State) (effects : List Effect) → LawfulAtRest old → Acyclic old → finmap.get old.spaces space ≡ Some names
-    → first_failing (tests_of old space names (call.Allocate which)) ≡ None → Done old space names (call.Allocate which) answer new effects → Kept new effects
+allocate_kept : (old : State) (space which : ℕ) (names : Names) (answer : Reply) (new : State) (effects : List Effect)
+    → LawfulAtRest old → Acyclic old → finmap.get old.spaces space ≡ Some names
+    → first_failing (tests_of old space names (call.Allocate which)) ≡ None
+    → Done old space names (call.Allocate which) answer new effects → Kept new effects
 unfolding Done tests_of
 allocate_kept old space which names answer new effects lawful acyclic there passes done =
-    let second : first_failing ((names_are_used_up names, NoSpace) ∷ (is_right which right.Receive && ports_are_used_up old, ResourceShortage) ∷ []) ≡ None =
-    (first_passes (not (is_allocatable which), InvalidValue) ((names_are_used_up names, NoSpace) ∷ (is_right which right.Receive && ports_are_used_up old, ResourceShortage) ∷ []) passes).1 in
-    let room = first_passes (names_are_used_up names, NoSpace) ((is_right which right.Receive && ports_are_used_up old, ResourceShortage) ∷ []) second in
+    let second : first_failing ((names_are_used_up names, NoSpace) ∷
+    (is_right which right.Receive && ports_are_used_up old, ResourceShortage) ∷ []) ≡ None =
+    (first_passes (not (is_allocatable which), InvalidValue)
+    ((names_are_used_up names, NoSpace) ∷
+    (is_right which right.Receive && ports_are_used_up old, ResourceShortage) ∷ []) passes).1 in
+    let room =
+    first_passes (names_are_used_up names, NoSpace)
+    ((is_right which right.Receive && ports_are_used_up old, ResourceShortage) ∷ []) second in
     let ports = first_passes (is_right which right.Receive && ports_are_used_up old, ResourceShortage) [] room.1 in
-    given_as (actions.allocated old space names which done.0) new effects (allocated_kept old space names which done.0 lawful acyclic there done.1 room.0 ports.0) done.3 done.4
+    given_as (actions.allocated old space names which done.0) new effects
+    (allocated_kept old space names which done.0 lawful acyclic there done.1 room.0 ports.0) done.3 done.4
 
-allocate_name_kept : (old : State) (space which name : ℕ) (names : Names) (answer : Reply) (new : State) (effects : List Effect) → name < 2 ^ 32 → LawfulAtRest old → Acyclic old → finmap.get old.spaces space ≡ Some names
-    → first_failing (tests_of old space names (call.AllocateName which name)) ≡ None → Done old space names (call.AllocateName which name) answer new effects → Kept new effects
+allocate_name_kept : (old : State) (space which name : ℕ) (names : Names) (answer : Reply) (new : State)
+    (effects : List Effect) → name < 2 ^ 32 → LawfulAtRest old → Acyclic old → finmap.get old.spaces space ≡ Some names
+    → first_failing (tests_of old space names (call.AllocateName which name)) ≡ None
+    → Done old space names (call.AllocateName which name) answer new effects → Kept new effects
 unfolding Done tests_of
 allocate_name_kept old space which name names answer new effects fits lawful acyclic there passes done =
     let last : Tests = (is_right which right.Receive && ports_are_used_up old, ResourceShortage) ∷ [] in
-    let real = first_passes (is_null_or_dead name, InvalidValue) ((not (is_allocatable which), InvalidValue) ∷ (is_in_use names name, NameExists) ∷ (names_are_used_up names, NoSpace) ∷ last) passes in
-    let allowed = first_passes (not (is_allocatable which), InvalidValue) ((is_in_use names name, NameExists) ∷ (names_are_used_up names, NoSpace) ∷ last) real.1 in
+    let real =
+    first_passes (is_null_or_dead name, InvalidValue)
+    ((not (is_allocatable which), InvalidValue) ∷ (is_in_use names name, NameExists) ∷
+    (names_are_used_up names, NoSpace) ∷ last) passes in
+    let allowed =
+    first_passes (not (is_allocatable which), InvalidValue)
+    ((is_in_use names name, NameExists) ∷ (names_are_used_up names, NoSpace) ∷ last) real.1 in
     let free = first_passes (is_in_use names name, NameExists) ((names_are_used_up names, NoSpace) ∷ last) allowed.1 in
     let room = first_passes (names_are_used_up names, NoSpace) last free.1 in
     let ports = first_passes (is_right which right.Receive && ports_are_used_up old, ResourceShortage) [] room.1 in
-    given_as (actions.allocated old space names which name) new effects (allocated_kept old space names which name lawful acyclic there (chosen_unused names name real.0 free.0 fits) room.0 ports.0) done.1 done.2
+    given_as (actions.allocated old space names which name) new effects
+    (allocated_kept old space names which name lawful acyclic there
+    (chosen_unused names name real.0 free.0 fits) room.0 ports.0) done.1 done.2
 
 -- mach_port_destroy
 
-destroy_kept : (old : State) (space name : ℕ) (names : Names) (answer : Reply) (new : State) (effects : List Effect) → LawfulAtRest old → Acyclic old → finmap.get old.spaces space ≡ Some names
+destroy_kept : (old : State) (space name : ℕ) (names : Names) (answer : Reply) (new : State) (effects : List Effect)
+    → LawfulAtRest old → Acyclic old → finmap.get old.spaces space ≡ Some names
     → Done old space names (call.Destroy name) answer new effects → Kept new effects
 unfolding Done
 destroy_kept old space name names answer new effects lawful acyclic there done =
-    elim (finmap.get names name) as (λ (o : Option Entry). finmap.get names name ≡ o → ActsOn o (actions.destroyed old space names name) answer new effects → Kept new effects) [
+    elim (finmap.get names name) as (λ (o : Option Entry). finmap.get names name ≡ o
+    → ActsOn o (actions.destroyed old space names name) answer new effects → Kept new effects) [
       | None ↦ λ (_ : _) (acts : _). absurd acts
       | Some entry ↦ λ (at : _) (acts : _).
-          subst (λ (s : State). Kept s effects) (sym acts.1) (subst (λ (l : List Effect). Kept (actions.destroyed old space names name entry).state l) (sym acts.2) (destroyed_kept old space name names entry lawful acyclic there at))
+          subst (λ (s : State). Kept s effects) (sym acts.1)
+          (subst (λ (l : List Effect). Kept (actions.destroyed old space names name entry).state l) (sym acts.2)
+          (destroyed_kept old space name names entry lawful acyclic there at))
     ] refl done
 
 -- mach_port_mod_refs
@@ -120,79 +158,132 @@ abbrev references_in : ℕ → Option Entry → ℕ
 references_in which None = 0
 references_in which (Some entry) = references_of which entry
 
-modify_kept : (old : State) (space name which delta : ℕ) (names : Names) (answer : Reply) (new : State) (effects : List Effect) → LawfulAtRest old → Acyclic old → finmap.get old.spaces space ≡ Some names
-    → first_failing (tests_of old space names (call.ModRefs name which delta)) ≡ None → Done old space names (call.ModRefs name which delta) answer new effects → Kept new effects
+modify_kept : (old : State) (space name which delta : ℕ) (names : Names) (answer : Reply) (new : State)
+    (effects : List Effect) → LawfulAtRest old → Acyclic old → finmap.get old.spaces space ≡ Some names
+    → first_failing (tests_of old space names (call.ModRefs name which delta)) ≡ None
+    → Done old space names (call.ModRefs name which delta) answer new effects → Kept new effects
 unfolding Done tests_of
 modify_kept old space name which delta names answer new effects lawful acyclic there passes done =
     elim (finmap.get names name) as (λ (o : Option Entry). finmap.get names name ≡ o
-    → first_failing ((is_no_right which, InvalidValue) ∷ (is_no_name names name, InvalidName) ∷ (references_in which o == 0, InvalidRight) ∷ tests_of_delta which (references_in which o) delta) ≡ None
+    → first_failing ((is_no_right which, InvalidValue) ∷ (is_no_name names name, InvalidName) ∷
+    (references_in which o == 0, InvalidRight) ∷ tests_of_delta which (references_in which o) delta) ≡ None
     → ActsOn o (λ entry. actions.modified old space names name entry which delta) answer new effects → Kept new effects) [
       | None ↦ λ (_ : _) (_ : _) (acts : _). absurd acts
       | Some entry ↦ λ (at : _) (tests : _) (acts : _).
           let last : Tests = tests_of_delta which (references_of which entry) delta in
-          let known = first_passes (is_no_right which, InvalidValue) ((is_no_name names name, InvalidName) ∷ (references_of which entry == 0, InvalidRight) ∷ last) tests in
-          let named = first_passes (is_no_name names name, InvalidName) ((references_of which entry == 0, InvalidRight) ∷ last) known.1 in
+          let known =
+          first_passes (is_no_right which, InvalidValue)
+          ((is_no_name names name, InvalidName) ∷ (references_of which entry == 0, InvalidRight) ∷ last) tests
+          in
+          let named =
+          first_passes (is_no_name names name, InvalidName)
+          ((references_of which entry == 0, InvalidRight) ∷ last) known.1 in
           let some = first_passes (references_of which entry == 0, InvalidRight) last named.1 in
-          subst (λ (s : State). Kept s effects) (sym acts.1) (subst (λ (l : List Effect). Kept (actions.modified old space names name entry which delta).state l) (sym acts.2)
+          subst (λ (s : State). Kept s effects) (sym acts.1)
+          (subst (λ (l : List Effect). Kept (actions.modified old space names name entry which delta).state l)
+          (sym acts.2)
           (modified_kept old space name names entry which delta lawful acyclic there at known.0 some.0 some.1))
     ] refl passes done
 
 -- every call that passes its tests
-done_kept : (old : State) (space : ℕ) (names : Names) (c : Call) (answer : Reply) (new : State) (effects : List Effect) → FitsCall c → LawfulAtRest old → Acyclic old → finmap.get old.spaces space ≡ Some names
+done_kept : (old : State) (space : ℕ) (names : Names) (c : Call) (answer : Reply) (new : State) (effects : List Effect)
+    → FitsCall c → LawfulAtRest old → Acyclic old → finmap.get old.spaces space ≡ Some names
     → first_failing (tests_of old space names c) ≡ None → Done old space names c answer new effects → Kept new effects
 unfolding Done
-done_kept old space names (call.Rename from to) answer new effects fits lawful acyclic there passes done = rename_kept old space from to names answer new effects fits.1 lawful acyclic there passes done
-done_kept old space names (call.AllocateName which name) answer new effects fits lawful acyclic there passes done = allocate_name_kept old space which name names answer new effects fits.1 lawful acyclic there passes done
-done_kept old space names (call.Allocate which) answer new effects fits lawful acyclic there passes done = allocate_kept old space which names answer new effects lawful acyclic there passes done
-done_kept old space names (call.Destroy name) answer new effects fits lawful acyclic there passes done = destroy_kept old space name names answer new effects lawful acyclic there done
-done_kept old space names (call.Deallocate name) answer new effects fits lawful acyclic there passes done = deallocate_kept old space name names answer new effects lawful acyclic there passes done
-done_kept old space names (call.ModRefs name which delta) answer new effects fits lawful acyclic there passes done = modify_kept old space name which delta names answer new effects lawful acyclic there passes done
-done_kept old space names (call.RequestNotification name variant sync notify disposition) answer new effects fits lawful acyclic there passes done =
-    request_kept old space name variant sync notify disposition names answer new effects lawful acyclic there passes done
-done_kept old space names (call.InsertRight name right_name disposition) answer new effects fits lawful acyclic there passes done =
+done_kept old space names (call.Rename from to) answer new effects fits lawful acyclic there passes done =
+    rename_kept old space from to names answer new effects fits.1 lawful acyclic there passes done
+done_kept old space names (call.AllocateName which name) answer new effects fits lawful acyclic there passes done =
+    allocate_name_kept old space which name names answer new effects fits.1 lawful acyclic there passes done
+done_kept old space names (call.Allocate which) answer new effects fits lawful acyclic there passes done =
+    allocate_kept old space which names answer new effects lawful acyclic there passes done
+done_kept old space names (call.Destroy name) answer new effects fits lawful acyclic there passes done =
+    destroy_kept old space name names answer new effects lawful acyclic there done
+done_kept old space names (call.Deallocate name) answer new effects fits lawful acyclic there passes done =
+    deallocate_kept old space name names answer new effects lawful acyclic there passes done
+done_kept old space names (call.ModRefs name which delta) answer new effects fits lawful acyclic there passes done =
+    modify_kept old space name which delta names answer new effects lawful acyclic there passes done
+done_kept old space names (call.RequestNotification name variant sync notify disposition) answer new effects fits lawful
+    acyclic there passes done =
+    request_kept old space name variant sync notify disposition names answer new effects lawful acyclic there passes
+    done
+done_kept old space names (call.InsertRight name right_name disposition) answer new effects fits lawful acyclic there
+    passes done =
     insert_kept old space name right_name disposition names answer new effects fits.0 lawful acyclic there passes done
-done_kept old space names (call.ExtractRight name disposition) answer new effects fits lawful acyclic there passes done = extract_kept old space name disposition names answer new effects lawful acyclic there passes done
-done_kept old space names (call.SpaceCreate name disposition) answer new effects fits lawful acyclic there passes done = create_kept old space name disposition names answer new effects lawful acyclic there passes done
-done_kept old space names call.SpaceDestroy answer new effects fits lawful acyclic there passes done = space_destroy_kept old space names answer new effects lawful acyclic there passes done
+done_kept old space names (call.ExtractRight name disposition) answer new effects fits lawful acyclic there passes
+    done = extract_kept old space name disposition names answer new effects lawful acyclic there passes done
+done_kept old space names (call.SpaceCreate name disposition) answer new effects fits lawful acyclic there passes done =
+    create_kept old space name disposition names answer new effects lawful acyclic there passes done
+done_kept old space names call.SpaceDestroy answer new effects fits lawful acyclic there passes done =
+    space_destroy_kept old space names answer new effects lawful acyclic there passes done
 done_kept old space names (call.Send message) answer new effects fits lawful acyclic there passes done = absurd done
-done_kept old space names (call.Receive limit large name waited) answer new effects fits lawful acyclic there passes done = absurd done
-done_kept old space names (call.Attach other) answer new effects fits lawful acyclic there passes done = simple_kept old space names (call.Attach other) answer new effects refl fits lawful acyclic there passes done
-done_kept old space names call.Names answer new effects fits lawful acyclic there passes done = simple_kept old space names call.Names answer new effects refl fits lawful acyclic there passes done
-done_kept old space names (call.Type name) answer new effects fits lawful acyclic there passes done = simple_kept old space names (call.Type name) answer new effects refl fits lawful acyclic there passes done
-done_kept old space names (call.GetRefs name which) answer new effects fits lawful acyclic there passes done = simple_kept old space names (call.GetRefs name which) answer new effects refl fits lawful acyclic there passes done
-done_kept old space names (call.SetQlimit name limit) answer new effects fits lawful acyclic there passes done = simple_kept old space names (call.SetQlimit name limit) answer new effects refl fits lawful acyclic there passes done
-done_kept old space names (call.SetMscount name count) answer new effects fits lawful acyclic there passes done = simple_kept old space names (call.SetMscount name count) answer new effects refl fits lawful acyclic there passes done
-done_kept old space names (call.SetSeqno name seqno) answer new effects fits lawful acyclic there passes done = simple_kept old space names (call.SetSeqno name seqno) answer new effects refl fits lawful acyclic there passes done
-done_kept old space names (call.GetReceiveStatus name) answer new effects fits lawful acyclic there passes done = simple_kept old space names (call.GetReceiveStatus name) answer new effects refl fits lawful acyclic there passes done
-done_kept old space names (call.GetSetStatus name) answer new effects fits lawful acyclic there passes done = simple_kept old space names (call.GetSetStatus name) answer new effects refl fits lawful acyclic there passes done
-done_kept old space names (call.MoveMember member after) answer new effects fits lawful acyclic there passes done = simple_kept old space names (call.MoveMember member after) answer new effects refl fits lawful acyclic there passes done
+done_kept old space names (call.Receive limit large name waited) answer new effects fits lawful acyclic there passes
+    done = absurd done
+done_kept old space names (call.Attach other) answer new effects fits lawful acyclic there passes done =
+    simple_kept old space names (call.Attach other) answer new effects refl fits lawful acyclic there passes done
+done_kept old space names call.Names answer new effects fits lawful acyclic there passes done =
+    simple_kept old space names call.Names answer new effects refl fits lawful acyclic there passes done
+done_kept old space names (call.Type name) answer new effects fits lawful acyclic there passes done =
+    simple_kept old space names (call.Type name) answer new effects refl fits lawful acyclic there passes done
+done_kept old space names (call.GetRefs name which) answer new effects fits lawful acyclic there passes done =
+    simple_kept old space names (call.GetRefs name which) answer new effects refl fits lawful acyclic there passes done
+done_kept old space names (call.SetQlimit name limit) answer new effects fits lawful acyclic there passes done =
+    simple_kept old space names (call.SetQlimit name limit) answer new effects refl fits lawful acyclic there passes
+    done
+done_kept old space names (call.SetMscount name count) answer new effects fits lawful acyclic there passes done =
+    simple_kept old space names (call.SetMscount name count) answer new effects refl fits lawful acyclic there passes
+    done
+done_kept old space names (call.SetSeqno name seqno) answer new effects fits lawful acyclic there passes done =
+    simple_kept old space names (call.SetSeqno name seqno) answer new effects refl fits lawful acyclic there passes done
+done_kept old space names (call.GetReceiveStatus name) answer new effects fits lawful acyclic there passes done =
+    simple_kept old space names (call.GetReceiveStatus name) answer new effects refl fits lawful acyclic there passes
+    done
+done_kept old space names (call.GetSetStatus name) answer new effects fits lawful acyclic there passes done =
+    simple_kept old space names (call.GetSetStatus name) answer new effects refl fits lawful acyclic there passes done
+done_kept old space names (call.MoveMember member after) answer new effects fits lawful acyclic there passes done =
+    simple_kept old space names (call.MoveMember member after) answer new effects refl fits lawful acyclic there passes
+    done
 
-called_kept : (refusal : Option KernReturn) (old : State) (space : ℕ) (names : Names) (c : Call) (answer : Reply) (new : State) (effects : List Effect) → refusal ≡ first_failing (tests_of old space names c) → FitsCall c
-    → LawfulAtRest old → Acyclic old → finmap.get old.spaces space ≡ Some names → Called refusal old space names c answer new effects → Kept new effects
-called_kept None old space names c answer new effects is fits lawful acyclic there called = done_kept old space names c answer new effects fits lawful acyclic there (sym is) called
-called_kept (Some code) old space names c answer new effects is fits lawful acyclic there called = kept_as old new effects lawful acyclic called.1 called.2
+called_kept : (refusal : Option KernReturn) (old : State) (space : ℕ) (names : Names) (c : Call) (answer : Reply)
+    (new : State) (effects : List Effect) → refusal ≡ first_failing (tests_of old space names c) → FitsCall c
+    → LawfulAtRest old → Acyclic old → finmap.get old.spaces space ≡ Some names
+    → Called refusal old space names c answer new effects → Kept new effects
+called_kept None old space names c answer new effects is fits lawful acyclic there called =
+    done_kept old space names c answer new effects fits lawful acyclic there (sym is) called
+called_kept (Some code) old space names c answer new effects is fits lawful acyclic there called =
+    kept_as old new effects lawful acyclic called.1 called.2
 
-acts_kept : (old : State) (space : ℕ) (names : Names) (c : Call) (answer : Reply) (new : State) (effects : List Effect) → FitsCall c → LawfulAtRest old → Acyclic old → finmap.get old.spaces space ≡ Some names
+acts_kept : (old : State) (space : ℕ) (names : Names) (c : Call) (answer : Reply) (new : State) (effects : List Effect)
+    → FitsCall c → LawfulAtRest old → Acyclic old → finmap.get old.spaces space ≡ Some names
     → ActsIn old space names c answer new effects → Kept new effects
-acts_kept old space names (call.Send message) answer new effects fits lawful acyclic there acts = send_kept old space names message answer new effects fits lawful acyclic there acts
+acts_kept old space names (call.Send message) answer new effects fits lawful acyclic there acts =
+    send_kept old space names message answer new effects fits lawful acyclic there acts
 acts_kept old space names (call.Receive limit large name waited) answer new effects fits lawful acyclic there acts =
-    receive_kept old space names (record { limit = limit; large = large; name = name; waited = waited }) answer new effects lawful acyclic there acts
+    receive_kept old space names (record { limit = limit; large = large; name = name; waited = waited }) answer new
+    effects lawful acyclic there acts
 acts_kept old space names c answer new effects fits lawful acyclic there acts =
-    called_kept (first_failing (tests_of old space names c)) old space names c answer new effects refl fits lawful acyclic there acts
+    called_kept (first_failing (tests_of old space names c)) old space names c answer new effects refl fits lawful
+    acyclic there acts
 
-from_kept : (old : State) (space : ℕ) (o : Option Names) (c : Call) (answer : Reply) (new : State) (effects : List Effect) → finmap.get old.spaces space ≡ o → FitsCall c → LawfulAtRest old → Acyclic old
+from_kept : (old : State) (space : ℕ) (o : Option Names) (c : Call) (answer : Reply) (new : State)
+    (effects : List Effect) → finmap.get old.spaces space ≡ o → FitsCall c → LawfulAtRest old → Acyclic old
     → ActsFrom old space o c answer new effects → Kept new effects
-from_kept old space None c answer new effects there fits lawful acyclic acts = kept_as old new effects lawful acyclic acts.1 acts.2
-from_kept old space (Some names) c answer new effects there fits lawful acyclic acts = acts_kept old space names c answer new effects fits lawful acyclic there acts
+from_kept old space None c answer new effects there fits lawful acyclic acts =
+    kept_as old new effects lawful acyclic acts.1 acts.2
+from_kept old space (Some names) c answer new effects there fits lawful acyclic acts =
+    acts_kept old space names c answer new effects fits lawful acyclic there acts
 
 -- Every step keeps a state lawful and acyclic, if the call's arguments are in range.
 abbrev pub StepsKeepLawful : Type 0
-StepsKeepLawful = (old : State) (space : ℕ) (c : Call) (answer : Reply) (new : State) → FitsCall c → Lawful old → Acyclic old → Step old space c answer new → Lawful new × Acyclic new
+StepsKeepLawful =
+    (old : State) (space : ℕ) (c : Call) (answer : Reply) (new : State) → FitsCall c → Lawful old → Acyclic old
+    → Step old space c answer new → Lawful new × Acyclic new
 
 pub steps_keep_lawful : StepsKeepLawful
 unfolding Step
 steps_keep_lawful old space c answer new fits lawful acyclic step =
-    let acted = from_kept old space (finmap.get old.spaces space) c answer step.0 step.1 refl fits (at_rest old lawful) acyclic step.2 in
+    let acted =
+    from_kept old space (finmap.get old.spaces space) c answer step.0 step.1 refl fits
+    (at_rest old lawful) acyclic step.2 in
     settled_is_lawful step.0 step.1 new acted.lawful acted.acyclic step.3
 
 -- So every run of records from a lawful and acyclic state ends in one.
@@ -201,7 +292,9 @@ FitCalls [] = Unit {0}
 FitCalls (first ∷ records) = FitsCall first.call × FitCalls records
 
 abbrev pub RunsKeepLawful : Type 0
-RunsKeepLawful = (old : State) (records : List Record) (new : State) → FitCalls records → Lawful old → Acyclic old → Run old records new → Lawful new × Acyclic new
+RunsKeepLawful =
+    (old : State) (records : List Record) (new : State) → FitCalls records → Lawful old → Acyclic old
+    → Run old records new → Lawful new × Acyclic new
 
 pub runs_keep_lawful : RunsKeepLawful
 runs_keep_lawful old [] new fits lawful acyclic run = (subst Lawful (sym run) lawful, subst Acyclic (sym run) acyclic)
@@ -211,7 +304,9 @@ runs_keep_lawful old (first ∷ records) new fits lawful acyclic (mid, step, res
 
 -- and in only one state: the records determine what recovery reaches when it replays them.
 abbrev pub OneRun : Type 0
-OneRun = (old : State) (records : List Record) (one other : State) → FitCalls records → Lawful old → Acyclic old → Run old records one → Run old records other → one ≡ other
+OneRun =
+    (old : State) (records : List Record) (one other : State) → FitCalls records → Lawful old → Acyclic old
+    → Run old records one → Run old records other → one ≡ other
 
 pub one_run : OneRun
 one_run old [] one other fits lawful acyclic here there = here ∙ sym there

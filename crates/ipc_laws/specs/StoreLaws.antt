@@ -5,17 +5,27 @@ use Rattle.std.proofs.lemmas.List.{append-nil}
 use Rattle.ipc_model.specs.declared.record.Record.{Record}
 use Rattle.ipc_model.specs.store.Store.{open_gate, batch_encoding, batches_encoding, all_records, IsClosed, NoneEmpty, AreRecords, EncodesBatches, EncodesSegment, IsInUse}
 
-pub all_records-push : (batches : List (List Record)) (batch : List Record) → all_records (batches ++ batch ∷ []) ≡ all_records batches ++ batch
+pub all_records-push : (batches : List (List Record)) (batch : List Record)
+    → all_records (batches ++ batch ∷ []) ≡ all_records batches ++ batch
 all_records-push [] batch = append-nil batch
-all_records-push (first ∷ batches) batch = ap (λ l. first ++ l) (all_records-push batches batch) ∙ sym (append_assoc first (all_records batches) batch)
+all_records-push (first ∷ batches) batch =
+    ap (λ l. first ++ l) (all_records-push batches batch) ∙ sym (append_assoc first (all_records batches) batch)
 
-pub batches_encoding-push : (n : ℕ) (batches : List (List Record)) (batch : List Record) → batches_encoding n (batches ++ batch ∷ []) ≡ batches_encoding n batches ++ (open_gate ∷ batch_encoding (n + length (all_records batches)) batch)
-batches_encoding-push n [] batch = ap (λ l. open_gate ∷ l) (append-nil (batch_encoding n batch) ∙ ap (λ k. batch_encoding k batch) (omega arith))
+pub batches_encoding-push : (n : ℕ) (batches : List (List Record)) (batch : List Record)
+    → batches_encoding n (batches ++ batch ∷ []) ≡ batches_encoding n batches
+    ++ (open_gate ∷ batch_encoding (n + length (all_records batches)) batch)
+batches_encoding-push n [] batch =
+    ap (λ l. open_gate ∷ l) (append-nil (batch_encoding n batch) ∙ ap (λ k. batch_encoding k batch) (omega arith))
 batches_encoding-push n (first ∷ batches) batch =
-    ap (λ l. open_gate ∷ (batch_encoding n first ++ l)) (batches_encoding-push (n + length first) batches batch ∙ ap (λ k. batches_encoding (n + length first) batches ++ (open_gate ∷ batch_encoding k batch)) (omega (arith, length-append first (all_records batches))))
-    ∙ ap (λ l. open_gate ∷ l) (sym (append_assoc (batch_encoding n first) (batches_encoding (n + length first) batches) _))
+    ap (λ l. open_gate ∷ (batch_encoding n first ++ l))
+    (batches_encoding-push (n + length first) batches batch ∙ ap
+    (λ k. batches_encoding (n + length first) batches ++ (open_gate ∷ batch_encoding k batch))
+    (omega (arith, length-append first (all_records batches))))
+    ∙ ap (λ l. open_gate ∷ l) (sym
+    (append_assoc (batch_encoding n first) (batches_encoding (n + length first) batches) _))
 
-pub none_empty-push : (batches : List (List Record)) (batch : List Record) → NoneEmpty batches → 0 < length batch → NoneEmpty (batches ++ batch ∷ [])
+pub none_empty-push : (batches : List (List Record)) (batch : List Record) → NoneEmpty batches → 0 < length batch
+    → NoneEmpty (batches ++ batch ∷ [])
 none_empty-push [] batch none some = (some, tt)
 none_empty-push (first ∷ batches) batch none some = (none.0, none_empty-push batches batch none.1 some)
 
@@ -24,7 +34,8 @@ are_records-join [] ys front back = back
 are_records-join (first ∷ xs) ys front back = (front.0, are_records-join xs ys front.1 back)
 
 -- the same batches, followed by something else that is closed
-pub other_end : (content : List ℕ) (records : List Record) (s : EncodesBatches content records) (rest : List ℕ) → IsClosed rest → EncodesBatches (batches_encoding 0 s.batches ++ rest) records
+pub other_end : (content : List ℕ) (records : List Record) (s : EncodesBatches content records) (rest : List ℕ)
+    → IsClosed rest → EncodesBatches (batches_encoding 0 s.batches ++ rest) records
 other_end content records s rest closed = record {
   batches = s.batches;
   rest = rest;
@@ -37,5 +48,7 @@ other_end content records s rest closed = record {
 }
 
 -- a segment in use encodes its records
-pub in_use_encodes : (epoch : ℕ) (bytes : List ℕ) (records : List Record) → IsInUse epoch bytes records → EncodesSegment epoch bytes records
-in_use_encodes epoch bytes records used = record { content = used.content; encoding = used.encoding; encoded = used.encoded }
+pub in_use_encodes : (epoch : ℕ) (bytes : List ℕ) (records : List Record) → IsInUse epoch bytes records
+    → EncodesSegment epoch bytes records
+in_use_encodes epoch bytes records used =
+    record { content = used.content; encoding = used.encoding; encoded = used.encoded }

@@ -21,7 +21,8 @@ names_of entries = finmap.from_entries entries
 
 -- a state with only space 1, in which the next port gets serial 10
 abbrev pub in_space_1 : List (ℕ × Entry) → List (ℕ × PortState) → State
-in_space_1 entries ports = record { spaces = finmap.insert finmap.empty 1 (names_of entries); ports = finmap.from_entries ports; next = 10 }
+in_space_1 entries ports =
+    record { spaces = finmap.insert finmap.empty 1 (names_of entries); ports = finmap.from_entries ports; next = 10 }
 
 -- a port with these messages in its queue, else as new
 abbrev pub with_queue : List Message → PortState
@@ -29,7 +30,8 @@ with_queue messages = record new_port { messages = messages }
 
 -- a message by a right of this kind, without ports
 abbrev pub plain : RightKind → ℕ → List ℕ → Message
-plain destination id body = record { destination = destination; reply = None; id = id; complex = false; rights = []; body = body }
+plain destination id body =
+    record { destination = destination; reply = None; id = id; complex = false; rights = []; body = body }
 
 abbrev pub live : RightKind → ℕ → CarriedRight
 live of_kind serial = record { kind = of_kind; port = Live serial }
@@ -50,8 +52,18 @@ hello = plain kind.Send 7 (68 ∷ 51 ∷ 34 ∷ 17 ∷ [])
 
 -- a message of 28 bytes, sent to 0x100 by a copy of its send right, which carries what `hello` does
 abbrev pub hello_as_sent : List ℕ
-hello_as_sent = 19 ∷ 0 ∷ 0 ∷ 0 ∷ 28 ∷ 0 ∷ 0 ∷ 0 ∷ 0 ∷ 1 ∷ 0 ∷ 0 ∷ 0 ∷ 0 ∷ 0 ∷ 0 ∷ 0 ∷ 0 ∷ 0 ∷ 0 ∷ 7 ∷ 0 ∷ 0 ∷ 0 ∷ 68 ∷ 51 ∷ 34 ∷ 17 ∷ []
+hello_as_sent =
+    19 ∷ 0 ∷ 0 ∷ 0 ∷ 28 ∷ 0 ∷ 0 ∷ 0 ∷ 0 ∷ 1 ∷ 0 ∷ 0 ∷ 0 ∷ 0 ∷ 0 ∷ 0 ∷ 0 ∷ 0 ∷ 0 ∷ 0 ∷ 7 ∷ 0 ∷ 0 ∷ 0 ∷ 68 ∷ 51 ∷ 34 ∷ 17
+    ∷ []
 
 -- a message with a send-once right to port 2 to reply by
 abbrev pub asking : Message
-asking = record { destination = kind.Send; reply = Some (live kind.SendOnce 2); id = 9; complex = false; rights = []; body = [] }
+asking =
+    record {
+      destination = kind.Send;
+      reply = Some (live kind.SendOnce 2);
+      id = 9;
+      complex = false;
+      rights = [];
+      body = [];
+    }

@@ -29,7 +29,16 @@ once_made = with_names alone 1 (finmap.insert (names_of a_port) 0x101 (SendOnce 
 
 pub extract-once : Step alone 1 (call.ExtractRight 0x100 21) (reply.Extracted 0x101 kind.SendOnce) once_made
 unfolding Step Done tests_of copy_in
-extract-once = (once_made, [], simp rows (0x101, refl, (record { least = omega arith; below_dead = omega arith; free = simp map_rules }, refl, refl)), settled)
+extract-once = (
+  once_made,
+  [],
+  simp rows (
+    0x101,
+    refl,
+    (record { least = omega arith; below_dead = omega arith; free = simp map_rules }, refl, refl),
+  ),
+  settled,
+)
 
 -- A copied send right comes out under the name of its port, as one more reference.
 abbrev pub three_references : List (ℕ × Entry)
@@ -56,9 +65,11 @@ pub gone-death : (effect receive_gone (release kind.Receive 1)).1 ≡ []
 unfolding effect
 gone-death = simp rows
 
-pub gone-step : Step (in_space_1 four_references ((1, new_port) ∷ [])) 1 (call.ModRefs 0x300 1 (2 ^ 32 - 1)) (reply.Done 9) (effect receive_gone (release kind.Receive 1)).0
+pub gone-step : Step (in_space_1 four_references ((1, new_port) ∷ [])) 1 (call.ModRefs 0x300 1 (2 ^ 32 - 1))
+    (reply.Done 9) (effect receive_gone (release kind.Receive 1)).0
 unfolding Step Done tests_of
-gone-step = (receive_gone, release kind.Receive 1 ∷ [], simp rows (refl, refl, refl), settles_adding [] gone-death settled)
+gone-step =
+    (receive_gone, release kind.Receive 1 ∷ [], simp rows (refl, refl, refl), settles_adding [] gone-death settled)
 
 pub gone-died : (effect receive_gone (release kind.Receive 1)).0 ≡ after_death receive_gone 1
 unfolding effect
@@ -80,7 +91,9 @@ member-step = (port_in_set, [], simp rows (refl, refl, refl), settled)
 
 -- A space is made, whose one name holds a send right.
 abbrev pub two_spaces : State
-two_spaces = with_names (with_port alone 1 (λ port. record port { make_send_count = 1 })) 2 (finmap.insert finmap.empty 0x100 (rights_to 1 false 1))
+two_spaces =
+    with_names (with_port alone 1 (λ port. record port { make_send_count = 1 })) 2
+    (finmap.insert finmap.empty 0x100 (rights_to 1 false 1))
 
 pub space-step : Step alone 1 (call.SpaceCreate 0x100 20) (reply.SpaceCreated 2 0x100) two_spaces
 unfolding Step Done tests_of copy_in
@@ -125,6 +138,17 @@ requesting = in_space_1 ((0x100, requested) ∷ []) ((1, new_port) ∷ [])
 abbrev pub request_again : State
 request_again = with_entry (with_entry requesting 1 0x100 requested) 1 0x101 (SendOnce 1 None)
 
-pub request-again_step : Step requesting 1 (call.RequestNotification 0x100 72 0 0x100 21) (reply.PreviousTarget 0x101) request_again
+pub request-again_step : Step requesting 1 (call.RequestNotification 0x100 72 0 0x100 21)
+    (reply.PreviousTarget 0x101) request_again
 unfolding Step Done tests_of copy_in
-request-again_step = (request_again, [], simp rows (0x101, refl, (record { least = omega arith; below_dead = omega arith; free = simp rows }, refl), refl), settled)
+request-again_step = (
+  request_again,
+  [],
+  simp rows (
+    0x101,
+    refl,
+    (record { least = omega arith; below_dead = omega arith; free = simp rows }, refl),
+    refl,
+  ),
+  settled,
+)

@@ -23,18 +23,28 @@ use Rattle.ipc_model.specs.state.State.{State, new_port, type_of, entry_at}
 
 -- a message that carries a receive right, sent by a send right
 abbrev pub carrying : ℕ → Message
-carrying serial = record { destination = kind.Send; reply = None; id = 9; complex = true; rights = live kind.Receive serial ∷ []; body = 16 ∷ 32 ∷ 1 ∷ 16 ∷ 0 ∷ 0 ∷ 0 ∷ 0 ∷ [] }
+carrying serial =
+    record {
+      destination = kind.Send;
+      reply = None;
+      id = 9;
+      complex = true;
+      rights = live kind.Receive serial ∷ [];
+      body = 16 ∷ 32 ∷ 1 ∷ 16 ∷ 0 ∷ 0 ∷ 0 ∷ 0 ∷ [];
+    }
 
 -- A port's receive right is sent to the port itself; two send references stay with the name.
 abbrev pub own_way : State
 own_way = in_space_1 ((0x100, rights_to 1 false 2) ∷ []) ((1, new_port) ∷ [])
 
 -- the message would carry the right to its own queue: it is destroyed, with its destination and its right
-pub own_way-circular : (sent (record { message = carrying 1; port = 1; state = own_way; notices = [] })).1 ≡ release kind.Send 1 ∷ release kind.Receive 1 ∷ []
+pub own_way-circular : (sent (record { message = carrying 1; port = 1; state = own_way; notices = [] })).1
+    ≡ release kind.Send 1 ∷ release kind.Receive 1 ∷ []
 unfolding sent is_circular
 own_way-circular = simp rows
 
-pub own_way-not_queued : message_count (sent (record { message = carrying 1; port = 1; state = own_way; notices = [] })).0 1 ≡ Some 0
+pub own_way-not_queued : message_count
+    (sent (record { message = carrying 1; port = 1; state = own_way; notices = [] })).0 1 ≡ Some 0
 unfolding sent is_circular
 own_way-not_queued = simp rows
 
@@ -60,7 +70,8 @@ own_way-gone = simp rows
 abbrev pub two_ways : State
 two_ways = in_space_1 ((0x100, rights_to 1 false 1) ∷ []) ((1, new_port) ∷ (2, with_queue (carrying 1 ∷ [])) ∷ [])
 
-pub two_ways-circular : (sent (record { message = carrying 2; port = 1; state = two_ways; notices = [] })).1 ≡ release kind.Send 1 ∷ release kind.Receive 2 ∷ []
+pub two_ways-circular : (sent (record { message = carrying 2; port = 1; state = two_ways; notices = [] })).1
+    ≡ release kind.Send 1 ∷ release kind.Receive 2 ∷ []
 unfolding sent is_circular
 two_ways-circular = simp rows
 
@@ -104,7 +115,9 @@ abbrev pub told_of : PortState
 told_of = record new_port { port_destroyed_target = Some 3 }
 
 abbrev pub to_be_told : State
-to_be_told = in_space_1 ((0x100, rights_to 3 true 0) ∷ []) ((1, with_queue (carrying 2 ∷ [])) ∷ (2, told_of) ∷ (3, new_port) ∷ [])
+to_be_told =
+    in_space_1 ((0x100, rights_to 3 true 0) ∷ [])
+    ((1, with_queue (carrying 2 ∷ [])) ∷ (2, told_of) ∷ (3, new_port) ∷ [])
 
 pub told-released : (effect to_be_told (release kind.Receive 1)).1 ≡ release kind.Receive 2 ∷ []
 unfolding effect
@@ -114,7 +127,8 @@ abbrev pub carrier_dead : State
 carrier_dead = in_space_1 ((0x100, rights_to 3 true 0) ∷ []) ((2, told_of) ∷ (3, new_port) ∷ [])
 
 -- the receive right goes to port 3 as a notice, and port 2 lives, without the request
-pub told-notice : queue_of (effect carrier_dead (release kind.Receive 2)).0 3 ≡ Some (notice_message (notice.PortDestroyed 2) ∷ [])
+pub told-notice : queue_of (effect carrier_dead (release kind.Receive 2)).0 3
+    ≡ Some (notice_message (notice.PortDestroyed 2) ∷ [])
 unfolding effect is_circular
 told-notice = simp rows
 
@@ -122,7 +136,9 @@ pub told-lives : finmap.get (effect carrier_dead (release kind.Receive 2)).0.por
 unfolding effect is_circular
 told-lives = simp rows
 
-pub told-received : received_encoding (notice_message (notice.PortDestroyed 2)) 0x100 0 (0x101 ∷ []) ≡ 0 ∷ 18 ∷ 0 ∷ 128 ∷ 32 ∷ 0 ∷ 0 ∷ 0 ∷ 0 ∷ 0 ∷ 0 ∷ 0 ∷ 0 ∷ 1 ∷ 0 ∷ 0 ∷ 0 ∷ 0 ∷ 0 ∷ 0 ∷ 69 ∷ 0 ∷ 0 ∷ 0 ∷ 16 ∷ 32 ∷ 1 ∷ 16 ∷ 1 ∷ 1 ∷ 0 ∷ 0 ∷ []
+pub told-received : received_encoding (notice_message (notice.PortDestroyed 2)) 0x100 0 (0x101 ∷ [])
+    ≡ 0 ∷ 18 ∷ 0 ∷ 128 ∷ 32 ∷ 0 ∷ 0 ∷ 0 ∷ 0 ∷ 0 ∷ 0 ∷ 0 ∷ 0 ∷ 1 ∷ 0 ∷ 0 ∷ 0 ∷ 0 ∷ 0 ∷ 0 ∷ 69 ∷ 0 ∷ 0 ∷ 0 ∷ 16 ∷ 32 ∷ 1 ∷
+    16 ∷ 1 ∷ 1 ∷ 0 ∷ 0 ∷ []
 unfolding items_of
 told-received = refl
 
@@ -153,11 +169,14 @@ watching_1-died = simp rows
 pub watched-dead : entry_at (effect watching (release kind.Receive 1)).0 1 0x100 ≡ Some (Dead 2)
 watched-dead = ap (λ s. entry_at s 1 0x100) watching_1-died ∙ entry-after_death watching 1 1 0x100 ∙ simp rows
 
-pub watched-received : received_encoding (notice_message (notice.DeadName 0x100)) 0x101 0 [] ≡ 0 ∷ 18 ∷ 0 ∷ 0 ∷ 32 ∷ 0 ∷ 0 ∷ 0 ∷ 0 ∷ 0 ∷ 0 ∷ 0 ∷ 1 ∷ 1 ∷ 0 ∷ 0 ∷ 0 ∷ 0 ∷ 0 ∷ 0 ∷ 72 ∷ 0 ∷ 0 ∷ 0 ∷ 15 ∷ 32 ∷ 1 ∷ 16 ∷ 0 ∷ 1 ∷ 0 ∷ 0 ∷ []
+pub watched-received : received_encoding (notice_message (notice.DeadName 0x100)) 0x101 0 []
+    ≡ 0 ∷ 18 ∷ 0 ∷ 0 ∷ 32 ∷ 0 ∷ 0 ∷ 0 ∷ 0 ∷ 0 ∷ 0 ∷ 0 ∷ 1 ∷ 1 ∷ 0 ∷ 0 ∷ 0 ∷ 0 ∷ 0 ∷ 0 ∷ 72 ∷ 0 ∷ 0 ∷ 0 ∷ 15 ∷ 32 ∷ 1 ∷
+    16 ∷ 0 ∷ 1 ∷ 0 ∷ 0 ∷ []
 watched-received = refl
 
 -- the notice stands in its target's queue
-pub watched-queued : queue_of (effect watching (notify 2 (notice.DeadName 0x100))).0 2 ≡ Some (notice_message (notice.DeadName 0x100) ∷ [])
+pub watched-queued : queue_of (effect watching (notify 2 (notice.DeadName 0x100))).0 2
+    ≡ Some (notice_message (notice.DeadName 0x100) ∷ [])
 unfolding effect
 watched-queued = simp rows
 
@@ -171,7 +190,9 @@ watched-deleted = refl
 pub watched-unused : entry_at watched_deallocated.state 1 0x100 ≡ None
 watched-unused = simp rows
 
-pub watched-deleted_received : received_encoding (notice_message (notice.PortDeleted 0x100)) 0x101 0 [] ≡ 0 ∷ 18 ∷ 0 ∷ 0 ∷ 32 ∷ 0 ∷ 0 ∷ 0 ∷ 0 ∷ 0 ∷ 0 ∷ 0 ∷ 1 ∷ 1 ∷ 0 ∷ 0 ∷ 0 ∷ 0 ∷ 0 ∷ 0 ∷ 65 ∷ 0 ∷ 0 ∷ 0 ∷ 15 ∷ 32 ∷ 1 ∷ 16 ∷ 0 ∷ 1 ∷ 0 ∷ 0 ∷ []
+pub watched-deleted_received : received_encoding (notice_message (notice.PortDeleted 0x100)) 0x101 0 []
+    ≡ 0 ∷ 18 ∷ 0 ∷ 0 ∷ 32 ∷ 0 ∷ 0 ∷ 0 ∷ 0 ∷ 0 ∷ 0 ∷ 0 ∷ 1 ∷ 1 ∷ 0 ∷ 0 ∷ 0 ∷ 0 ∷ 0 ∷ 0 ∷ 65 ∷ 0 ∷ 0 ∷ 0 ∷ 15 ∷ 32 ∷ 1 ∷
+    16 ∷ 0 ∷ 1 ∷ 0 ∷ 0 ∷ []
 watched-deleted_received = refl
 
 -- The target may be the port that dies: there is one more reference all the same, and the notice is dropped.
@@ -186,13 +207,15 @@ unfolding effect
 watching_itself_1-died = simp rows
 
 pub by_itself-dead : entry_at (effect watching_itself (release kind.Receive 1)).0 1 0x100 ≡ Some (Dead 2)
-by_itself-dead = ap (λ s. entry_at s 1 0x100) watching_itself_1-died ∙ entry-after_death watching_itself 1 1 0x100 ∙ simp rows
+by_itself-dead =
+    ap (λ s. entry_at s 1 0x100) watching_itself_1-died ∙ entry-after_death watching_itself 1 1 0x100 ∙ simp rows
 
 pub by_itself-notice : (effect watching_itself (release kind.Receive 1)).1 ≡ notify 1 (notice.DeadName 0x100) ∷ []
 unfolding effect
 by_itself-notice = simp rows
 
-pub by_itself-dropped : effect (in_space_1 ((0x100, Dead 2) ∷ []) []) (notify 1 (notice.DeadName 0x100)) ≡ (in_space_1 ((0x100, Dead 2) ∷ []) [], [])
+pub by_itself-dropped : effect (in_space_1 ((0x100, Dead 2) ∷ []) []) (notify 1 (notice.DeadName 0x100))
+    ≡ (in_space_1 ((0x100, Dead 2) ∷ []) [], [])
 unfolding effect
 by_itself-dropped = simp rows
 
@@ -213,7 +236,9 @@ pub no_senders-kept : (port_request_set new_one 70 1 1 (Some 1)).1 ≡ []
 unfolding placed
 no_senders-kept = simp rows
 
-pub no_senders-kept_target : option_map (λ (port : PortState). port.no_senders_target) (finmap.get (port_request_set new_one 70 1 1 (Some 1)).0.ports 1) ≡ Some (Some 1)
+pub no_senders-kept_target : option_map
+    (λ (port : PortState). port.no_senders_target) (finmap.get (port_request_set new_one 70 1 1 (Some 1)).0.ports 1)
+    ≡ Some (Some 1)
 unfolding placed
 no_senders-kept_target = simp rows
 
@@ -225,7 +250,9 @@ no_senders-at_once = simp rows
 abbrev pub asked : PortState
 asked = record new_port { no_senders_target = Some 2 }
 
-pub no_senders-none_kept : option_map (λ (port : PortState). port.no_senders_target) (finmap.get (port_request_set (in_space_1 [] ((1, asked) ∷ [])) 70 0 1 (Some 1)).0.ports 1) ≡ Some None
+pub no_senders-none_kept : option_map
+    (λ (port : PortState). port.no_senders_target)
+    (finmap.get (port_request_set (in_space_1 [] ((1, asked) ∷ [])) 70 0 1 (Some 1)).0.ports 1) ≡ Some None
 unfolding placed
 no_senders-none_kept = simp rows
 
@@ -235,36 +262,48 @@ no_senders-former = simp rows
 
 -- the last send right of a port goes: its request is answered
 abbrev pub last_sender : State
-last_sender = in_space_1 ((0x100, rights_to 1 true 0) ∷ []) ((1, record new_port { make_send_count = 1; no_senders_target = Some 1 }) ∷ [])
+last_sender =
+    in_space_1 ((0x100, rights_to 1 true 0) ∷ [])
+    ((1, record new_port { make_send_count = 1; no_senders_target = Some 1 }) ∷ [])
 
-pub no_senders-notice : queue_of (effect last_sender (release kind.Send 1)).0 1 ≡ Some (notice_message (notice.NoSenders 1) ∷ [])
+pub no_senders-notice : queue_of (effect last_sender (release kind.Send 1)).0 1
+    ≡ Some (notice_message (notice.NoSenders 1) ∷ [])
 unfolding effect placed
 no_senders-notice = simp rows
 
-pub no_senders-answered : option_map (λ (port : PortState). port.no_senders_target) (finmap.get (effect last_sender (release kind.Send 1)).0.ports 1) ≡ Some None
+pub no_senders-answered : option_map
+    (λ (port : PortState). port.no_senders_target) (finmap.get (effect last_sender (release kind.Send 1)).0.ports 1)
+    ≡ Some None
 unfolding effect placed
 no_senders-answered = simp rows
 
-pub no_senders-received : received_encoding (notice_message (notice.NoSenders 1)) 0x100 0 [] ≡ 0 ∷ 18 ∷ 0 ∷ 0 ∷ 32 ∷ 0 ∷ 0 ∷ 0 ∷ 0 ∷ 0 ∷ 0 ∷ 0 ∷ 0 ∷ 1 ∷ 0 ∷ 0 ∷ 0 ∷ 0 ∷ 0 ∷ 0 ∷ 70 ∷ 0 ∷ 0 ∷ 0 ∷ 2 ∷ 32 ∷ 1 ∷ 16 ∷ 1 ∷ 0 ∷ 0 ∷ 0 ∷ []
+pub no_senders-received : received_encoding (notice_message (notice.NoSenders 1)) 0x100 0 []
+    ≡ 0 ∷ 18 ∷ 0 ∷ 0 ∷ 32 ∷ 0 ∷ 0 ∷ 0 ∷ 0 ∷ 0 ∷ 0 ∷ 0 ∷ 0 ∷ 1 ∷ 0 ∷ 0 ∷ 0 ∷ 0 ∷ 0 ∷ 0 ∷ 70 ∷ 0 ∷ 0 ∷ 0 ∷ 2 ∷ 32 ∷ 1 ∷ 16
+    ∷ 1 ∷ 0 ∷ 0 ∷ 0 ∷ []
 no_senders-received = refl
 
 -- a send right to the same port, which the message brought, keeps the count above zero
 abbrev pub brought_sender : State
-brought_sender = in_space_1 ((0x100, rights_to 1 true 1) ∷ []) ((1, record new_port { make_send_count = 1; no_senders_target = Some 1 }) ∷ [])
+brought_sender =
+    in_space_1 ((0x100, rights_to 1 true 1) ∷ [])
+    ((1, record new_port { make_send_count = 1; no_senders_target = Some 1 }) ∷ [])
 
 pub no_senders-not_yet : effect brought_sender (release kind.Send 1) ≡ (brought_sender, [])
 unfolding effect placed
 no_senders-not_yet = simp rows
 
 -- A name with the last send right and the receive right is destroyed: the send right goes first.
-pub destroy-send_first : (destroyed brought_sender 1 (names_of ((0x100, rights_to 1 true 1) ∷ [])) 0x100 (rights_to 1 true 1)).effects ≡ release kind.Send 1 ∷ release kind.Receive 1 ∷ []
+pub destroy-send_first : (destroyed brought_sender 1 (names_of ((0x100, rights_to 1 true 1) ∷ [])) 0x100
+    (rights_to 1 true 1)).effects ≡ release kind.Send 1 ∷ release kind.Receive 1 ∷ []
 destroy-send_first = refl
 
 -- its release is answered before the port dies, so the notice goes out
 abbrev pub last_rights : State
-last_rights = in_space_1 [] ((1, record new_port { make_send_count = 1; no_senders_target = Some 2 }) ∷ (2, new_port) ∷ [])
+last_rights =
+    in_space_1 [] ((1, record new_port { make_send_count = 1; no_senders_target = Some 2 }) ∷ (2, new_port) ∷ [])
 
-pub destroy-notice : queue_of (effect last_rights (release kind.Send 1)).0 2 ≡ Some (notice_message (notice.NoSenders 1) ∷ [])
+pub destroy-notice : queue_of (effect last_rights (release kind.Send 1)).0 2
+    ≡ Some (notice_message (notice.NoSenders 1) ∷ [])
 unfolding effect placed
 destroy-notice = simp rows
 
@@ -272,7 +311,8 @@ destroy-notice = simp rows
 abbrev pub unused : State
 unused = in_space_1 ((0x100, rights_to 1 true 0) ∷ (0x101, SendOnce 1 None) ∷ []) ((1, new_port) ∷ [])
 
-pub once-destroyed : (destroyed unused 1 (names_of ((0x100, rights_to 1 true 0) ∷ (0x101, SendOnce 1 None) ∷ [])) 0x101 (SendOnce 1 None)).effects ≡ release kind.SendOnce 1 ∷ []
+pub once-destroyed : (destroyed unused 1 (names_of ((0x100, rights_to 1 true 0) ∷ (0x101, SendOnce 1 None) ∷ [])) 0x101
+    (SendOnce 1 None)).effects ≡ release kind.SendOnce 1 ∷ []
 once-destroyed = refl
 
 pub once-notice : queue_of (effect new_one (release kind.SendOnce 1)).0 1 ≡ Some (notice_message notice.SendOnce ∷ [])
@@ -283,7 +323,8 @@ pub once-counted : send_once_count (effect new_one (release kind.SendOnce 1)).0 
 unfolding effect placed
 once-counted = simp rows
 
-pub once-received : received_encoding (notice_message notice.SendOnce) 0x100 0 [] ≡ 0 ∷ 18 ∷ 0 ∷ 0 ∷ 24 ∷ 0 ∷ 0 ∷ 0 ∷ 0 ∷ 0 ∷ 0 ∷ 0 ∷ 0 ∷ 1 ∷ 0 ∷ 0 ∷ 0 ∷ 0 ∷ 0 ∷ 0 ∷ 71 ∷ 0 ∷ 0 ∷ 0 ∷ []
+pub once-received : received_encoding (notice_message notice.SendOnce) 0x100 0 []
+    ≡ 0 ∷ 18 ∷ 0 ∷ 0 ∷ 24 ∷ 0 ∷ 0 ∷ 0 ∷ 0 ∷ 0 ∷ 0 ∷ 0 ∷ 0 ∷ 1 ∷ 0 ∷ 0 ∷ 0 ∷ 0 ∷ 0 ∷ 0 ∷ 71 ∷ 0 ∷ 0 ∷ 0 ∷ []
 once-received = refl
 
 abbrev pub once_waits : State
@@ -294,7 +335,8 @@ unfolding placed
 once-counted_after = simp rows
 
 -- the receive right goes while there is a send-once right: a dead name with one reference, and no notice
-pub once-port_gone : (modified unused 1 (names_of ((0x100, rights_to 1 true 0) ∷ (0x101, SendOnce 1 None) ∷ [])) 0x100 (rights_to 1 true 0) 1 minus_one).effects ≡ release kind.Receive 1 ∷ []
+pub once-port_gone : (modified unused 1 (names_of ((0x100, rights_to 1 true 0) ∷ (0x101, SendOnce 1 None) ∷ [])) 0x100
+    (rights_to 1 true 0) 1 minus_one).effects ≡ release kind.Receive 1 ∷ []
 once-port_gone = refl
 
 unused_1-died : (effect unused (release kind.Receive 1)).0 ≡ after_death unused 1

@@ -32,7 +32,8 @@ new_session = record { space = 1; seen = 0; acknowledged = 0; tickets = []; plac
 
 -- The first session allocates, asks for the type of the other's name, and gets the reply.
 abbrev pub first_operations : List Operation
-first_operations = called allocation (reply.Allocate 0x100) ∷ called (call.Type 0x101) (reply.Type 0x20000) ∷ redeemed 2 ∷ []
+first_operations =
+    called allocation (reply.Allocate 0x100) ∷ called (call.Type 0x101) (reply.Type 0x20000) ∷ redeemed 2 ∷ []
 
 abbrev pub first_session : Session
 first_session = record { space = 1; seen = 2; acknowledged = 2; tickets = 1 ∷ 2 ∷ []; places = 0 ∷ [] }
@@ -60,11 +61,32 @@ first-legal = record {
   new = new-session;
   after = (
     record { space = 1; seen = 1; acknowledged = 0; tickets = 1 ∷ []; places = 0 ∷ [] },
-    record { leads = inl (record { recorded = refl; place = 0; unseen = omega arith; there = refl; seen = omega arith; after = refl }); more = omega arith; within = omega arith },
+    record {
+      leads = inl (record {
+        recorded = refl;
+        place = 0;
+        unseen = omega arith;
+        there = refl;
+        seen = omega arith;
+        after = refl;
+      });
+      more = omega arith;
+      within = omega arith;
+    },
     (
       record { space = 1; seen = 2; acknowledged = 0; tickets = 1 ∷ 2 ∷ []; places = 0 ∷ [] },
       record {
-        leads = inr (record { unrecorded = refl; beginning = 2; unseen = omega arith; state = two_allocated; run = two_records-run; answered = type-answer; seen = omega arith; after = refl });
+        leads =
+            inr (record {
+              unrecorded = refl;
+              beginning = 2;
+              unseen = omega arith;
+              state = two_allocated;
+              run = two_records-run;
+              answered = type-answer;
+              seen = omega arith;
+              after = refl;
+            });
         more = omega arith;
         within = omega arith;
       },
@@ -79,7 +101,18 @@ other-legal = record {
   new = new-session;
   after = (
     other_session,
-    record { leads = inl (record { recorded = refl; place = 1; unseen = omega arith; there = refl; seen = omega arith; after = refl }); more = omega arith; within = omega arith },
+    record {
+      leads = inl (record {
+        recorded = refl;
+        place = 1;
+        unseen = omega arith;
+        there = refl;
+        seen = omega arith;
+        after = refl;
+      });
+      more = omega arith;
+      within = omega arith;
+    },
     refl,
   );
 }
@@ -96,7 +129,8 @@ apart-two (suc i) zero d below end = absurd (omega (arith, below))
 apart-two (suc i) (suc j) d below end = absurd (omega (arith, below, end))
 
 pub both-legal : IsLegalHistory opening_state two_records both
-both-legal = record { end = two_allocated; run = two_records-run; legal = (first-legal, (other-legal, tt)); apart = apart-two }
+both-legal =
+    record { end = two_allocated; run = two_records-run; legal = (first-legal, (other-legal, tt)); apart = apart-two }
 
 pub both-all : AreAll two_records (first_session ∷ other_session ∷ [])
 both-all = refl
@@ -112,47 +146,59 @@ pub same_place-no_meeting : (one other : Session) → Meet first_session sees_on
 same_place-no_meeting one other meet = meet.apart 0 1 0 (omega arith) (omega arith) refl
 
 -- a task that attaches itself is in that space from then on, if the call is done
-pub attach-moves : (space_after 1 (call.Attach 2) (reply.Done 0) ≡ 2) × (space_after 1 (call.Attach 2) (reply.Refused 0 InvalidTask) ≡ 1)
+pub attach-moves : (space_after 1 (call.Attach 2) (reply.Done 0) ≡ 2)
+    × (space_after 1 (call.Attach 2) (reply.Refused 0 InvalidTask) ≡ 1)
 attach-moves = (refl, refl)
 
 -- Histories that aren't legal.
 
 -- two sessions at one place
-pub one_place-twice : (operations others : List Operation) → IsLegalHistory opening_state two_records ((operations, first_session) ∷ (others, first_session) ∷ []) → ⊥
+pub one_place-twice : (operations others : List Operation)
+    → IsLegalHistory opening_state two_records ((operations, first_session) ∷ (others, first_session) ∷ []) → ⊥
 one_place-twice operations others legal = legal.apart 0 1 0 (omega arith) (omega arith) refl
 
 -- a place before what was seen: before its call, the session was given another's reply that saw the record
-pub place-before : (session : Session) → Legal opening_state (allocated_name 0x100 ∷ []) (redeemed_for_another 1 ∷ called allocation (reply.Allocate 0x100) ∷ []) session → ⊥
+pub place-before : (session : Session)
+    → Legal opening_state (allocated_name 0x100 ∷ [])
+    (redeemed_for_another 1 ∷ called allocation (reply.Allocate 0x100) ∷ []) session → ⊥
 place-before session legal = elim legal.after.2.1.leads as (λ _. ⊥) [
   | inl at ↦ absurd (omega (arith, legal.after.1.leads.0, at.unseen, at.seen, legal.after.2.1.within))
   | inr is ↦ absurd (cc is.unrecorded)
 ]
 
 -- a call whose record stands nowhere
-pub place-nowhere : (session : Session) → Legal opening_state [] (called allocation (reply.Allocate 0x100) ∷ []) session → ⊥
+pub place-nowhere : (session : Session) → Legal opening_state [] (called allocation (reply.Allocate 0x100) ∷ []) session
+    → ⊥
 place-nowhere session legal = elim legal.after.1.leads as (λ _. ⊥) [
   | inl at ↦ absurd (omega (arith, at.seen, legal.after.1.within))
   | inr is ↦ absurd (cc is.unrecorded)
 ]
 
 -- a reply that no state gives
-pub no_answer : (session : Session) → Legal opening_state [] (called (call.Type 0x200) (reply.Type 0x20000) ∷ []) session → ⊥
+pub no_answer : (session : Session)
+    → Legal opening_state [] (called (call.Type 0x200) (reply.Type 0x20000) ∷ []) session → ⊥
 no_answer session legal = elim legal.after.1.leads as (λ _. ⊥) [
   | inl at ↦ absurd (cc at.recorded)
   | inr is ↦
       let none : is.beginning ≡ 0 = omega (arith, is.seen, legal.after.1.within) in
-      let at_start : Run opening_state (take 0 []) is.state = subst (λ (n : ℕ). Run opening_state (take n []) is.state) none is.run in
-      let in_space : Answer is.state 1 (call.Type 0x200) (reply.Type 0x20000) = subst (λ (n : ℕ). Answer is.state n (call.Type 0x200) (reply.Type 0x20000)) legal.new.space is.answered in
-      let answered : Step opening_state 1 (call.Type 0x200) (reply.Type 0x20000) is.state = subst (λ (s : State). Step s 1 (call.Type 0x200) (reply.Type 0x20000) is.state) at_start in_space in
+      let at_start : Run opening_state (take 0 []) is.state =
+      subst (λ (n : ℕ). Run opening_state (take n []) is.state) none is.run in
+      let in_space : Answer is.state 1 (call.Type 0x200) (reply.Type 0x20000) =
+      subst (λ (n : ℕ). Answer is.state n (call.Type 0x200) (reply.Type 0x20000)) legal.new.space is.answered in
+      let answered : Step opening_state 1 (call.Type 0x200) (reply.Type 0x20000) is.state =
+      subst (λ (s : State). Step s 1 (call.Type 0x200) (reply.Type 0x20000) is.state) at_start in_space in
       absurd (cc (unknown-refused (reply.Type 0x20000) is.state answered))
 ]
 
 -- an answer from an older prefix: the session allocated the name itself, and gets the reply that there is none
-known-acts : (answer : Reply) (acted : State) (effects : List Effect) → ActsFrom one_allocated 1 (finmap.get one_allocated.spaces 1) (call.Type 0x100) answer acted effects → answer ≡ reply.Type 0x20000
+known-acts : (answer : Reply) (acted : State) (effects : List Effect)
+    → ActsFrom one_allocated 1 (finmap.get one_allocated.spaces 1) (call.Type 0x100) answer acted effects
+    → answer ≡ reply.Type 0x20000
 unfolding Done tests_of
 known-acts answer acted effects = simp rows (λ (acts : _). acts.0)
 
-known-type : (answer : Reply) (new : State) → Step one_allocated 1 (call.Type 0x100) answer new → answer ≡ reply.Type 0x20000
+known-type : (answer : Reply) (new : State) → Step one_allocated 1 (call.Type 0x100) answer new
+    → answer ≡ reply.Type 0x20000
 unfolding Step
 known-type answer new step = known-acts answer step.0 step.1 step.2
 
@@ -160,7 +206,10 @@ pub was-unknown : Answer opening_state 1 (call.Type 0x100) (reply.Refused 2 Inva
 unfolding Step Done tests_of
 was-unknown = (opening_state, [], simp rows (refl, refl, refl), settled)
 
-pub older_answer : (session : Session) → Legal opening_state (allocated_name 0x100 ∷ []) (called allocation (reply.Allocate 0x100) ∷ called (call.Type 0x100) (reply.Refused 2 InvalidName) ∷ []) session → ⊥
+pub older_answer : (session : Session)
+    → Legal opening_state (allocated_name 0x100 ∷ [])
+    (called allocation (reply.Allocate 0x100) ∷ called (call.Type 0x100) (reply.Refused 2 InvalidName) ∷ []) session
+    → ⊥
 older_answer session legal = elim legal.after.1.leads as (λ _. ⊥) [
   | inr is ↦ absurd (cc is.unrecorded)
   | inl at ↦
@@ -168,23 +217,42 @@ older_answer session legal = elim legal.after.1.leads as (λ _. ⊥) [
         | inl other ↦ absurd (cc other.recorded)
         | inr is ↦
             let all : is.beginning ≡ 1 = omega (arith, at.seen, is.unseen, is.seen, legal.after.2.1.within) in
-            let whole : Run opening_state (allocated_name 0x100 ∷ []) is.state = subst (λ (n : ℕ). Run opening_state (take n (allocated_name 0x100 ∷ [])) is.state) all is.run in
-            let one : is.state ≡ one_allocated = one_run opening_state (allocated_name 0x100 ∷ []) is.state one_allocated (omega arith, tt) opening_is_lawful.0 opening_is_lawful.1 whole (one_allocated, allocate-step, refl) in
+            let whole : Run opening_state (allocated_name 0x100 ∷ []) is.state =
+            subst (λ (n : ℕ). Run opening_state (take n (allocated_name 0x100 ∷ [])) is.state) all is.run in
+            let one : is.state ≡ one_allocated =
+            one_run opening_state (allocated_name 0x100 ∷ []) is.state one_allocated
+            (omega arith, tt) opening_is_lawful.0 opening_is_lawful.1 whole
+            (one_allocated, allocate-step, refl) in
             let space : legal.after.0.space ≡ 1 = ap (λ (s : Session). s.space) at.after ∙ legal.new.space in
-            let in_space : Answer is.state 1 (call.Type 0x100) (reply.Refused 2 InvalidName) = subst (λ (n : ℕ). Answer is.state n (call.Type 0x100) (reply.Refused 2 InvalidName)) space is.answered in
-            absurd (cc (known-type (reply.Refused 2 InvalidName) is.state (subst (λ (s : State). Step s 1 (call.Type 0x100) (reply.Refused 2 InvalidName) is.state) one in_space)))
+            let in_space : Answer is.state 1 (call.Type 0x100) (reply.Refused 2 InvalidName) =
+            subst (λ (n : ℕ). Answer is.state n (call.Type 0x100) (reply.Refused 2 InvalidName)) space is.answered
+            in
+            absurd (cc (known-type (reply.Refused 2 InvalidName) is.state
+            (subst (λ (s : State). Step s 1 (call.Type 0x100) (reply.Refused 2 InvalidName) is.state) one
+            in_space)))
       ]
 ]
 
 -- it would be legal without the record that the session has seen
-pub older-was_legal : Legal opening_state [] (called (call.Type 0x100) (reply.Refused 2 InvalidName) ∷ []) (record new_session { tickets = 0 ∷ [] })
+pub older-was_legal : Legal opening_state [] (called (call.Type 0x100) (reply.Refused 2 InvalidName) ∷ [])
+    (record new_session { tickets = 0 ∷ [] })
 older-was_legal = record {
   start = new_session;
   new = record { space = refl; within = omega arith; acknowledged = refl; tickets = refl; places = refl };
   after = (
     record new_session { tickets = 0 ∷ [] },
     record {
-      leads = inr (record { unrecorded = refl; beginning = 0; unseen = omega arith; state = opening_state; run = refl; answered = was-unknown; seen = omega arith; after = refl });
+      leads =
+          inr (record {
+            unrecorded = refl;
+            beginning = 0;
+            unseen = omega arith;
+            state = opening_state;
+            run = refl;
+            answered = was-unknown;
+            seen = omega arith;
+            after = refl;
+          });
       more = omega arith;
       within = omega arith;
     },
@@ -197,8 +265,10 @@ pub acknowledged-too_much : (session : Session) → Legal opening_state [] (rede
 acknowledged-too_much session legal = absurd (omega (arith, legal.after.1.leads.0, legal.after.1.within))
 
 -- a ticket that no call of the session was given
-pub redeemed-ungiven : (session : Session) → Legal opening_state (allocated_name 0x100 ∷ []) (redeemed 1 ∷ []) session → ⊥
-redeemed-ungiven session legal = absurd (cc (sym (ap (λ (tickets : List ℕ). list_any (eqb 1) tickets) legal.new.tickets) ∙ legal.after.1.leads.0))
+pub redeemed-ungiven : (session : Session) → Legal opening_state (allocated_name 0x100 ∷ []) (redeemed 1 ∷ []) session
+    → ⊥
+redeemed-ungiven session legal =
+    absurd (cc (sym (ap (λ (tickets : List ℕ). list_any (eqb 1) tickets) legal.new.tickets) ∙ legal.after.1.leads.0))
 
 -- a ticket that saw this many records is the session's own if one of its calls was given such a ticket, and else
 -- another's
@@ -206,13 +276,18 @@ pub redeemed-own : (redemption first_session 2 ≡ redeemed 2) × (redemption fi
 redeemed-own = (refl, refl)
 
 -- an invented record: the records aren't a run
-unallocated-acts : (acted : State) (effects : List Effect) → ActsFrom opening_state 1 (finmap.get opening_state.spaces 1) (call.Deallocate 0x100) (reply.Done 7) acted effects → reply.Done 7 ≡ reply.Refused 7 InvalidName
+unallocated-acts : (acted : State) (effects : List Effect)
+    → ActsFrom opening_state 1 (finmap.get opening_state.spaces 1) (call.Deallocate 0x100) (reply.Done 7) acted effects
+    → reply.Done 7 ≡ reply.Refused 7 InvalidName
 unfolding Done tests_of
 unallocated-acts acted effects = simp rows (λ (acts : _). acts.0)
 
-unallocated-step : (new : State) → Step opening_state 1 (call.Deallocate 0x100) (reply.Done 7) new → reply.Done 7 ≡ reply.Refused 7 InvalidName
+unallocated-step : (new : State) → Step opening_state 1 (call.Deallocate 0x100) (reply.Done 7) new
+    → reply.Done 7 ≡ reply.Refused 7 InvalidName
 unfolding Step
 unallocated-step new step = unallocated-acts step.0 step.1 step.2
 
-pub invented_record : (sessions : Sessions) → IsLegalHistory opening_state (record { space = 1; call = call.Deallocate 0x100; reply = reply.Done 7 } ∷ []) sessions → ⊥
+pub invented_record : (sessions : Sessions)
+    → IsLegalHistory opening_state
+    (record { space = 1; call = call.Deallocate 0x100; reply = reply.Done 7 } ∷ []) sessions → ⊥
 invented_record sessions legal = absurd (cc (unallocated-step legal.run.0 legal.run.1))

@@ -72,7 +72,8 @@ pub allocate_name-free : refusal [] [] (call.AllocateName 1 0x200) ≡ None
 unfolding tests_of
 allocate_name-free = simp rows
 
-pub allocate_name-twice : refusal ((0x200, rights_to 1 true 0) ∷ []) its_port (call.AllocateName 1 0x200) ≡ Some NameExists
+pub allocate_name-twice : refusal ((0x200, rights_to 1 true 0) ∷ []) its_port (call.AllocateName 1 0x200)
+    ≡ Some NameExists
 unfolding tests_of
 allocate_name-twice = simp rows
 
@@ -86,7 +87,9 @@ unfolding tests_of
 rename-passes = simp rows
 
 abbrev pub renamed_state : State
-renamed_state = renamed (in_space_1 ((0x200, rights_to 1 true 0) ∷ []) its_port) 1 (names_of ((0x200, rights_to 1 true 0) ∷ [])) 0x200 0x300 (rights_to 1 true 0)
+renamed_state =
+    renamed (in_space_1 ((0x200, rights_to 1 true 0) ∷ []) its_port) 1
+    (names_of ((0x200, rights_to 1 true 0) ∷ [])) 0x200 0x300 (rights_to 1 true 0)
 
 pub rename-old : entry_at renamed_state 1 0x200 ≡ None
 rename-old = simp rows
@@ -100,7 +103,8 @@ unfolding tests_of copy_in
 insert-passes = simp rows
 
 pub insert-made : copy_in (in_space_1 a_port its_port) 1 0x100 MakeSend
-    ≡ Some (taken_keeping (with_port (in_space_1 a_port its_port) 1 (λ port. record port { make_send_count = 1 })) (live kind.Send 1))
+    ≡ Some (taken_keeping (with_port (in_space_1 a_port its_port) 1 (λ port. record port { make_send_count = 1 }))
+    (live kind.Send 1))
 unfolding copy_in
 insert-made = simp rows
 
@@ -108,7 +112,8 @@ pub insert-named : finmap.get (names_after (names_of a_port) kind.Send (Live 1) 
 insert-named = simp rows
 
 -- the same port can't stand under a second name by a send right
-pub insert-elsewhere : refusal ((0x300, rights_to 1 true 3) ∷ []) its_port (call.InsertRight 0x301 0x300 20) ≡ Some RightExists
+pub insert-elsewhere : refusal ((0x300, rights_to 1 true 3) ∷ []) its_port (call.InsertRight 0x301 0x300 20)
+    ≡ Some RightExists
 unfolding tests_of copy_in
 insert-elsewhere = simp rows
 
@@ -120,12 +125,15 @@ references-two_more = simp rows
 pub references-three : references_of 0 (rights_to 1 true 3) ≡ 3
 references-three = refl
 
-pub references-four_less : refusal ((0x300, rights_to 1 true 3) ∷ []) its_port (call.ModRefs 0x300 0 (2 ^ 32 - 4)) ≡ Some InvalidValue
+pub references-four_less : refusal ((0x300, rights_to 1 true 3) ∷ []) its_port (call.ModRefs 0x300 0 (2 ^ 32 - 4))
+    ≡ Some InvalidValue
 unfolding tests_of
 references-four_less = simp rows
 
 abbrev pub two_more : Action
-two_more = modified (in_space_1 ((0x300, rights_to 1 true 1) ∷ []) its_port) 1 (names_of ((0x300, rights_to 1 true 1) ∷ [])) 0x300 (rights_to 1 true 1) 0 2
+two_more =
+    modified (in_space_1 ((0x300, rights_to 1 true 1) ∷ []) its_port) 1
+    (names_of ((0x300, rights_to 1 true 1) ∷ [])) 0x300 (rights_to 1 true 1) 0 2
 
 pub references-changed : entry_at two_more.state 1 0x300 ≡ Some (rights_to 1 true 3)
 references-changed = simp rows
@@ -135,18 +143,23 @@ pub extract-passes : refusal ((0x300, rights_to 1 true 3) ∷ []) its_port (call
 unfolding tests_of copy_in
 extract-passes = simp rows
 
-pub extract-copied : copy_in (in_space_1 ((0x300, rights_to 1 true 3) ∷ []) its_port) 1 0x300 CopySend ≡ Some (taken_keeping (in_space_1 ((0x300, rights_to 1 true 3) ∷ []) its_port) (live kind.Send 1))
+pub extract-copied : copy_in (in_space_1 ((0x300, rights_to 1 true 3) ∷ []) its_port) 1 0x300 CopySend
+    ≡ Some (taken_keeping (in_space_1 ((0x300, rights_to 1 true 3) ∷ []) its_port) (live kind.Send 1))
 unfolding copy_in
 extract-copied = simp rows
 
-pub extract-named : finmap.get (names_after (names_of ((0x300, rights_to 1 true 3) ∷ [])) kind.Send (Live 1) 0x300) 0x300 ≡ Some (rights_to 1 true 4)
+pub extract-named : finmap.get
+    (names_after (names_of ((0x300, rights_to 1 true 3) ∷ [])) kind.Send (Live 1) 0x300) 0x300
+    ≡ Some (rights_to 1 true 4)
 extract-named = simp rows
 
 -- a send-once right gets a name of its own, and its port a send-once right
-pub extract-once : finmap.get (names_after (names_of a_port) kind.SendOnce (Live 1) 0x101) 0x101 ≡ Some (SendOnce 1 None)
+pub extract-once : finmap.get (names_after (names_of a_port) kind.SendOnce (Live 1) 0x101) 0x101
+    ≡ Some (SendOnce 1 None)
 extract-once = simp rows
 
-pub extract-once_counted : send_once_count (in_space_1 ((0x100, rights_to 1 true 0) ∷ (0x101, SendOnce 1 None) ∷ []) its_port) 1 ≡ 1
+pub extract-once_counted : send_once_count
+    (in_space_1 ((0x100, rights_to 1 true 0) ∷ (0x101, SendOnce 1 None) ∷ []) its_port) 1 ≡ 1
 unfolding placed
 extract-once_counted = simp rows
 
@@ -166,12 +179,15 @@ pub references-most : refusal ((0x100, rights_to 1 true 1) ∷ []) its_port (cal
 unfolding tests_of
 references-most = simp rows
 
-pub references-past : refusal ((0x100, rights_to 1 true 65534) ∷ []) its_port (call.ModRefs 0x100 0 1) ≡ Some UrefsOverflow
+pub references-past : refusal ((0x100, rights_to 1 true 65534) ∷ []) its_port (call.ModRefs 0x100 0 1)
+    ≡ Some UrefsOverflow
 unfolding tests_of
 references-past = simp rows
 
 -- a send right that is received then leaves them as they are
-pub references-stay : finmap.get (names_after (names_of ((0x100, rights_to 1 true 65534) ∷ [])) kind.Send (Live 1) 0x100) 0x100 ≡ Some (rights_to 1 true 65534)
+pub references-stay : finmap.get
+    (names_after (names_of ((0x100, rights_to 1 true 65534) ∷ [])) kind.Send (Live 1) 0x100) 0x100
+    ≡ Some (rights_to 1 true 65534)
 references-stay = simp rows
 
 -- A port m and a set s: the port becomes the set's member.
@@ -253,11 +269,13 @@ unfolding tests_of copy_in
 request-sync = simp rows
 
 -- of a dead name a notice is sent at once, which sync 0 refuses
-pub request-dead_name : refusal ((0x100, rights_to 1 true 0) ∷ (0x101, Dead 1) ∷ []) its_port (call.RequestNotification 0x101 72 0 0x100 21) ≡ Some InvalidArgument
+pub request-dead_name : refusal ((0x100, rights_to 1 true 0) ∷ (0x101, Dead 1) ∷ []) its_port
+    (call.RequestNotification 0x101 72 0 0x100 21) ≡ Some InvalidArgument
 unfolding tests_of copy_in
 request-dead_name = simp rows
 
-pub request-dead_name_at_bound : refusal ((0x100, rights_to 1 true 0) ∷ (0x101, Dead 65535) ∷ []) its_port (call.RequestNotification 0x101 72 1 0x100 21) ≡ Some UrefsOverflow
+pub request-dead_name_at_bound : refusal ((0x100, rights_to 1 true 0) ∷ (0x101, Dead 65535) ∷ []) its_port
+    (call.RequestNotification 0x101 72 1 0x100 21) ≡ Some UrefsOverflow
 unfolding tests_of copy_in
 request-dead_name_at_bound = simp rows
 
@@ -265,10 +283,12 @@ request-dead_name_at_bound = simp rows
 abbrev pub requested : Entry
 requested = Port (record { port = 1; receive = true; send = 0; dead_name_target = Some 1 })
 
-pub request-kept : entry_at (request_set_under (in_space_1 a_port its_port) 1 0x100 72 0 (Some 1)).0 1 0x100 ≡ Some requested
+pub request-kept : entry_at (request_set_under (in_space_1 a_port its_port) 1 0x100 72 0 (Some 1)).0 1 0x100
+    ≡ Some requested
 request-kept = simp rows
 
-pub request-target : copy_in (in_space_1 a_port its_port) 1 0x100 MakeSendOnce ≡ Some (taken_keeping (in_space_1 a_port its_port) (live kind.SendOnce 1))
+pub request-target : copy_in (in_space_1 a_port its_port) 1 0x100 MakeSendOnce
+    ≡ Some (taken_keeping (in_space_1 a_port its_port) (live kind.SendOnce 1))
 unfolding copy_in
 request-target = simp rows
 
@@ -276,7 +296,8 @@ pub request-type : type_of requested ≡ 0x80020000
 request-type = refl
 
 -- a second request finds the first one's target, which comes back under a new name
-pub request-former : target_under (in_space_1 ((0x100, requested) ∷ []) its_port) (names_of ((0x100, requested) ∷ [])) 72 0x100 ≡ Some 1
+pub request-former : target_under (in_space_1 ((0x100, requested) ∷ []) its_port)
+    (names_of ((0x100, requested) ∷ [])) 72 0x100 ≡ Some 1
 request-former = simp rows
 
 pub request-counted : send_once_count (in_space_1 ((0x100, requested) ∷ (0x101, SendOnce 1 None) ∷ []) its_port) 1 ≡ 2
@@ -284,5 +305,7 @@ unfolding placed
 request-counted = simp rows
 
 -- no request is kept where the target is none
-pub request-cancelled : entry_at (request_set_under (in_space_1 ((0x100, requested) ∷ []) its_port) 1 0x100 72 0 None).0 1 0x100 ≡ Some (rights_to 1 true 0)
+pub request-cancelled : entry_at
+    (request_set_under (in_space_1 ((0x100, requested) ∷ []) its_port) 1 0x100 72 0 None).0 1 0x100
+    ≡ Some (rights_to 1 true 0)
 request-cancelled = simp rows

@@ -22,7 +22,8 @@ in_set = (0x100, rights_to 1 true 0) ∷ (0x101, rights_to 2 true 0) ∷ (0x102,
 
 abbrev pub two_members : State
 two_members = in_space_1 in_set
-    ((1, record (with_queue (plain kind.SendOnce 7 [] ∷ [])) { set = Some 0x102 }) ∷ (2, record (with_queue (plain kind.SendOnce 8 [] ∷ [])) { set = Some 0x102 }) ∷ [])
+    ((1, record (with_queue (plain kind.SendOnce 7 [] ∷ [])) { set = Some 0x102 }) ∷
+    (2, record (with_queue (plain kind.SendOnce 8 [] ∷ [])) { set = Some 0x102 }) ∷ [])
 
 abbrev pub attempt : ℕ → Bool → Receipt
 attempt name waited = record { limit = 100; large = false; name = name; waited = waited }
@@ -38,13 +39,15 @@ set-passes = simp rows
 pub set-taken : queue_of (without_oldest two_members 1) 1 ≡ Some []
 set-taken = simp rows
 
-pub set-taken_numbered : option_map (λ (port : PortState). port.sequence_number) (finmap.get (without_oldest two_members 1).ports 1) ≡ Some 1
+pub set-taken_numbered : option_map
+    (λ (port : PortState). port.sequence_number) (finmap.get (without_oldest two_members 1).ports 1) ≡ Some 1
 set-taken_numbered = simp rows
 
 pub set-other : queue_of (without_oldest two_members 1) 2 ≡ Some (plain kind.SendOnce 8 [] ∷ [])
 set-other = simp rows
 
-pub set-other_numbered : option_map (λ (port : PortState). port.sequence_number) (finmap.get (without_oldest two_members 1).ports 2) ≡ Some 0
+pub set-other_numbered : option_map
+    (λ (port : PortState). port.sequence_number) (finmap.get (without_oldest two_members 1).ports 2) ≡ Some 0
 set-other_numbered = simp rows
 
 -- a member gives its messages only through the set; after a wait the code says that this has changed
@@ -55,17 +58,20 @@ pub member-refused_after_wait : receive_refusal two_members (names_of in_set) (a
 member-refused_after_wait = simp rows
 
 -- a name with neither a receive right nor a set
-pub no_source : receive_refusal (in_space_1 ((0x100, rights_to 1 false 1) ∷ []) []) (names_of ((0x100, rights_to 1 false 1) ∷ [])) (attempt 0x100 false) ≡ Some RcvInvalidName
+pub no_source : receive_refusal (in_space_1 ((0x100, rights_to 1 false 1) ∷ []) [])
+    (names_of ((0x100, rights_to 1 false 1) ∷ [])) (attempt 0x100 false) ≡ Some RcvInvalidName
 no_source = simp rows
 
-pub no_source-after_wait : receive_refusal (in_space_1 ((0x100, Dead 1) ∷ []) []) (names_of ((0x100, Dead 1) ∷ [])) (attempt 0x100 true) ≡ Some RcvPortDied
+pub no_source-after_wait : receive_refusal (in_space_1 ((0x100, Dead 1) ∷ []) []) (names_of ((0x100, Dead 1) ∷ []))
+    (attempt 0x100 true) ≡ Some RcvPortDied
 no_source-after_wait = simp rows
 
 -- an empty queue
 abbrev pub alone : List (ℕ × Entry)
 alone = (0x100, rights_to 1 true 1) ∷ []
 
-pub empty-refused : receive_refusal (in_space_1 alone ((1, new_port) ∷ [])) (names_of alone) (attempt 0x100 false) ≡ Some RcvTimedOut
+pub empty-refused : receive_refusal (in_space_1 alone ((1, new_port) ∷ [])) (names_of alone) (attempt 0x100 false)
+    ≡ Some RcvTimedOut
 empty-refused = simp rows
 
 -- A message of 28 bytes with limit 24 is too large. The receive has no record if the message stays, and has one if it
@@ -82,7 +88,9 @@ large-destroyed = refl
 pub large-taken_out : queue_of (without_oldest (in_space_1 alone ((1, with_queue (hello ∷ [])) ∷ [])) 1) 1 ≡ Some []
 large-taken_out = simp rows
 
-pub large-numbered : option_map (λ (port : PortState). port.sequence_number) (finmap.get (without_oldest (in_space_1 alone ((1, with_queue (hello ∷ [])) ∷ [])) 1).ports 1) ≡ Some 1
+pub large-numbered : option_map
+    (λ (port : PortState). port.sequence_number)
+    (finmap.get (without_oldest (in_space_1 alone ((1, with_queue (hello ∷ [])) ∷ [])) 1).ports 1) ≡ Some 1
 large-numbered = simp rows
 
 -- an attempt that found no message has no record
@@ -103,13 +111,16 @@ of_port = (0x100, rights_to 1 true 0) ∷ []
 pub wanted-known : names_wanted (names_of of_port) [] (live kind.Send 1 ∷ live kind.Send 1 ∷ []) ≡ 0
 wanted-known = simp rows
 
-pub wanted-new_port : names_wanted (names_of of_port) [] (live kind.Send 2 ∷ live kind.Receive 2 ∷ live kind.Send 2 ∷ []) ≡ 1
+pub wanted-new_port : names_wanted (names_of of_port) []
+    (live kind.Send 2 ∷ live kind.Receive 2 ∷ live kind.Send 2 ∷ []) ≡ 1
 wanted-new_port = simp rows
 
 pub wanted-once : names_wanted (names_of of_port) [] (live kind.SendOnce 1 ∷ live kind.SendOnce 1 ∷ []) ≡ 2
 wanted-once = refl
 
-pub wanted-null : names_wanted (names_of of_port) [] ((record { kind = kind.Send; port = in_message.Null }) ∷ (record { kind = kind.SendOnce; port = in_message.Dead }) ∷ []) ≡ 0
+pub wanted-null : names_wanted (names_of of_port) []
+    ((record { kind = kind.Send; port = in_message.Null }) ∷ (record { kind = kind.SendOnce; port = in_message.Dead }) ∷
+    []) ≡ 0
 wanted-null = refl
 
 -- a full space has no room for a send-once right that comes to reply by

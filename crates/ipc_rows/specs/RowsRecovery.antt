@@ -28,7 +28,8 @@ use Rattle.codes.specs.KernReturn.{number_of}
 use Rattle.codes.specs.declared.limits.TheConstants.{MAX_RECORDS}
 
 abbrev pub four : List ℕ → List ℕ → List ℕ → List ℕ → Slots
-four image0 image1 segment0 segment1 = record { image = λ n. if n == 0 then image0 else image1; segment = λ n. if n == 0 then segment0 else segment1 }
+four image0 image1 segment0 segment1 =
+    record { image = λ n. if n == 0 then image0 else image1; segment = λ n. if n == 0 then segment0 else segment1 }
 
 -- (a slot that is empty isn't open)
 empty_closed : (header : ℕ) → 0 < header → IsOpen header [] → ⊥
@@ -58,7 +59,13 @@ opening_slot-holds epoch = record {
 }
 
 image_epoch : (number epoch : ℕ) → epoch < 2 ^ 64 → epoch % 2 ≡ number → IsOfEpoch number epoch (opening_slot epoch)
-image_epoch number epoch fits is = record { rest = long_word (length (image_encoding opening_state)) ++ image_encoding opening_state; encoding = refl; fits = fits; of_number = is }
+image_epoch number epoch fits is =
+    record {
+      rest = long_word (length (image_encoding opening_state)) ++ image_encoding opening_state;
+      encoding = refl;
+      fits = fits;
+      of_number = is;
+    }
 
 -- the record of the first allocation, and the segment that encodes it
 
@@ -96,14 +103,23 @@ segment_of_0 rest = record { rest = rest; encoding = refl; fits = omega arith; o
 
 pub first_store-encodes : Encodes first_store opening_state (first_allocation ∷ [])
 first_store-encodes = record {
-  headers = each_number (λ n. HasHeader image_header n (first_store.image n) × HasHeader segment_header_length n (first_store.segment n))
-      ((λ (_ : _). (0, image_epoch 0 0 (omega arith) refl)), (λ (_ : _). (0, segment_of_0 (drop 16 first_segment)))) (no_header image_header 1 (omega arith), no_header segment_header_length 1 (omega arith));
+  headers =
+      each_number (λ n. HasHeader image_header n (first_store.image n)
+      × HasHeader segment_header_length n (first_store.segment n))
+      ((λ (_ : _). (0, image_epoch 0 0 (omega arith) refl)), (λ (_ : _). (0, segment_of_0 (drop 16 first_segment))))
+      (no_header image_header 1 (omega arith), no_header segment_header_length 1 (omega arith));
   reading = inr (record {
     epoch = 0;
     fits = omega arith;
     image = opening_slot-holds 0;
-    latest = λ (number other : ℕ) (small : _). each_number (λ n. IsOpen image_header (first_store.image n) → IsOfEpoch n other (first_store.image n) → other ≤ 0)
-        (λ (_ : _) (is : _). omega (arith, one_epoch 0 other (long_word (length (image_encoding opening_state)) ++ image_encoding opening_state) is.rest (omega arith) is.fits is.encoding))
+    latest =
+        λ (number other : ℕ) (small : _). each_number
+        (λ n. IsOpen image_header (first_store.image n) → IsOfEpoch n other (first_store.image n) → other ≤ 0)
+        (λ (_ : _) (is : _). omega (
+          arith,
+          one_epoch 0 other (long_word (length (image_encoding opening_state)) ++ image_encoding opening_state)
+              is.rest (omega arith) is.fits is.encoding,
+        ))
         (λ (is_open : _) (_ : _). absurd (empty_closed image_header (omega arith) is_open)) number small;
     first = first_allocation ∷ [];
     next = [];
@@ -121,7 +137,17 @@ pub empty_segment-encodes : (epoch : ℕ) → EncodesSegment epoch (empty_segmen
 empty_segment-encodes epoch = record {
   content = closed_gate ∷ [];
   encoding = refl;
-  encoded = record { batches = []; rest = closed_gate ∷ []; encoding = refl; closed = λ (e : _). absurd (omega (arith, e)); none_empty = tt; flat = refl; canonical = tt; bounded = omega arith };
+  encoded =
+      record {
+        batches = [];
+        rest = closed_gate ∷ [];
+        encoding = refl;
+        closed = λ (e : _). absurd (omega (arith, e));
+        none_empty = tt;
+        flat = refl;
+        canonical = tt;
+        bounded = omega arith;
+      };
 }
 
 abbrev pub two_images : Slots
@@ -132,16 +158,28 @@ segment_of number epoch fits is = record { rest = closed_gate ∷ []; encoding =
 
 pub two_images-spell : Encodes two_images opening_state []
 two_images-spell = record {
-  headers = each_number (λ n. HasHeader image_header n (two_images.image n) × HasHeader segment_header_length n (two_images.segment n))
+  headers =
+      each_number (λ n. HasHeader image_header n (two_images.image n)
+      × HasHeader segment_header_length n (two_images.segment n))
       ((λ (_ : _). (4, image_epoch 0 4 (omega arith) refl)), (λ (_ : _). (4, segment_of 0 4 (omega arith) refl)))
       ((λ (_ : _). (5, image_epoch 1 5 (omega arith) refl)), (λ (_ : _). (5, segment_of 1 5 (omega arith) refl)));
   reading = inr (record {
     epoch = 5;
     fits = omega arith;
     image = opening_slot-holds 5;
-    latest = λ (number other : ℕ) (small : _). each_number (λ n. IsOpen image_header (two_images.image n) → IsOfEpoch n other (two_images.image n) → other ≤ 5)
-        (λ (_ : _) (is : _). omega (arith, one_epoch 4 other (long_word (length (image_encoding opening_state)) ++ image_encoding opening_state) is.rest (omega arith) is.fits is.encoding))
-        (λ (_ : _) (is : _). omega (arith, one_epoch 5 other (long_word (length (image_encoding opening_state)) ++ image_encoding opening_state) is.rest (omega arith) is.fits is.encoding)) number small;
+    latest =
+        λ (number other : ℕ) (small : _). each_number
+        (λ n. IsOpen image_header (two_images.image n) → IsOfEpoch n other (two_images.image n) → other ≤ 5)
+        (λ (_ : _) (is : _). omega (
+          arith,
+          one_epoch 4 other (long_word (length (image_encoding opening_state)) ++ image_encoding opening_state)
+              is.rest (omega arith) is.fits is.encoding,
+        ))
+        (λ (_ : _) (is : _). omega (
+          arith,
+          one_epoch 5 other (long_word (length (image_encoding opening_state)) ++ image_encoding opening_state)
+              is.rest (omega arith) is.fits is.encoding,
+        )) number small;
     first = [];
     next = [];
     segment = empty_segment-encodes 5;
@@ -159,18 +197,29 @@ abbrev pub with_image : List ℕ → Slots
 with_image image = four image [] first_segment []
 
 -- if image 0 is of epoch 0 and the segment encodes records, these are what the store encodes
-encodes_by_segment : (rest : List ℕ) (records : List Record) → EncodesSegment 0 (segment_header open_gate 0 ++ rest) records → Encodes (with_segment (segment_header open_gate 0 ++ rest)) opening_state records
+encodes_by_segment : (rest : List ℕ) (records : List Record)
+    → EncodesSegment 0 (segment_header open_gate 0 ++ rest) records
+    → Encodes (with_segment (segment_header open_gate 0 ++ rest)) opening_state records
 encodes_by_segment rest records encoded =
     let slots : Slots = with_segment (segment_header open_gate 0 ++ rest) in
     record {
-      headers = each_number (λ n. HasHeader image_header n (slots.image n) × HasHeader segment_header_length n (slots.segment n))
-          ((λ (_ : _). (0, image_epoch 0 0 (omega arith) refl)), (λ (_ : _). (0, segment_of_0 rest))) (no_header image_header 1 (omega arith), no_header segment_header_length 1 (omega arith));
+      headers =
+          each_number (λ n. HasHeader image_header n (slots.image n)
+          × HasHeader segment_header_length n (slots.segment n))
+          ((λ (_ : _). (0, image_epoch 0 0 (omega arith) refl)), (λ (_ : _). (0, segment_of_0 rest)))
+          (no_header image_header 1 (omega arith), no_header segment_header_length 1 (omega arith));
       reading = inr (record {
         epoch = 0;
         fits = omega arith;
         image = opening_slot-holds 0;
-        latest = λ (number other : ℕ) (small : _). each_number (λ n. IsOpen image_header (slots.image n) → IsOfEpoch n other (slots.image n) → other ≤ 0)
-            (λ (_ : _) (is : _). omega (arith, one_epoch 0 other (long_word (length (image_encoding opening_state)) ++ image_encoding opening_state) is.rest (omega arith) is.fits is.encoding))
+        latest =
+            λ (number other : ℕ) (small : _). each_number
+            (λ n. IsOpen image_header (slots.image n) → IsOfEpoch n other (slots.image n) → other ≤ 0)
+            (λ (_ : _) (is : _). omega (
+              arith,
+              one_epoch 0 other (long_word (length (image_encoding opening_state)) ++ image_encoding opening_state)
+                  is.rest (omega arith) is.fits is.encoding,
+            ))
             (λ (is_open : _) (_ : _). absurd (empty_closed image_header (omega arith) is_open)) number small;
         first = records;
         next = [];
@@ -181,11 +230,22 @@ encodes_by_segment rest records encoded =
     }
 
 -- the batch's gate closed: no record
-pub closed_batch-encodes : Encodes (with_segment (segment_header open_gate 0 ++ (0 ∷ drop 17 first_segment))) opening_state []
+pub closed_batch-encodes : Encodes
+    (with_segment (segment_header open_gate 0 ++ (0 ∷ drop 17 first_segment))) opening_state []
 closed_batch-encodes = encodes_by_segment (0 ∷ drop 17 first_segment) [] (record {
   content = 0 ∷ drop 17 first_segment;
   encoding = refl;
-  encoded = record { batches = []; rest = 0 ∷ drop 17 first_segment; encoding = refl; closed = λ (e : _). absurd (omega (arith, e)); none_empty = tt; flat = refl; canonical = tt; bounded = omega arith };
+  encoded =
+      record {
+        batches = [];
+        rest = 0 ∷ drop 17 first_segment;
+        encoding = refl;
+        closed = λ (e : _). absurd (omega (arith, e));
+        none_empty = tt;
+        flat = refl;
+        canonical = tt;
+        bounded = omega arith;
+      };
 })
 
 -- truncated after the header: no record
@@ -193,7 +253,17 @@ pub cut_to_16-encodes : Encodes (with_segment (take 16 first_segment)) opening_s
 cut_to_16-encodes = encodes_by_segment [] [] (record {
   content = [];
   encoding = refl;
-  encoded = record { batches = []; rest = []; encoding = refl; closed = tt; none_empty = tt; flat = refl; canonical = tt; bounded = omega arith };
+  encoded =
+      record {
+        batches = [];
+        rest = [];
+        encoding = refl;
+        closed = tt;
+        none_empty = tt;
+        flat = refl;
+        canonical = tt;
+        bounded = omega arith;
+      };
 })
 
 -- truncated after the batch, so that the closed gate is missing: the record all the same
@@ -217,21 +287,27 @@ cut_to_69-encodes = encodes_by_segment (take 53 (drop 16 first_segment)) (first_
 -- Slots that encode nothing.
 
 -- no image is open: then the segment can't have an open batch
-no_image_damaged : (image : List ℕ) → (IsOpen image_header image → ⊥) → (base : State) (records : List Record) → Encodes (with_image image) base records → ⊥
+no_image_damaged : (image : List ℕ) → (IsOpen image_header image → ⊥) → (base : State) (records : List Record)
+    → Encodes (with_image image) base records → ⊥
 no_image_damaged image closed base records encoded = elim encoded.reading as (λ _. ⊥) [
   | inl new ↦ ((new.0.unused 0 0 (omega arith) (omega arith, refl) (segment_of_0 (drop 16 first_segment))).1) refl
-  | inr stored ↦ each_number (λ n. IsOpen image_header ((with_image image).image n) → ⊥) closed (empty_closed image_header (omega arith)) (stored.epoch % 2) (omega arith)
+  | inr stored ↦ each_number (λ n. IsOpen image_header ((with_image image).image n) → ⊥) closed
+      (empty_closed image_header (omega arith)) (stored.epoch % 2) (omega arith)
       (image_is_open stored.epoch ((with_image image).image (stored.epoch % 2)) base stored.image)
 ]
 
-pub gate_of_image-damaged : (base : State) (records : List Record) → Encodes (with_image (0 ∷ drop 1 (opening_slot 0))) base records → ⊥
-gate_of_image-damaged = no_image_damaged (0 ∷ drop 1 (opening_slot 0)) (λ (is_open : _). absurd (omega (arith, ap (λ (l : List ℕ). slice_index l 0) is_open.1)))
+pub gate_of_image-damaged : (base : State) (records : List Record)
+    → Encodes (with_image (0 ∷ drop 1 (opening_slot 0))) base records → ⊥
+gate_of_image-damaged =
+    no_image_damaged (0 ∷ drop 1 (opening_slot 0))
+    (λ (is_open : _). absurd (omega (arith, ap (λ (l : List ℕ). slice_index l 0) is_open.1)))
 
 pub version_of_image-other : IsOtherVersion (with_image (open_gate ∷ 9 ∷ drop 2 (opening_slot 0)))
 version_of_image-other = (0, omega arith, inl ((omega arith, refl), (λ (e : _). absurd (omega (arith, e)))))
 
 -- a byte of the six that are zero
-pub zeros_of_image-damaged : (base : State) (records : List Record) → Encodes (with_image (open_gate ∷ 1 ∷ 1 ∷ drop 3 (opening_slot 0))) base records → ⊥
+pub zeros_of_image-damaged : (base : State) (records : List Record)
+    → Encodes (with_image (open_gate ∷ 1 ∷ 1 ∷ drop 3 (opening_slot 0))) base records → ⊥
 zeros_of_image-damaged base records encoded =
     let header = (encoded.headers 0 (omega arith)).0 (omega arith, refl) in
     absurd (omega (arith, ap (λ (l : List ℕ). slice_index l 2) header.1.encoding))
@@ -240,31 +316,53 @@ zeros_of_image-damaged base records encoded =
 pub odd_epoch-damaged : (base : State) (records : List Record) → Encodes (with_image (opening_slot 1)) base records → ⊥
 odd_epoch-damaged base records encoded =
     let header = (encoded.headers 0 (omega arith)).0 (omega arith, refl) in
-    absurd (omega (arith, one_epoch 1 header.0 (long_word (length (image_encoding opening_state)) ++ image_encoding opening_state) header.1.rest (omega arith) header.1.fits header.1.encoding, header.1.of_number))
+    absurd (omega (
+      arith,
+      one_epoch 1 header.0
+          (long_word (length (image_encoding opening_state)) ++ image_encoding opening_state) header.1.rest
+          (omega arith) header.1.fits header.1.encoding,
+      header.1.of_number,
+    ))
 
 -- image 0 of epoch 2 over segment 0 of epoch 0
-pub later_image-damaged : (base : State) (records : List Record) → Encodes (with_image (opening_slot 2)) base records → ⊥
+pub later_image-damaged : (base : State) (records : List Record) → Encodes (with_image (opening_slot 2)) base records
+    → ⊥
 later_image-damaged base records encoded = elim encoded.reading as (λ _. ⊥) [
   | inl new ↦ new.0.no_image 0 (omega arith) (omega arith, refl)
   | inr stored ↦
-      let later : 2 ≤ stored.epoch = stored.latest 0 2 (omega arith) (omega arith, refl) (image_epoch 0 2 (omega arith) refl) in
-      let at_zero : (n : ℕ) → n < 2 → EncodesSegment stored.epoch ((with_image (opening_slot 2)).segment n) stored.first → ⊥ =
+      let later : 2 ≤ stored.epoch =
+      stored.latest 0 2 (omega arith) (omega arith, refl) (image_epoch 0 2 (omega arith) refl) in
+      let at_zero : (n : ℕ) → n < 2 → EncodesSegment stored.epoch ((with_image (opening_slot 2)).segment n) stored.first
+      → ⊥ =
       each_number (λ n. EncodesSegment stored.epoch ((with_image (opening_slot 2)).segment n) stored.first → ⊥)
-      (λ (s : _). absurd (omega (arith, later, segment_epoch 0 stored.epoch 0 first_segment stored.first s stored.fits (segment_of_0 (drop 16 first_segment)))))
+      (λ (s : _). absurd (omega (
+        arith,
+        later,
+        segment_epoch 0 stored.epoch 0 first_segment stored.first s stored.fits
+            (segment_of_0 (drop 16 first_segment)),
+      )))
       (λ (s : _). empty_closed segment_header_length (omega arith) (segment_is_open stored.epoch [] stored.first s)) in
       at_zero (stored.epoch % 2) (omega arith) stored.segment
 ]
 
 -- a segment that encodes no records leaves nothing, if an image is open
-no_segment_damaged : (segment : List ℕ) → ((epoch : ℕ) (records : List Record) → epoch < 2 ^ 64 → EncodesSegment epoch segment records → ⊥) → (base : State) (records : List Record) → Encodes (with_segment segment) base records → ⊥
+no_segment_damaged : (segment : List ℕ)
+    → ((epoch : ℕ) (records : List Record) → epoch < 2 ^ 64 → EncodesSegment epoch segment records → ⊥)
+    → (base : State) (records : List Record) → Encodes (with_segment segment) base records → ⊥
 no_segment_damaged segment none base records encoded = elim encoded.reading as (λ _. ⊥) [
   | inl new ↦ new.0.no_image 0 (omega arith) (omega arith, refl)
-  | inr stored ↦ each_number (λ n. EncodesSegment stored.epoch ((with_segment segment).segment n) stored.first → ⊥) (none stored.epoch stored.first stored.fits)
-      (λ (s : _). empty_closed segment_header_length (omega arith) (segment_is_open stored.epoch [] stored.first s)) (stored.epoch % 2) (omega arith) stored.segment
+  | inr stored ↦ each_number (λ n. EncodesSegment stored.epoch ((with_segment segment).segment n) stored.first → ⊥)
+      (none stored.epoch stored.first stored.fits)
+      (λ (s : _). empty_closed segment_header_length (omega arith) (segment_is_open stored.epoch [] stored.first s))
+      (stored.epoch % 2) (omega arith) stored.segment
 ]
 
-pub cut_to_15-damaged : (base : State) (records : List Record) → Encodes (with_segment (take 15 first_segment)) base records → ⊥
-cut_to_15-damaged = no_segment_damaged (take 15 first_segment) (λ (epoch : ℕ) (records : List Record) (_ : _) (s : _). absurd (omega (arith, (segment_is_open epoch (take 15 first_segment) records s).0)))
+pub cut_to_15-damaged : (base : State) (records : List Record)
+    → Encodes (with_segment (take 15 first_segment)) base records → ⊥
+cut_to_15-damaged =
+    no_segment_damaged (take 15 first_segment)
+    (λ (epoch : ℕ) (records : List Record) (_ : _) (s : _). absurd
+    (omega (arith, (segment_is_open epoch (take 15 first_segment) records s).0)))
 
 -- A whole batch comes after an open gate.
 
@@ -280,12 +378,16 @@ record Batch (bytes : List ℕ) : Type 0 where
   behind : rest ≡ batches_encoding (0 + length batch) later ++ left
   closed : IsClosed left
 
-of_batches : (bytes : List ℕ) (batches : List (List Record)) (rest : List ℕ) → open_gate ∷ bytes ≡ batches_encoding 0 batches ++ rest → IsClosed rest → AreRecords (all_records batches) → length (all_records batches) ≤ MAX_RECORDS → Batch bytes
+of_batches : (bytes : List ℕ) (batches : List (List Record)) (rest : List ℕ)
+    → open_gate ∷ bytes ≡ batches_encoding 0 batches ++ rest → IsClosed rest → AreRecords (all_records batches)
+    → length (all_records batches) ≤ MAX_RECORDS → Batch bytes
 of_batches bytes [] rest encoding closed canonical few = absurd (subst IsClosed (sym encoding) closed refl)
 of_batches bytes (batch ∷ batches) rest encoding closed canonical few = record {
   batch = batch;
   rest = batches_encoding (0 + length batch) batches ++ rest;
-  encoding = ap (λ (l : List ℕ). drop 1 l) encoding ∙ append_assoc (batch_encoding 0 batch) (batches_encoding (0 + length batch) batches) rest;
+  encoding =
+      ap (λ (l : List ℕ). drop 1 l) encoding
+      ∙ append_assoc (batch_encoding 0 batch) (batches_encoding (0 + length batch) batches) rest;
   canonical = are_records-front batch (all_records batches) canonical;
   few = omega (arith, few, length-append batch (all_records batches));
   later = batches;
@@ -295,48 +397,74 @@ of_batches bytes (batch ∷ batches) rest encoding closed canonical few = record
 }
 
 first_batch : (bytes : List ℕ) (records : List Record) → EncodesBatches (open_gate ∷ bytes) records → Batch bytes
-first_batch bytes records encoded = of_batches bytes encoded.batches encoded.rest encoded.encoding encoded.closed (subst AreRecords encoded.flat encoded.canonical) (omega (arith, encoded.bounded, ap length encoded.flat))
+first_batch bytes records encoded =
+    of_batches bytes encoded.batches encoded.rest encoded.encoding encoded.closed
+    (subst AreRecords encoded.flat encoded.canonical) (omega (arith, encoded.bounded, ap length encoded.flat))
 
 -- as many bytes as the count and the size say
 batch_long : (bytes : List ℕ) (b : Batch bytes) → 12 + length (records_encoding 0 b.batch) ≤ length bytes
 batch_long bytes b = omega (arith, ap length b.encoding, length-batch 0 b.batch b.rest)
 
 -- the count and size at the front of the bytes
-batch_counts : (bytes tail : List ℕ) (b : Batch bytes) (count size : ℕ) → bytes ≡ word count ++ (long_word size ++ tail) → count < 2 ^ 32 → size < 2 ^ 64 → (length b.batch ≡ count) × (length (records_encoding 0 b.batch) ≡ size)
+batch_counts : (bytes tail : List ℕ) (b : Batch bytes) (count size : ℕ) → bytes ≡ word count ++ (long_word size ++ tail)
+    → count < 2 ^ 32 → size < 2 ^ 64 → (length b.batch ≡ count) × (length (records_encoding 0 b.batch) ≡ size)
 batch_counts bytes tail b count size is fits fits_too =
-    let heads = same_heads (length b.batch) count (length (records_encoding 0 b.batch)) size (records_encoding 0 b.batch ++ b.rest) tail (omega (arith, b.few)) fits (records_are_short 0 b.batch b.canonical b.few) fits_too
+    let heads =
+    same_heads (length b.batch) count (length (records_encoding 0 b.batch)) size
+    (records_encoding 0 b.batch ++ b.rest) tail (omega (arith, b.few)) fits
+    (records_are_short 0 b.batch b.canonical b.few) fits_too
     (sym (batch_apart 0 b.batch b.rest) ∙ sym b.encoding ∙ is) in
     (heads.0, heads.1)
 
-header_16 : (epoch : ℕ) (records : List Record) (rest : List ℕ) → epoch < 2 ^ 64 → (s : EncodesSegment epoch (segment_header open_gate 0 ++ rest) records) → s.content ≡ rest
+header_16 : (epoch : ℕ) (records : List Record) (rest : List ℕ) → epoch < 2 ^ 64
+    → (s : EncodesSegment epoch (segment_header open_gate 0 ++ rest) records) → s.content ≡ rest
 header_16 epoch records rest fits s = sym (ap (λ (l : List ℕ). drop 16 l) s.encoding)
 
 -- an open gate with nothing after it doesn't begin batches
-lone_gate : (n : ℕ) (batches : List (List Record)) (rest : List ℕ) → IsClosed rest → open_gate ∷ [] ≡ batches_encoding n batches ++ rest → ⊥
+lone_gate : (n : ℕ) (batches : List (List Record)) (rest : List ℕ) → IsClosed rest
+    → open_gate ∷ [] ≡ batches_encoding n batches ++ rest → ⊥
 lone_gate n [] rest closed is = absurd (subst IsClosed (sym is) closed refl)
 lone_gate n (batch ∷ batches) rest closed is =
-    absurd (omega (arith, ap length is, length-append (batch_encoding n batch) (batches_encoding (n + length batch) batches), length-append (batch_encoding n batch ++ batches_encoding (n + length batch) batches) rest, length-batch n batch [], length-append (batch_encoding n batch) []))
+    absurd (omega (
+      arith,
+      ap length is,
+      length-append (batch_encoding n batch) (batches_encoding (n + length batch) batches),
+      length-append (batch_encoding n batch ++ batches_encoding (n + length batch) batches) rest,
+      length-batch n batch [],
+      length-append (batch_encoding n batch) [],
+    ))
 
 -- a segment without a whole batch after its open gate encodes nothing
-no_batch_damaged : (bytes : List ℕ) → (Batch bytes → ⊥) → (base : State) (records : List Record) → Encodes (with_segment (segment_header open_gate 0 ++ (open_gate ∷ bytes))) base records → ⊥
-no_batch_damaged bytes none = no_segment_damaged (segment_header open_gate 0 ++ (open_gate ∷ bytes)) (λ (epoch : ℕ) (records : List Record) (fits : _) (s : _).
-    none (first_batch bytes records (subst (λ (l : List ℕ). EncodesBatches l records) (header_16 epoch records (open_gate ∷ bytes) fits s) s.encoded)))
+no_batch_damaged : (bytes : List ℕ) → (Batch bytes → ⊥) → (base : State) (records : List Record)
+    → Encodes (with_segment (segment_header open_gate 0 ++ (open_gate ∷ bytes))) base records → ⊥
+no_batch_damaged bytes none =
+    no_segment_damaged (segment_header open_gate 0 ++ (open_gate ∷ bytes))
+    (λ (epoch : ℕ) (records : List Record) (fits : _) (s : _).
+    none (first_batch bytes records
+    (subst (λ (l : List ℕ). EncodesBatches l records)
+    (header_16 epoch records (open_gate ∷ bytes) fits s) s.encoded)))
 
-pub cut_to_17-damaged : (base : State) (records : List Record) → Encodes (with_segment (take 17 first_segment)) base records → ⊥
+pub cut_to_17-damaged : (base : State) (records : List Record)
+    → Encodes (with_segment (take 17 first_segment)) base records → ⊥
 cut_to_17-damaged = no_batch_damaged [] (λ (b : _). absurd (omega (arith, batch_long [] b)))
 
-pub cut_to_68-damaged : (base : State) (records : List Record) → Encodes (with_segment (take 68 first_segment)) base records → ⊥
+pub cut_to_68-damaged : (base : State) (records : List Record)
+    → Encodes (with_segment (take 68 first_segment)) base records → ⊥
 cut_to_68-damaged = no_batch_damaged (take 51 (drop 17 first_segment)) (λ (b : _).
-    let counts = batch_counts (take 51 (drop 17 first_segment)) (take 39 (drop 29 first_segment)) b 1 40 refl (omega arith) (omega arith) in
+    let counts =
+    batch_counts (take 51 (drop 17 first_segment)) (take 39 (drop 29 first_segment)) b 1 40 refl (omega arith)
+    (omega arith) in
     absurd (omega (arith, batch_long (take 51 (drop 17 first_segment)) b, counts.1)))
 
 call_long : (c : Call) → 4 ≤ length (call_encoding c)
 unfolding call_encoding
-call_long c = omega (arith, length-append (word (number_of_call c)) (arguments_encoding c), length-word (number_of_call c))
+call_long c =
+    omega (arith, length-append (word (number_of_call c)) (arguments_encoding c), length-word (number_of_call c))
 
 reply_long : (r : Reply) → 4 ≤ length (reply_encoding r)
 unfolding reply_encoding
-reply_long (reply.Refused number code) = omega (arith, length-append (word number) (word (number_of code)), length-word number)
+reply_long (reply.Refused number code) =
+    omega (arith, length-append (word number) (word (number_of code)), length-word number)
 reply_long (reply.Done number) = omega (arith, length-append (word number) (word 0 ++ []), length-word number)
 reply_long r = omega arith
 
@@ -358,17 +486,25 @@ two_are_longer (a ∷ b ∷ []) is =
     )
 two_are_longer (a ∷ b ∷ c ∷ more) is = absurd (omega (arith, is))
 
-pub count_of_batch-damaged : (base : State) (records : List Record) → Encodes (with_segment (take 17 first_segment ++ (2 ∷ drop 18 first_segment))) base records → ⊥
+pub count_of_batch-damaged : (base : State) (records : List Record)
+    → Encodes (with_segment (take 17 first_segment ++ (2 ∷ drop 18 first_segment))) base records → ⊥
 count_of_batch-damaged = no_batch_damaged (2 ∷ drop 18 first_segment) (λ (b : _).
-    let counts = batch_counts (2 ∷ drop 18 first_segment) (drop 29 first_segment) b 2 40 refl (omega arith) (omega arith) in
+    let counts =
+    batch_counts (2 ∷ drop 18 first_segment) (drop 29 first_segment) b 2 40 refl (omega arith) (omega arith) in
     absurd (omega (arith, two_are_longer b.batch counts.0, counts.1)))
 
 -- an open gate after the batch, and nothing after that
-pub open_end-damaged : (base : State) (records : List Record) → Encodes (with_segment (take 69 first_segment ++ (open_gate ∷ []))) base records → ⊥
+pub open_end-damaged : (base : State) (records : List Record)
+    → Encodes (with_segment (take 69 first_segment ++ (open_gate ∷ []))) base records → ⊥
 open_end-damaged = no_batch_damaged (take 52 (drop 17 first_segment) ++ (open_gate ∷ [])) (λ (b : _).
     let bytes : List ℕ = take 52 (drop 17 first_segment) ++ (open_gate ∷ []) in
-    let counts = batch_counts bytes (take 40 (drop 29 first_segment) ++ (open_gate ∷ [])) b 1 40 refl (omega arith) (omega arith) in
-    let left : b.rest ≡ open_gate ∷ [] = sym (drop_at (batch_encoding 0 b.batch) b.rest 52 (omega (arith, length-batch 0 b.batch [], length-append (batch_encoding 0 b.batch) [], counts.1))) ∙ sym (ap (λ (l : List ℕ). drop 52 l) b.encoding) in
+    let counts =
+    batch_counts bytes (take 40 (drop 29 first_segment) ++ (open_gate ∷ [])) b 1 40 refl (omega arith)
+    (omega arith) in
+    let left : b.rest ≡ open_gate ∷ [] =
+    sym (drop_at (batch_encoding 0 b.batch) b.rest 52
+    (omega (arith, length-batch 0 b.batch [], length-append (batch_encoding 0 b.batch) [], counts.1)))
+    ∙ sym (ap (λ (l : List ℕ). drop 52 l) b.encoding) in
     lone_gate (0 + length b.batch) b.later b.left b.closed (sym left ∙ b.behind))
 
 -- Image 5 is the latest, but segment 1 is of epoch 3.
@@ -376,25 +512,54 @@ abbrev pub old_segment : Slots
 old_segment = four (opening_slot 4) (opening_slot 5) (empty_segment 4) (empty_segment 3)
 
 -- an image of epoch 5 is open, so the store's epoch is 5
-epoch_5 : (slots : Slots) (base : State) (records : List Record) (stored : IsStored slots base records) → slots.image 1 ≡ opening_slot 5 → ((other : ℕ) → other < 2 ^ 64 → IsOfEpoch 0 other (slots.image 0) → other ≤ 4) → stored.epoch ≡ 5
+epoch_5 : (slots : Slots) (base : State) (records : List Record) (stored : IsStored slots base records)
+    → slots.image 1 ≡ opening_slot 5 → ((other : ℕ) → other < 2 ^ 64 → IsOfEpoch 0 other (slots.image 0) → other ≤ 4)
+    → stored.epoch ≡ 5
 epoch_5 slots base records stored is_five no_later =
-    let later : 5 ≤ stored.epoch = stored.latest 1 5 (omega arith) (subst (IsOpen image_header) (sym is_five) (omega arith, refl)) (subst (IsOfEpoch 1 5) (sym is_five) (image_epoch 1 5 (omega arith) refl)) in
-    let bound : (n : ℕ) → n < 2 → stored.epoch % 2 ≡ n → HoldsImage stored.epoch (slots.image n) base → stored.epoch ≤ 5 =
+    let later : 5 ≤ stored.epoch =
+    stored.latest 1 5 (omega arith) (subst (IsOpen image_header) (sym is_five) (omega arith, refl))
+    (subst (IsOfEpoch 1 5) (sym is_five) (image_epoch 1 5 (omega arith) refl)) in
+    let bound : (n : ℕ) → n < 2 → stored.epoch % 2 ≡ n → HoldsImage stored.epoch (slots.image n) base
+    → stored.epoch ≤ 5 =
     each_number (λ n. stored.epoch % 2 ≡ n → HoldsImage stored.epoch (slots.image n) base → stored.epoch ≤ 5)
-    (λ (even : _) (holds : _). omega (arith, no_later stored.epoch stored.fits (subst (λ (k : ℕ). IsOfEpoch k stored.epoch (slots.image 0)) even (image_header_is stored.epoch (slots.image 0) base stored.fits holds))))
-    (λ (odd : _) (holds : _). omega (arith, one_epoch 5 stored.epoch (long_word (length (image_encoding opening_state)) ++ image_encoding opening_state) (image_header_is stored.epoch (slots.image 1) base stored.fits holds).rest (omega arith) stored.fits (sym is_five ∙ (image_header_is stored.epoch (slots.image 1) base stored.fits holds).encoding))) in
+    (λ (even : _) (holds : _). omega (
+      arith,
+      no_later stored.epoch stored.fits
+          (subst (λ (k : ℕ). IsOfEpoch k stored.epoch (slots.image 0)) even
+          (image_header_is stored.epoch (slots.image 0) base stored.fits holds)),
+    ))
+    (λ (odd : _) (holds : _). omega (
+      arith,
+      one_epoch 5 stored.epoch
+          (long_word (length (image_encoding opening_state)) ++ image_encoding opening_state)
+          (image_header_is stored.epoch (slots.image 1) base stored.fits holds).rest (omega arith) stored.fits
+          (sym is_five ∙ (image_header_is stored.epoch (slots.image 1) base stored.fits holds).encoding),
+    )) in
     omega (arith, later, bound (stored.epoch % 2) (omega arith) refl stored.image)
 
 four_at_most : (other : ℕ) → other < 2 ^ 64 → IsOfEpoch 0 other (opening_slot 4) → other ≤ 4
-four_at_most other fits is = omega (arith, one_epoch 4 other (long_word (length (image_encoding opening_state)) ++ image_encoding opening_state) is.rest (omega arith) is.fits is.encoding)
+four_at_most other fits is =
+    omega (
+      arith,
+      one_epoch 4 other
+          (long_word (length (image_encoding opening_state)) ++ image_encoding opening_state) is.rest
+          (omega arith) is.fits is.encoding,
+    )
 
 pub old_segment-damaged : (base : State) (records : List Record) → Encodes old_segment base records → ⊥
 old_segment-damaged base records encoded = elim encoded.reading as (λ _. ⊥) [
   | inl new ↦ new.0.no_image 0 (omega arith) (omega arith, refl)
   | inr stored ↦
       let is_five : stored.epoch ≡ 5 = epoch_5 old_segment base records stored refl four_at_most in
-      let encodes_five : EncodesSegment stored.epoch (empty_segment 3) stored.first = subst (λ (e : ℕ). EncodesSegment stored.epoch (old_segment.segment (e % 2)) stored.first) is_five stored.segment in
-      absurd (omega (arith, is_five, segment_epoch 1 stored.epoch 3 (empty_segment 3) stored.first encodes_five stored.fits (segment_of 1 3 (omega arith) refl)))
+      let encodes_five : EncodesSegment stored.epoch (empty_segment 3) stored.first =
+      subst (λ (e : ℕ). EncodesSegment stored.epoch (old_segment.segment (e % 2)) stored.first) is_five
+      stored.segment in
+      absurd (omega (
+        arith,
+        is_five,
+        segment_epoch 1 stored.epoch 3 (empty_segment 3) stored.first encodes_five stored.fits
+            (segment_of 1 3 (omega arith) refl),
+      ))
 ]
 
 -- Image 5 is the latest, and it is corrupted: it says that it has 20 bytes, which no image has.
@@ -408,16 +573,21 @@ corrupted_image = four (opening_slot 4) corrupted_slot (empty_segment 4) (empty_
 image_long : (state : State) → 24 ≤ length (image_encoding state) ⊎ (finmap.get state.spaces 1 ≡ None)
 unfolding image_encoding
 image_long state =
-    elim (finmap.entries state.spaces) as (λ (es : List (ℕ × Names)). finmap.entries state.spaces ≡ es → (24 ≤ length (image_encoding state)) ⊎ (finmap.get state.spaces 1 ≡ None)) [
+    elim (finmap.entries state.spaces)
+    as (λ (es : List (ℕ × Names)). finmap.entries state.spaces ≡ es → (24 ≤ length (image_encoding state))
+    ⊎ (finmap.get state.spaces 1 ≡ None)) [
       | [] ↦ λ (is : _). inr (get-entries state.spaces 1 ∙ ap (finmap.find nat_cmp 1) is)
       | e ∷ es ↦ λ (is : _).
-          let spaces : List ℕ = flat_map (λ (s : ℕ × Names). word s.0 ++ names_encoding s.1) (finmap.entries state.spaces) in
-          let ports : List ℕ = flat_map (λ (p : ℕ × PortState). long_word p.0 ++ port_encoding p.1) (finmap.entries state.ports) in
+          let spaces : List ℕ =
+          flat_map (λ (s : ℕ × Names). word s.0 ++ names_encoding s.1) (finmap.entries state.spaces) in
+          let ports : List ℕ =
+          flat_map (λ (p : ℕ × PortState). long_word p.0 ++ port_encoding p.1) (finmap.entries state.ports) in
           let names : List ℕ = flat_map (λ (n : ℕ × Entry). word n.0 ++ entry_encoding n.1) (finmap.entries e.1) in
           let others : List ℕ = flat_map (λ (s : ℕ × Names). word s.0 ++ names_encoding s.1) es in
           inl (omega (
             arith,
-            length-append (long_word state.next) (word (finmap.len state.spaces) ++ (spaces ++ (word (finmap.len state.ports) ++ ports))),
+            length-append (long_word state.next)
+                (word (finmap.len state.spaces) ++ (spaces ++ (word (finmap.len state.ports) ++ ports))),
             length-append (word (finmap.len state.spaces)) (spaces ++ (word (finmap.len state.ports) ++ ports)),
             length-append spaces (word (finmap.len state.ports) ++ ports),
             length-append (word (finmap.len state.ports)) ports,
@@ -430,7 +600,10 @@ image_long state =
 
 corrupted_holds_none : (epoch : ℕ) (base : State) → HoldsImage epoch corrupted_slot base → ⊥
 corrupted_holds_none epoch base holds =
-    let says : length (image_encoding base) ≡ 20 = same_long_word (length (image_encoding base)) 20 (image_encoding base ++ holds.rest) (take 20 (image_encoding opening_state)) holds.fits (omega arith) (sym (ap (λ (l : List ℕ). drop 16 l) holds.encoding)) in
+    let says : length (image_encoding base) ≡ 20 =
+    same_long_word (length (image_encoding base)) 20 (image_encoding base ++ holds.rest)
+    (take 20 (image_encoding opening_state)) holds.fits (omega arith)
+    (sym (ap (λ (l : List ℕ). drop 16 l) holds.encoding)) in
     elim (image_long base) as (λ _. ⊥) [
       | inl long ↦ absurd (omega (arith, says, long))
       | inr none ↦ cc (sym none ∙ holds.lawful.first_space.1)
@@ -440,10 +613,25 @@ pub corrupted_image-damaged : (base : State) (records : List Record) → Encodes
 corrupted_image-damaged base records encoded = elim encoded.reading as (λ _. ⊥) [
   | inl new ↦ new.0.no_image 0 (omega arith) (omega arith, refl)
   | inr stored ↦
-      let later : 5 ≤ stored.epoch = stored.latest 1 5 (omega arith) (omega arith, refl) (record { rest = long_word 20 ++ take 20 (image_encoding opening_state); encoding = refl; fits = omega arith; of_number = refl }) in
-      let holds_none : (n : ℕ) → n < 2 → stored.epoch % 2 ≡ n → HoldsImage stored.epoch (corrupted_image.image n) base → ⊥ =
+      let later : 5 ≤ stored.epoch =
+      stored.latest 1 5 (omega arith) (omega arith, refl)
+      (record {
+        rest = long_word 20 ++ take 20 (image_encoding opening_state);
+        encoding = refl;
+        fits = omega arith;
+        of_number = refl;
+      }) in
+      let holds_none : (n : ℕ) → n < 2 → stored.epoch % 2 ≡ n → HoldsImage stored.epoch (corrupted_image.image n) base
+      → ⊥ =
       each_number (λ n. stored.epoch % 2 ≡ n → HoldsImage stored.epoch (corrupted_image.image n) base → ⊥)
-      (λ (even : _) (holds : _). absurd (omega (arith, later, four_at_most stored.epoch stored.fits (subst (λ (k : ℕ). IsOfEpoch k stored.epoch (opening_slot 4)) even (image_header_is stored.epoch (opening_slot 4) base stored.fits holds)))))
+      (λ (even : _) (holds : _). absurd
+      (omega (
+        arith,
+        later,
+        four_at_most stored.epoch stored.fits
+            (subst (λ (k : ℕ). IsOfEpoch k stored.epoch (opening_slot 4)) even
+            (image_header_is stored.epoch (opening_slot 4) base stored.fits holds)),
+      )))
       (λ (odd : _) (holds : _). corrupted_holds_none stored.epoch base holds) in
       holds_none (stored.epoch % 2) (omega arith) refl stored.image
 ]

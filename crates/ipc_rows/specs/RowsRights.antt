@@ -17,7 +17,8 @@ use Rattle.ipc_model.specs.state.State.{State, with_port, next_count}
 
 -- one send right more was made from the receive right of a port
 abbrev pub made_from : ℕ → State → State
-made_from serial state = with_port state serial (λ port. record port { make_send_count = next_count port.make_send_count })
+made_from serial state =
+    with_port state serial (λ port. record port { make_send_count = next_count port.make_send_count })
 
 -- the destination's right, and the three
 abbrev pub start : State
@@ -52,19 +53,31 @@ abbrev pub with_rights : ℕ → State → TakenRights
 with_rights n state = record { rights = replicate n (live kind.Send 1); state = state; notices = [] }
 
 abbrev pub three_items : List Item
-three_items = (record { type_name = 20; bits = 32; number = 3; is_long = true; content = 0 ∷ 1 ∷ 0 ∷ 0 ∷ 0 ∷ 1 ∷ 0 ∷ 0 ∷ 0 ∷ 1 ∷ 0 ∷ 0 ∷ [] }) ∷ []
+three_items =
+    (record {
+      type_name = 20;
+      bits = 32;
+      number = 3;
+      is_long = true;
+      content = 0 ∷ 1 ∷ 0 ∷ 0 ∷ 0 ∷ 1 ∷ 0 ∷ 0 ∷ 0 ∷ 1 ∷ 0 ∷ 0 ∷ [];
+    }) ∷ []
 
 pub items-taken : take_items 1 three_items (with_rights 0 start) ≡ Some (with_rights 3 three_made)
 items-taken =
-    let then_others : Option TakenRights → Option TakenRights = λ o. elim o as (λ _. Option TakenRights) [ None ↦ None | Some next ↦ Some next ] in
+    let then_others : Option TakenRights → Option TakenRights =
+    λ o. elim o as (λ _. Option TakenRights) [ None ↦ None | Some next ↦ Some next ] in
     ap then_others (
-    take_one 1 0x100 MakeSend (0x100 ∷ 0x100 ∷ []) (with_rights 0 start) (taken_keeping one_made (live kind.Send 1)) refl first-taken
-    ∙ take_one 1 0x100 MakeSend (0x100 ∷ []) (with_rights 1 one_made) (taken_keeping two_made (live kind.Send 1)) refl second-taken
-    ∙ take_one 1 0x100 MakeSend [] (with_rights 2 two_made) (taken_keeping three_made (live kind.Send 1)) refl third-taken
+    take_one 1 0x100 MakeSend (0x100 ∷ 0x100 ∷ []) (with_rights 0 start)
+    (taken_keeping one_made (live kind.Send 1)) refl first-taken
+    ∙ take_one 1 0x100 MakeSend (0x100 ∷ []) (with_rights 1 one_made)
+    (taken_keeping two_made (live kind.Send 1)) refl second-taken
+    ∙ take_one 1 0x100 MakeSend [] (with_rights 2 two_made)
+    (taken_keeping three_made (live kind.Send 1)) refl third-taken
     )
 
 -- the message is ready, with the rights in the order of the names
-pub three-ready : ready_to_send two_ports 1 three_as_sent ≡ Ok (record { message = three_rights; port = 2; state = three_made; notices = [] })
+pub three-ready : ready_to_send two_ports 1 three_as_sent
+    ≡ Ok (record { message = three_rights; port = 2; state = three_made; notices = [] })
 unfolding ready_to_send items_of
 three-ready = simp destination-taken (rw items-taken (simp rows))
 
@@ -73,5 +86,6 @@ pub three-held : send_count (queued three_made 2 three_rights) 1 ≡ 3
 unfolding placed
 three-held = simp rows
 
-pub three-make_send_count : option_map (λ (port : PortState). port.make_send_count) (finmap.get three_made.ports 1) ≡ Some 3
+pub three-make_send_count : option_map (λ (port : PortState). port.make_send_count) (finmap.get three_made.ports 1)
+    ≡ Some 3
 three-make_send_count = simp rows

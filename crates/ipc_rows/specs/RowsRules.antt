@@ -30,13 +30,22 @@ pub gone-attach : refused (call.Attach 1) InvalidTask ≡ reply.Refused 0 Invali
 gone-attach = refl
 
 -- MACH_PORT_NULL and MACH_PORT_DEAD count towards the ports of a body
-pub null-counts : ports_in ((record { type_name = 19; bits = 32; number = 2; is_long = false; content = 0 ∷ 0 ∷ 0 ∷ 0 ∷ 255 ∷ 255 ∷ 255 ∷ 255 ∷ [] }) ∷ []) ≡ 2
+pub null-counts : ports_in
+    ((record {
+      type_name = 19;
+      bits = 32;
+      number = 2;
+      is_long = false;
+      content = 0 ∷ 0 ∷ 0 ∷ 0 ∷ 255 ∷ 255 ∷ 255 ∷ 255 ∷ [];
+    }) ∷ []) ≡ 2
 null-counts = refl
 
 -- a space that goes: names in ascending order, and for one name the send right before the receive right, and then its
 -- notice
 abbrev pub two_names : List (ℕ × Entry)
-two_names = (0x100, Port (record { port = 1; receive = true; send = 2; dead_name_target = Some 3 })) ∷ (0x101, SendOnce 2 None) ∷ []
+two_names =
+    (0x100, Port (record { port = 1; receive = true; send = 2; dead_name_target = Some 3 })) ∷
+    (0x101, SendOnce 2 None) ∷ []
 
 pub destroyed-effects : (space_destroyed (in_space_1 two_names []) 2 (names_of two_names)).effects
     ≡ release kind.Send 1 ∷ release kind.Receive 1 ∷ notify 3 (notice.PortDeleted 0x100) ∷ release kind.SendOnce 2 ∷ []
@@ -47,11 +56,14 @@ destroyed-effects = simp rows refl
 abbrev pub one_send_once : State
 one_send_once = in_space_1 ((0x100, SendOnce 1 None) ∷ []) ((1, new_port) ∷ [])
 
-pub emptied-request : first_failing (tests_of one_send_once 1 (names_of ((0x100, SendOnce 1 None) ∷ [])) (call.RequestNotification 0x100 72 0 0x100 18)) ≡ Some InvalidName
+pub emptied-request : first_failing
+    (tests_of one_send_once 1 (names_of ((0x100, SendOnce 1 None) ∷ [])) (call.RequestNotification 0x100 72 0 0x100 18))
+    ≡ Some InvalidName
 unfolding tests_of copy_in
 emptied-request = simp rows refl
 
-pub emptied-insert : first_failing (tests_of one_send_once 1 (names_of ((0x100, SendOnce 1 None) ∷ [])) (call.InsertRight 0x100 0x100 18)) ≡ None
+pub emptied-insert : first_failing
+    (tests_of one_send_once 1 (names_of ((0x100, SendOnce 1 None) ∷ [])) (call.InsertRight 0x100 0x100 18)) ≡ None
 unfolding tests_of copy_in
 emptied-insert = simp rows refl
 
@@ -59,14 +71,18 @@ emptied-insert = simp rows refl
 abbrev pub crowded_dead : State
 crowded_dead = in_space_1 ((0x100, rights_to 1 true 0) ∷ (0x101, Dead 65535) ∷ []) ((1, new_port) ∷ [])
 
-pub crowded-request : first_failing (tests_of crowded_dead 1 (names_of ((0x100, rights_to 1 true 0) ∷ (0x101, Dead 65535) ∷ [])) (call.RequestNotification 0x101 72 1 0x100 21)) ≡ Some UrefsOverflow
+pub crowded-request : first_failing
+    (tests_of crowded_dead 1 (names_of ((0x100, rights_to 1 true 0) ∷ (0x101, Dead 65535) ∷ []))
+    (call.RequestNotification 0x101 72 1 0x100 21)) ≡ Some UrefsOverflow
 unfolding tests_of copy_in
 crowded-request = simp rows refl
 
 -- which answered calls have a record: mod_refs by 0 and set_qlimit to the same limit do, reads don't; of receives that
 -- report a message that is too large, only those that destroyed it
-pub kept-records : (has_record (call.ModRefs 0x100 0 0) (reply.Done 9) ≡ true) × (has_record (call.SetQlimit 0x100 5) (reply.Done 10) ≡ true)
-    × (has_record (call.GetRefs 0x100 0) (reply.References 1) ≡ false) × (has_record (call.Type 0x100) (reply.Type 0x20000) ≡ false) × (has_record (call.Names) (reply.Names []) ≡ false)
+pub kept-records : (has_record (call.ModRefs 0x100 0 0) (reply.Done 9) ≡ true)
+    × (has_record (call.SetQlimit 0x100 5) (reply.Done 10) ≡ true)
+    × (has_record (call.GetRefs 0x100 0) (reply.References 1) ≡ false)
+    × (has_record (call.Type 0x100) (reply.Type 0x20000) ≡ false) × (has_record (call.Names) (reply.Names []) ≡ false)
     × (has_record (call.Allocate 1) (reply.Refused 5 InvalidName) ≡ false)
     × (has_record (call.Receive 24 false 0x100 false) (reply.Message RcvTooLarge 28 0x100 []) ≡ true)
     × (has_record (call.Receive 24 true 0x100 false) (reply.Message RcvTooLarge 28 0x100 []) ≡ false)
@@ -78,7 +94,8 @@ out-of-set = refl
 
 -- a name whose port dies gets the further reference for its dead-name request, even if the notice would go to that port
 -- itself
-pub own_target-dead : entry_after_death 1 (Port (record { port = 1; receive = false; send = 1; dead_name_target = Some 1 })) ≡ Dead 2
+pub own_target-dead : entry_after_death 1
+    (Port (record { port = 1; receive = false; send = 1; dead_name_target = Some 1 })) ≡ Dead 2
 own_target-dead = refl
 
 -- or to a port that died before the notice's turn, where the notice is dropped
@@ -87,36 +104,53 @@ unfolding effect
 dropped-notice = simp rows
 
 -- but where the target died first, the request has gone, and there is no further reference
-pub former_target-dead : entry_after_death 1 (entry_after_death 2 (Port (record { port = 1; receive = false; send = 1; dead_name_target = Some 2 }))) ≡ Dead 1
+pub former_target-dead : entry_after_death 1
+    (entry_after_death 2 (Port (record { port = 1; receive = false; send = 1; dead_name_target = Some 2 }))) ≡ Dead 1
 former_target-dead = refl
 
 -- a no-senders request is kept where fewer send rights were made than its sync says; the sync itself is forgotten
 abbrev pub sendless : State
-sendless = in_space_1 ((0x100, rights_to 1 true 0) ∷ (0x101, rights_to 2 true 0) ∷ []) ((1, record new_port { make_send_count = 3 }) ∷ (2, new_port) ∷ [])
+sendless =
+    in_space_1 ((0x100, rights_to 1 true 0) ∷ (0x101, rights_to 2 true 0) ∷ [])
+    ((1, record new_port { make_send_count = 3 }) ∷ (2, new_port) ∷ [])
 
 abbrev pub requesting : State
-requesting = in_space_1 ((0x100, rights_to 1 true 0) ∷ (0x101, rights_to 2 true 0) ∷ []) ((1, record new_port { make_send_count = 3; no_senders_target = Some 2 }) ∷ (2, new_port) ∷ [])
+requesting =
+    in_space_1 ((0x100, rights_to 1 true 0) ∷ (0x101, rights_to 2 true 0) ∷ [])
+    ((1, record new_port { make_send_count = 3; no_senders_target = Some 2 }) ∷ (2, new_port) ∷ [])
 
 pub kept-request : target_of_port (port_request_set sendless 70 9 1 (Some 2)).0 70 (Some 1) ≡ Some 2
 unfolding placed
 kept-request = simp rows
 
 -- and the first release that leaves no send right sets it off, with the count as it is then
-pub first-release : queue_of (effect requesting (release kind.Send 1)).0 2 ≡ Some (notice_message (notice.NoSenders 3) ∷ [])
+pub first-release : queue_of (effect requesting (release kind.Send 1)).0 2
+    ≡ Some (notice_message (notice.NoSenders 3) ∷ [])
 unfolding effect placed
 first-release = simp rows
 
 -- a message is queued, and only then the notices of its copy in go out
 abbrev pub with_notice : Ready
-with_notice = record { message = plain kind.Send 7 []; port = 1; state = sendless; notices = notify 2 (notice.PortDeleted 0x102) ∷ [] }
+with_notice =
+    record {
+      message = plain kind.Send 7 [];
+      port = 1;
+      state = sendless;
+      notices = notify 2 (notice.PortDeleted 0x102) ∷ [];
+    }
 
-pub queued-first : (message_count (sent with_notice).0 1 ≡ Some 1) × ((sent with_notice).1 ≡ notify 2 (notice.PortDeleted 0x102) ∷ [])
+pub queued-first : (message_count (sent with_notice).0 1 ≡ Some 1)
+    × ((sent with_notice).1 ≡ notify 2 (notice.PortDeleted 0x102) ∷ [])
 unfolding sent is_circular
 queued-first = (simp rows, refl)
 
 -- a receive from a set may take the oldest message of any member: every member is a source
 abbrev pub two_members : State
-two_members = in_space_1 ((0x100, rights_to 1 true 0) ∷ (0x101, rights_to 2 true 0) ∷ (0x102, Set) ∷ []) ((1, record new_port { set = Some 0x102 }) ∷ (2, record new_port { set = Some 0x102 }) ∷ [])
+two_members =
+    in_space_1 ((0x100, rights_to 1 true 0) ∷ (0x101, rights_to 2 true 0) ∷ (0x102, Set) ∷ [])
+    ((1, record new_port { set = Some 0x102 }) ∷ (2, record new_port { set = Some 0x102 }) ∷ [])
 
-pub each-member : sources two_members (names_of ((0x100, rights_to 1 true 0) ∷ (0x101, rights_to 2 true 0) ∷ (0x102, Set) ∷ [])) 0x102 (Some Set) ≡ Some (0x100 ∷ 0x101 ∷ [])
+pub each-member : sources two_members
+    (names_of ((0x100, rights_to 1 true 0) ∷ (0x101, rights_to 2 true 0) ∷ (0x102, Set) ∷ [])) 0x102 (Some Set)
+    ≡ Some (0x100 ∷ 0x101 ∷ [])
 each-member = simp rows

@@ -40,21 +40,26 @@ unfolding Step
 gone-step = (one_port [], [], simp rows (refl, refl, refl), settled)
 
 -- a message is sent, and stands in the queue
-pub send-step : Step (one_port []) 1 (call.Send hello_as_sent) (reply.Message Success 0 0 []) (queued (one_port []) 1 hello)
+pub send-step : Step (one_port []) 1 (call.Send hello_as_sent) (reply.Message Success 0 0 [])
+    (queued (one_port []) 1 hello)
 unfolding Step ready_to_send copy_in sent
 send-step = (queued (one_port []) 1 hello, [], simp rows (refl, refl, refl), settled)
 
 -- a sixth message is stopped by the limit, and nothing changes
-pub full-step : Step (one_port (replicate 5 hello)) 1 (call.Send hello_as_sent) (reply.Message SendTimedOut 0 0 []) (one_port (replicate 5 hello))
+pub full-step : Step (one_port (replicate 5 hello)) 1 (call.Send hello_as_sent) (reply.Message SendTimedOut 0 0 [])
+    (one_port (replicate 5 hello))
 unfolding Step ready_to_send copy_in
 full-step = (one_port (replicate 5 hello), [], simp rows (refl, refl, refl), settled)
 
 -- The first name that a new store's task allocates.
-pub allocate-acts : ActsFrom opening_state 1 (finmap.get opening_state.spaces 1) (call.Allocate 1) (reply.Allocate 0x100) (allocated opening_state 1 finmap.empty 1 0x100) []
+pub allocate-acts : ActsFrom opening_state 1 (finmap.get opening_state.spaces 1) (call.Allocate 1)
+    (reply.Allocate 0x100) (allocated opening_state 1 finmap.empty 1 0x100) []
 unfolding Done tests_of
-allocate-acts = simp rows (0x100, record { least = omega arith; below_dead = omega arith; free = simp map_rules }, refl, refl, refl)
+allocate-acts =
+    simp rows (0x100, record { least = omega arith; below_dead = omega arith; free = simp map_rules }, refl, refl, refl)
 
-pub allocate-step : Step opening_state 1 (call.Allocate 1) (reply.Allocate 0x100) (allocated opening_state 1 finmap.empty 1 0x100)
+pub allocate-step : Step opening_state 1 (call.Allocate 1) (reply.Allocate 0x100)
+    (allocated opening_state 1 finmap.empty 1 0x100)
 unfolding Step
 allocate-step = (allocated opening_state 1 finmap.empty 1 0x100, [], allocate-acts, settled)
 
@@ -63,9 +68,12 @@ abbrev pub alone : State
 alone = in_space_1 ((0x100, rights_to 1 true 0) ∷ []) ((1, new_port) ∷ [])
 
 abbrev pub with_sender : State
-with_sender = with_names (with_port alone 1 (λ port. record port { make_send_count = 1 })) 1 (finmap.insert (names_of ((0x100, rights_to 1 true 0) ∷ [])) 0x100 (rights_to 1 true 1))
+with_sender =
+    with_names (with_port alone 1 (λ port. record port { make_send_count = 1 })) 1
+    (finmap.insert (names_of ((0x100, rights_to 1 true 0) ∷ [])) 0x100 (rights_to 1 true 1))
 
-pub insert-acts : ActsFrom alone 1 (finmap.get alone.spaces 1) (call.InsertRight 0x100 0x100 20) (reply.Done 17) with_sender []
+pub insert-acts : ActsFrom alone 1 (finmap.get alone.spaces 1) (call.InsertRight 0x100 0x100 20)
+    (reply.Done 17) with_sender []
 unfolding Done tests_of copy_in
 insert-acts = simp rows (refl, (refl, refl))
 
@@ -78,9 +86,13 @@ abbrev pub received_state : State
 received_state = with_names (without_oldest (one_port (hello ∷ [])) 1) 1 (names_of ((0x100, rights_to 1 true 1) ∷ []))
 
 abbrev pub hello_received : Reply
-hello_received = reply.Message Success 28 0x100 (0 ∷ 17 ∷ 0 ∷ 0 ∷ 28 ∷ 0 ∷ 0 ∷ 0 ∷ 0 ∷ 0 ∷ 0 ∷ 0 ∷ 0 ∷ 1 ∷ 0 ∷ 0 ∷ 0 ∷ 0 ∷ 0 ∷ 0 ∷ 7 ∷ 0 ∷ 0 ∷ 0 ∷ 68 ∷ 51 ∷ 34 ∷ 17 ∷ [])
+hello_received =
+    reply.Message Success 28 0x100
+    (0 ∷ 17 ∷ 0 ∷ 0 ∷ 28 ∷ 0 ∷ 0 ∷ 0 ∷ 0 ∷ 0 ∷ 0 ∷ 0 ∷ 0 ∷ 1 ∷ 0 ∷ 0 ∷ 0 ∷ 0 ∷ 0 ∷ 0 ∷ 7 ∷ 0 ∷ 0 ∷ 0 ∷ 68 ∷ 51 ∷ 34
+    ∷ 17 ∷ [])
 
-pub receive-acts : ActsFrom (one_port (hello ∷ [])) 1 (finmap.get (one_port (hello ∷ [])).spaces 1) (call.Receive 28 false 0x100 false) hello_received received_state (release kind.Send 1 ∷ [])
+pub receive-acts : ActsFrom (one_port (hello ∷ [])) 1 (finmap.get (one_port (hello ∷ [])).spaces 1)
+    (call.Receive 28 false 0x100 false) hello_received received_state (release kind.Send 1 ∷ [])
 receive-acts = simp rows (
   0x100,
   1,
@@ -98,7 +110,8 @@ pub receive-released : (effect received_state (release kind.Send 1)).1 ≡ []
 unfolding effect placed
 receive-released = simp rows
 
-pub receive-step : Step (one_port (hello ∷ [])) 1 (call.Receive 28 false 0x100 false) hello_received (effect received_state (release kind.Send 1)).0
+pub receive-step : Step (one_port (hello ∷ [])) 1 (call.Receive 28 false 0x100 false) hello_received
+    (effect received_state (release kind.Send 1)).0
 unfolding Step
 receive-step = (received_state, release kind.Send 1 ∷ [], receive-acts, settles_adding [] receive-released settled)
 
@@ -114,13 +127,16 @@ abbrev pub moved : State
 moved = with_entry (moved_port owner 1) 1 0x100 (rights_to 1 false 2)
 
 abbrev pub circle : Call
-circle = call.Send (19 ∷ 0 ∷ 0 ∷ 128 ∷ 32 ∷ 0 ∷ 0 ∷ 0 ∷ 0 ∷ 1 ∷ 0 ∷ 0 ∷ 0 ∷ 0 ∷ 0 ∷ 0 ∷ 0 ∷ 0 ∷ 0 ∷ 0 ∷ 9 ∷ 0 ∷ 0 ∷ 0 ∷ 16 ∷ 32 ∷ 1 ∷ 16 ∷ 0 ∷ 1 ∷ 0 ∷ 0 ∷ [])
+circle =
+    call.Send (19 ∷ 0 ∷ 0 ∷ 128 ∷ 32 ∷ 0 ∷ 0 ∷ 0 ∷ 0 ∷ 1 ∷ 0 ∷ 0 ∷ 0 ∷ 0 ∷ 0 ∷ 0 ∷ 0 ∷ 0 ∷ 0 ∷ 0 ∷ 9 ∷ 0 ∷ 0 ∷ 0 ∷ 16 ∷
+    32 ∷ 1 ∷ 16 ∷ 0 ∷ 1 ∷ 0 ∷ 0 ∷ [])
 
 pub circle-destination : copy_in owner 1 0x100 CopySend ≡ Some (taken_keeping owner (live kind.Send 1))
 unfolding copy_in
 circle-destination = simp rows
 
-pub circle-right : copy_in owner 1 0x100 MoveReceive ≡ Some (record { right = live kind.Receive 1; state = moved; notices = [] })
+pub circle-right : copy_in owner 1 0x100 MoveReceive
+    ≡ Some (record { right = live kind.Receive 1; state = moved; notices = [] })
 unfolding copy_in
 circle-right = simp rows
 
@@ -130,13 +146,17 @@ circle_items = (record { type_name = 16; bits = 32; number = 1; is_long = false;
 abbrev pub none_taken : State → TakenRights
 none_taken state = record { rights = []; state = state; notices = [] }
 
-pub circle-rights : take_items 1 circle_items (none_taken owner) ≡ Some (record { rights = live kind.Receive 1 ∷ []; state = moved; notices = [] })
+pub circle-rights : take_items 1 circle_items (none_taken owner)
+    ≡ Some (record { rights = live kind.Receive 1 ∷ []; state = moved; notices = [] })
 circle-rights =
-    let then_others : Option TakenRights → Option TakenRights = λ o. elim o as (λ _. Option TakenRights) [ None ↦ None | Some next ↦ Some next ] in
-    ap then_others (take_one 1 0x100 MoveReceive [] (none_taken owner) (record { right = live kind.Receive 1; state = moved; notices = [] }) refl circle-right)
+    let then_others : Option TakenRights → Option TakenRights =
+    λ o. elim o as (λ _. Option TakenRights) [ None ↦ None | Some next ↦ Some next ] in
+    ap then_others (take_one 1 0x100 MoveReceive [] (none_taken owner)
+    (record { right = live kind.Receive 1; state = moved; notices = [] }) refl circle-right)
 
 -- it is destroyed at once, with its destination and the receive right
-pub circle-acts : ActsFrom owner 1 (finmap.get owner.spaces 1) circle (reply.Message Success 0 0 []) moved (release kind.Send 1 ∷ release kind.Receive 1 ∷ [])
+pub circle-acts : ActsFrom owner 1 (finmap.get owner.spaces 1) circle (reply.Message Success 0 0 []) moved
+    (release kind.Send 1 ∷ release kind.Receive 1 ∷ [])
 unfolding ready_to_send items_of sent is_circular
 circle-acts = simp (rows, circle-destination) (rw circle-rights (simp rows (refl, refl, refl)))
 
@@ -153,7 +173,12 @@ circle_end = (effect (effect moved (release kind.Send 1)).0 (release kind.Receiv
 
 pub circle-step : Step owner 1 circle (reply.Message Success 0 0 []) circle_end
 unfolding Step
-circle-step = (moved, release kind.Send 1 ∷ release kind.Receive 1 ∷ [], circle-acts, settles_adding [] circle-first (settles_adding [] circle-second settled))
+circle-step = (
+  moved,
+  release kind.Send 1 ∷ release kind.Receive 1 ∷ [],
+  circle-acts,
+  settles_adding [] circle-first (settles_adding [] circle-second settled),
+)
 
 -- and its name is left as a dead name, with its references
 pub circle-left : (effect moved (release kind.Send 1)).0 ≡ moved
@@ -165,4 +190,6 @@ unfolding effect
 circle-died = simp rows
 
 pub circle-dead : entry_at circle_end 1 0x100 ≡ Some (Dead 2)
-circle-dead = ap (λ (s : State). entry_at (effect s (release kind.Receive 1)).0 1 0x100) circle-left ∙ ap (λ (s : State). entry_at s 1 0x100) circle-died ∙ entry-after_death moved 1 1 0x100 ∙ simp rows
+circle-dead =
+    ap (λ (s : State). entry_at (effect s (release kind.Receive 1)).0 1 0x100) circle-left ∙ ap
+    (λ (s : State). entry_at s 1 0x100) circle-died ∙ entry-after_death moved 1 1 0x100 ∙ simp rows

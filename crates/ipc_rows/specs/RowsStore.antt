@@ -20,7 +20,8 @@ first_segment =
     ∷ 0x0c ∷ 0 ∷ 0 ∷ 0 ∷ 5 ∷ 0 ∷ 0 ∷ 0 ∷ 0 ∷ 0 ∷ 0 ∷ 0 ∷ 0 ∷ 1 ∷ 0 ∷ 0
     ∷ 0 ∷ []
 
-pub segment-bytes : segment_header open_gate 0 ++ (batches_encoding 0 ((first_allocation ∷ []) ∷ []) ++ closed_gate ∷ []) ≡ first_segment
+pub segment-bytes : segment_header open_gate 0
+    ++ (batches_encoding 0 ((first_allocation ∷ []) ∷ []) ++ closed_gate ∷ []) ≡ first_segment
 unfolding batch_encoding record_encoding call_encoding reply_encoding
 segment-bytes = refl
 

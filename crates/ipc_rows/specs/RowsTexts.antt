@@ -26,66 +26,88 @@ with_one_port = record {
 }
 
 pub one_port-image : image_encoding with_one_port
-    ≡ 2 ∷ 0 ∷ 0 ∷ 0 ∷ 0 ∷ 0 ∷ 0 ∷ 0 ∷ 1 ∷ 0 ∷ 0 ∷ 0 ∷ 1 ∷ 0 ∷ 0 ∷ 0 ∷ 1 ∷ 0 ∷ 0 ∷ 0 ∷ 0 ∷ 1 ∷ 0 ∷ 0 ∷ 1 ∷ 1 ∷ 0 ∷ 0 ∷ 0 ∷ 0 ∷ 0 ∷ 0 ∷ 0 ∷ 1 ∷ 0 ∷ 0 ∷ 0 ∷ 0 ∷ 0 ∷ 0 ∷ 0 ∷ 0 ∷ 0 ∷ 0 ∷ 0 ∷ 0 ∷ 1 ∷ 0 ∷ 0 ∷ 0 ∷ 1 ∷ 0 ∷ 0 ∷ 0 ∷ 0 ∷ 0 ∷ 0 ∷ 0 ∷ 5 ∷ 0 ∷ 0 ∷ 0 ∷ 0 ∷ 0 ∷ 0 ∷ 0 ∷ 0 ∷ 0 ∷ 0 ∷ 0 ∷ 0 ∷ 0 ∷ 0 ∷ 0 ∷ 0 ∷ 0 ∷ 0 ∷ 0 ∷ 0 ∷ 0 ∷ 0 ∷ 0 ∷ 0 ∷ 0 ∷ 0 ∷ 0 ∷ 0 ∷ 0 ∷ 0 ∷ 0 ∷ 0 ∷ 0 ∷ 0 ∷ 0 ∷ []
+    ≡ 2 ∷ 0 ∷ 0 ∷ 0 ∷ 0 ∷ 0 ∷ 0 ∷ 0 ∷ 1 ∷ 0 ∷ 0 ∷ 0 ∷ 1 ∷ 0 ∷ 0 ∷ 0 ∷ 1 ∷ 0 ∷ 0 ∷ 0 ∷ 0 ∷ 1 ∷ 0 ∷ 0 ∷ 1 ∷ 1 ∷ 0 ∷ 0 ∷ 0
+    ∷ 0 ∷ 0 ∷ 0 ∷ 0 ∷ 1 ∷ 0 ∷ 0 ∷ 0 ∷ 0 ∷ 0 ∷ 0 ∷ 0 ∷ 0 ∷ 0 ∷ 0 ∷ 0 ∷ 0 ∷ 1 ∷ 0 ∷ 0 ∷ 0 ∷ 1 ∷ 0 ∷ 0 ∷ 0 ∷ 0 ∷ 0 ∷ 0
+    ∷ 0 ∷ 5 ∷ 0 ∷ 0 ∷ 0 ∷ 0 ∷ 0 ∷ 0 ∷ 0 ∷ 0 ∷ 0 ∷ 0 ∷ 0 ∷ 0 ∷ 0 ∷ 0 ∷ 0 ∷ 0 ∷ 0 ∷ 0 ∷ 0 ∷ 0 ∷ 0 ∷ 0 ∷ 0 ∷ 0 ∷ 0
+    ∷ 0 ∷ 0 ∷ 0 ∷ 0 ∷ 0 ∷ 0 ∷ 0 ∷ 0 ∷ 0 ∷ 0 ∷ []
 unfolding image_encoding
 one_port-image = simp rows
 
 -- the frame that allocates a receive right, and the reply's
-pub allocate-frame : frame_encoding (call_encoding (call.Allocate 1)) ≡ 8 ∷ 0 ∷ 0 ∷ 0 ∷ 5 ∷ 0 ∷ 0 ∷ 0 ∷ 1 ∷ 0 ∷ 0 ∷ 0 ∷ []
+pub allocate-frame : frame_encoding (call_encoding (call.Allocate 1))
+    ≡ 8 ∷ 0 ∷ 0 ∷ 0 ∷ 5 ∷ 0 ∷ 0 ∷ 0 ∷ 1 ∷ 0 ∷ 0 ∷ 0 ∷ []
 unfolding call_encoding
 allocate-frame = refl
 
-pub allocated-frame : frame_encoding (reply_encoding (reply.Allocate 0x100)) ≡ 12 ∷ 0 ∷ 0 ∷ 0 ∷ 5 ∷ 0 ∷ 0 ∷ 0 ∷ 0 ∷ 0 ∷ 0 ∷ 0 ∷ 0 ∷ 1 ∷ 0 ∷ 0 ∷ []
+pub allocated-frame : frame_encoding (reply_encoding (reply.Allocate 0x100))
+    ≡ 12 ∷ 0 ∷ 0 ∷ 0 ∷ 5 ∷ 0 ∷ 0 ∷ 0 ∷ 0 ∷ 0 ∷ 0 ∷ 0 ∷ 0 ∷ 1 ∷ 0 ∷ 0 ∷ []
 unfolding reply_encoding
 allocated-frame = refl
 
 -- the first record of an epoch
 pub first-record : record_encoding 0 (record { space = 1; call = call.Allocate 1; reply = reply.Allocate 0x100 })
-    ≡ 0 ∷ 0 ∷ 0 ∷ 0 ∷ 0 ∷ 0 ∷ 0 ∷ 0 ∷ 1 ∷ 0 ∷ 0 ∷ 0 ∷ 8 ∷ 0 ∷ 0 ∷ 0 ∷ 5 ∷ 0 ∷ 0 ∷ 0 ∷ 1 ∷ 0 ∷ 0 ∷ 0 ∷ 12 ∷ 0 ∷ 0 ∷ 0 ∷ 5 ∷ 0 ∷ 0 ∷ 0 ∷ 0 ∷ 0 ∷ 0 ∷ 0 ∷ 0 ∷ 1 ∷ 0 ∷ 0 ∷ []
+    ≡ 0 ∷ 0 ∷ 0 ∷ 0 ∷ 0 ∷ 0 ∷ 0 ∷ 0 ∷ 1 ∷ 0 ∷ 0 ∷ 0 ∷ 8 ∷ 0 ∷ 0 ∷ 0 ∷ 5 ∷ 0 ∷ 0 ∷ 0 ∷ 1 ∷ 0 ∷ 0 ∷ 0 ∷ 12 ∷ 0 ∷ 0 ∷ 0 ∷ 5
+    ∷ 0 ∷ 0 ∷ 0 ∷ 0 ∷ 0 ∷ 0 ∷ 0 ∷ 0 ∷ 1 ∷ 0 ∷ 0 ∷ []
 unfolding record_encoding call_encoding reply_encoding
 first-record = refl
 
-pub type-frame : frame_encoding (reply_encoding (reply.Type 0x20000)) ≡ 12 ∷ 0 ∷ 0 ∷ 0 ∷ 2 ∷ 0 ∷ 0 ∷ 0 ∷ 0 ∷ 0 ∷ 0 ∷ 0 ∷ 0 ∷ 0 ∷ 2 ∷ 0 ∷ []
+pub type-frame : frame_encoding (reply_encoding (reply.Type 0x20000))
+    ≡ 12 ∷ 0 ∷ 0 ∷ 0 ∷ 2 ∷ 0 ∷ 0 ∷ 0 ∷ 0 ∷ 0 ∷ 0 ∷ 0 ∷ 0 ∷ 0 ∷ 2 ∷ 0 ∷ []
 unfolding reply_encoding
 type-frame = refl
 
 -- a send of 28 bytes as it is kept, and its reply: mach_msg has its results in any case
-pub send-frame : frame_encoding (call_encoding (call.Send (19 ∷ 0 ∷ 0 ∷ 0 ∷ 0 ∷ 0 ∷ 0 ∷ 0 ∷ 0 ∷ 1 ∷ 0 ∷ 0 ∷ 0 ∷ 0 ∷ 0 ∷ 0 ∷ 0 ∷ 0 ∷ 0 ∷ 0 ∷ 7 ∷ 0 ∷ 0 ∷ 0 ∷ 68 ∷ 51 ∷ 34 ∷ 17 ∷ [])))
-    ≡ 48 ∷ 0 ∷ 0 ∷ 0 ∷ 19 ∷ 0 ∷ 0 ∷ 0 ∷ 1 ∷ 0 ∷ 0 ∷ 0 ∷ 0 ∷ 0 ∷ 0 ∷ 0 ∷ 0 ∷ 0 ∷ 0 ∷ 0 ∷ 0 ∷ 0 ∷ 0 ∷ 0 ∷ 19 ∷ 0 ∷ 0 ∷ 0 ∷ 0 ∷ 0 ∷ 0 ∷ 0 ∷ 0 ∷ 1 ∷ 0 ∷ 0 ∷ 0 ∷ 0 ∷ 0 ∷ 0 ∷ 0 ∷ 0 ∷ 0 ∷ 0 ∷ 7 ∷ 0 ∷ 0 ∷ 0 ∷ 68 ∷ 51 ∷ 34 ∷ 17 ∷ []
+pub send-frame : frame_encoding
+    (call_encoding (call.Send (19 ∷ 0 ∷ 0 ∷ 0 ∷ 0 ∷ 0 ∷ 0 ∷ 0 ∷ 0 ∷ 1 ∷ 0 ∷ 0 ∷ 0 ∷ 0 ∷ 0 ∷ 0 ∷ 0 ∷ 0 ∷ 0 ∷ 0 ∷ 7 ∷ 0 ∷
+    0 ∷ 0 ∷ 68 ∷ 51 ∷ 34 ∷ 17 ∷ [])))
+    ≡ 48 ∷ 0 ∷ 0 ∷ 0 ∷ 19 ∷ 0 ∷ 0 ∷ 0 ∷ 1 ∷ 0 ∷ 0 ∷ 0 ∷ 0 ∷ 0 ∷ 0 ∷ 0 ∷ 0 ∷ 0 ∷ 0 ∷ 0 ∷ 0 ∷ 0 ∷ 0 ∷ 0 ∷ 19 ∷ 0 ∷ 0 ∷ 0 ∷
+    0 ∷ 0 ∷ 0 ∷ 0 ∷ 0 ∷ 1 ∷ 0 ∷ 0 ∷ 0 ∷ 0 ∷ 0 ∷ 0 ∷ 0 ∷ 0 ∷ 0 ∷ 0 ∷ 7 ∷ 0 ∷ 0 ∷ 0 ∷ 68 ∷ 51 ∷ 34 ∷ 17 ∷ []
 unfolding call_encoding
 send-frame = refl
 
-pub sent-frame : frame_encoding (reply_encoding (reply.Message Success 0 0 [])) ≡ 16 ∷ 0 ∷ 0 ∷ 0 ∷ 19 ∷ 0 ∷ 0 ∷ 0 ∷ 0 ∷ 0 ∷ 0 ∷ 0 ∷ 0 ∷ 0 ∷ 0 ∷ 0 ∷ 0 ∷ 0 ∷ 0 ∷ 0 ∷ []
+pub sent-frame : frame_encoding (reply_encoding (reply.Message Success 0 0 []))
+    ≡ 16 ∷ 0 ∷ 0 ∷ 0 ∷ 19 ∷ 0 ∷ 0 ∷ 0 ∷ 0 ∷ 0 ∷ 0 ∷ 0 ∷ 0 ∷ 0 ∷ 0 ∷ 0 ∷ 0 ∷ 0 ∷ 0 ∷ 0 ∷ []
 unfolding reply_encoding
 sent-frame = refl
 
 -- a receive with limit 28, and the message that it brings
-pub receive-frame : frame_encoding (call_encoding (call.Receive 28 false 0x100 false)) ≡ 20 ∷ 0 ∷ 0 ∷ 0 ∷ 19 ∷ 0 ∷ 0 ∷ 0 ∷ 2 ∷ 0 ∷ 0 ∷ 0 ∷ 28 ∷ 0 ∷ 0 ∷ 0 ∷ 0 ∷ 1 ∷ 0 ∷ 0 ∷ 0 ∷ 0 ∷ 0 ∷ 0 ∷ []
+pub receive-frame : frame_encoding (call_encoding (call.Receive 28 false 0x100 false))
+    ≡ 20 ∷ 0 ∷ 0 ∷ 0 ∷ 19 ∷ 0 ∷ 0 ∷ 0 ∷ 2 ∷ 0 ∷ 0 ∷ 0 ∷ 28 ∷ 0 ∷ 0 ∷ 0 ∷ 0 ∷ 1 ∷ 0 ∷ 0 ∷ 0 ∷ 0 ∷ 0 ∷ 0 ∷ []
 unfolding call_encoding
 receive-frame = refl
 
-pub received-frame : frame_encoding (reply_encoding (reply.Message Success 28 0x100 (0 ∷ 17 ∷ 0 ∷ 0 ∷ 28 ∷ 0 ∷ 0 ∷ 0 ∷ 0 ∷ 0 ∷ 0 ∷ 0 ∷ 0 ∷ 1 ∷ 0 ∷ 0 ∷ 0 ∷ 0 ∷ 0 ∷ 0 ∷ 7 ∷ 0 ∷ 0 ∷ 0 ∷ 68 ∷ 51 ∷ 34 ∷ 17 ∷ [])))
-    ≡ 44 ∷ 0 ∷ 0 ∷ 0 ∷ 19 ∷ 0 ∷ 0 ∷ 0 ∷ 0 ∷ 0 ∷ 0 ∷ 0 ∷ 28 ∷ 0 ∷ 0 ∷ 0 ∷ 0 ∷ 1 ∷ 0 ∷ 0 ∷ 0 ∷ 17 ∷ 0 ∷ 0 ∷ 28 ∷ 0 ∷ 0 ∷ 0 ∷ 0 ∷ 0 ∷ 0 ∷ 0 ∷ 0 ∷ 1 ∷ 0 ∷ 0 ∷ 0 ∷ 0 ∷ 0 ∷ 0 ∷ 7 ∷ 0 ∷ 0 ∷ 0 ∷ 68 ∷ 51 ∷ 34 ∷ 17 ∷ []
+pub received-frame : frame_encoding
+    (reply_encoding (reply.Message Success 28 0x100
+    (0 ∷ 17 ∷ 0 ∷ 0 ∷ 28 ∷ 0 ∷ 0 ∷ 0 ∷ 0 ∷ 0 ∷ 0 ∷ 0 ∷ 0 ∷ 1 ∷ 0 ∷ 0 ∷ 0 ∷ 0 ∷ 0 ∷ 0 ∷ 7 ∷ 0 ∷ 0 ∷ 0 ∷ 68 ∷ 51 ∷ 34
+    ∷ 17 ∷ [])))
+    ≡ 44 ∷ 0 ∷ 0 ∷ 0 ∷ 19 ∷ 0 ∷ 0 ∷ 0 ∷ 0 ∷ 0 ∷ 0 ∷ 0 ∷ 28 ∷ 0 ∷ 0 ∷ 0 ∷ 0 ∷ 1 ∷ 0 ∷ 0 ∷ 0 ∷ 17 ∷ 0 ∷ 0 ∷ 28 ∷ 0 ∷ 0 ∷ 0
+    ∷ 0 ∷ 0 ∷ 0 ∷ 0 ∷ 0 ∷ 1 ∷ 0 ∷ 0 ∷ 0 ∷ 0 ∷ 0 ∷ 0 ∷ 7 ∷ 0 ∷ 0 ∷ 0 ∷ 68 ∷ 51 ∷ 34 ∷ 17 ∷ []
 unfolding reply_encoding
 received-frame = refl
 
 -- a refusal has no results
-pub refused-frame : frame_encoding (reply_encoding (reply.Refused 5 InvalidValue)) ≡ 8 ∷ 0 ∷ 0 ∷ 0 ∷ 5 ∷ 0 ∷ 0 ∷ 0 ∷ 18 ∷ 0 ∷ 0 ∷ 0 ∷ []
+pub refused-frame : frame_encoding (reply_encoding (reply.Refused 5 InvalidValue))
+    ≡ 8 ∷ 0 ∷ 0 ∷ 0 ∷ 5 ∷ 0 ∷ 0 ∷ 0 ∷ 18 ∷ 0 ∷ 0 ∷ 0 ∷ []
 unfolding reply_encoding
 refused-frame = refl
 
 -- no names
-pub names-frame : frame_encoding (reply_encoding (reply.Names [])) ≡ 12 ∷ 0 ∷ 0 ∷ 0 ∷ 1 ∷ 0 ∷ 0 ∷ 0 ∷ 0 ∷ 0 ∷ 0 ∷ 0 ∷ 0 ∷ 0 ∷ 0 ∷ 0 ∷ []
+pub names-frame : frame_encoding (reply_encoding (reply.Names []))
+    ≡ 12 ∷ 0 ∷ 0 ∷ 0 ∷ 1 ∷ 0 ∷ 0 ∷ 0 ∷ 0 ∷ 0 ∷ 0 ∷ 0 ∷ 0 ∷ 0 ∷ 0 ∷ 0 ∷ []
 unfolding reply_encoding
 names-frame = refl
 
 -- A send of 28 bytes with bits, a size and a sequence number that a send ignores: its record has 0 in place of them.
 
 abbrev raw_send : List ℕ
-raw_send = 19 ∷ 0 ∷ 255 ∷ 127 ∷ 9 ∷ 9 ∷ 9 ∷ 9 ∷ 0 ∷ 1 ∷ 0 ∷ 0 ∷ 0 ∷ 0 ∷ 0 ∷ 0 ∷ 9 ∷ 9 ∷ 9 ∷ 9 ∷ 7 ∷ 0 ∷ 0 ∷ 0 ∷ 68 ∷ 51 ∷ 34 ∷ 17 ∷ []
+raw_send =
+    19 ∷ 0 ∷ 255 ∷ 127 ∷ 9 ∷ 9 ∷ 9 ∷ 9 ∷ 0 ∷ 1 ∷ 0 ∷ 0 ∷ 0 ∷ 0 ∷ 0 ∷ 0 ∷ 9 ∷ 9 ∷ 9 ∷ 9 ∷ 7 ∷ 0 ∷ 0 ∷ 0 ∷ 68 ∷ 51 ∷ 34 ∷
+    17 ∷ []
 
 abbrev kept_send : List ℕ
-kept_send = 19 ∷ 0 ∷ 0 ∷ 0 ∷ 0 ∷ 0 ∷ 0 ∷ 0 ∷ 0 ∷ 1 ∷ 0 ∷ 0 ∷ 0 ∷ 0 ∷ 0 ∷ 0 ∷ 0 ∷ 0 ∷ 0 ∷ 0 ∷ 7 ∷ 0 ∷ 0 ∷ 0 ∷ 68 ∷ 51 ∷ 34 ∷ 17 ∷ []
+kept_send =
+    19 ∷ 0 ∷ 0 ∷ 0 ∷ 0 ∷ 0 ∷ 0 ∷ 0 ∷ 0 ∷ 1 ∷ 0 ∷ 0 ∷ 0 ∷ 0 ∷ 0 ∷ 0 ∷ 0 ∷ 0 ∷ 0 ∷ 0 ∷ 7 ∷ 0 ∷ 0 ∷ 0 ∷ 68 ∷ 51 ∷ 34 ∷ 17 ∷
+    []
 
 abbrev of_send : List ℕ → Reply → Record
 of_send message answer = record { space = 1; call = call.Send message; reply = answer }
@@ -108,7 +130,8 @@ raw_send-kept = refl
 pub raw_send-parts : used_parts raw_send ≡ used_parts kept_send
 raw_send-parts = refl
 
-pub raw_send-record : record_encoding 0 (of_send raw_send (reply.Message Success 0 0 [])) ≡ record_encoding 0 (of_send kept_send (reply.Message Success 0 0 []))
+pub raw_send-record : record_encoding 0 (of_send raw_send (reply.Message Success 0 0 []))
+    ≡ record_encoding 0 (of_send kept_send (reply.Message Success 0 0 []))
 unfolding record_encoding canonical_message
 raw_send-record = refl
 
@@ -116,8 +139,100 @@ pub kept_send-is_record : IsRecord (of_send kept_send (reply.Message Success 0 0
 unfolding canonical_message call_encoding reply_encoding
 kept_send-is_record = record {
   space = omega arith;
-  call = record { fits = λ i. few_bytes kept_send (omega arith, (omega arith, (omega arith, (omega arith, (omega arith, (omega arith, (omega arith, (omega arith, (omega arith, (omega arith, (omega arith, (omega arith, (omega arith, (omega arith, (omega arith, (omega arith, (omega arith, (omega arith, (omega arith, (omega arith, (omega arith, (omega arith, (omega arith, (omega arith, (omega arith, (omega arith, (omega arith, (omega arith, tt)))))))))))))))))))))))))))) i; whole = omega arith; kept = refl };
-  reply = record { fits = (omega arith, omega arith, λ i. omega arith); of_one_call = refl; results = (refl, refl, refl); recorded = refl };
+  call =
+      record {
+        fits = λ i. few_bytes kept_send (
+          omega arith,
+          (
+            omega arith,
+            (
+              omega arith,
+              (
+                omega arith,
+                (
+                  omega arith,
+                  (
+                    omega arith,
+                    (
+                      omega arith,
+                      (
+                        omega arith,
+                        (
+                          omega arith,
+                          (
+                            omega arith,
+                            (
+                              omega arith,
+                              (
+                                omega arith,
+                                (
+                                  omega arith,
+                                  (
+                                    omega arith,
+                                    (
+                                      omega arith,
+                                      (
+                                        omega arith,
+                                        (
+                                          omega arith,
+                                          (
+                                            omega arith,
+                                            (
+                                              omega arith,
+                                              (
+                                                omega arith,
+                                                (
+                                                  omega arith,
+                                                  (
+                                                    omega arith,
+                                                    (
+                                                      omega arith,
+                                                      (
+                                                        omega arith,
+                                                        (
+                                                          omega arith,
+                                                          (
+                                                            omega arith,
+                                                            (
+                                                              omega arith,
+                                                              (omega arith, tt),
+                                                            ),
+                                                          ),
+                                                        ),
+                                                      ),
+                                                    ),
+                                                  ),
+                                                ),
+                                              ),
+                                            ),
+                                          ),
+                                        ),
+                                      ),
+                                    ),
+                                  ),
+                                ),
+                              ),
+                            ),
+                          ),
+                        ),
+                      ),
+                    ),
+                  ),
+                ),
+              ),
+            ),
+          ),
+        ) i;
+        whole = omega arith;
+        kept = refl;
+      };
+  reply =
+      record {
+        fits = (omega arith, omega arith, λ i. omega arith);
+        of_one_call = refl;
+        results = (refl, refl, refl);
+        recorded = refl;
+      };
   frames = (omega arith, omega arith);
 }
 
@@ -126,7 +241,8 @@ kept_send-is_record = record {
 
 pub raw_send-no_record : (answer : Reply) → IsRecord (of_send raw_send answer) → ⊥
 unfolding canonical_message
-raw_send-no_record answer is = absurd (omega (arith, ap (λ (c : Call). slice_index (arguments_encoding c) 18) is.call.kept))
+raw_send-no_record answer is =
+    absurd (omega (arith, ap (λ (c : Call). slice_index (arguments_encoding c) 18) is.call.kept))
 
 pub short_send-no_record : (answer : Reply) → IsRecord (of_send (19 ∷ 0 ∷ 0 ∷ 0 ∷ []) answer) → ⊥
 short_send-no_record answer is = absurd (omega (arith, is.call.whole.0))
@@ -136,7 +252,8 @@ pub odd_send-no_record : (answer : Reply) → IsRecord (of_send (replicate 25 0)
 odd_send-no_record answer is = absurd (omega (arith, is.call.whole.2))
 
 -- the size next above the greatest, and the greatest for which a frame has room
-pub large_send-no_record : (message : List ℕ) (answer : Reply) → (length message ≡ 8196) ⊎ (length message ≡ 65512) → IsRecord (of_send message answer) → ⊥
+pub large_send-no_record : (message : List ℕ) (answer : Reply) → (length message ≡ 8196) ⊎ (length message ≡ 65512)
+    → IsRecord (of_send message answer) → ⊥
 large_send-no_record message answer (inl long) is = absurd (omega (arith, long, is.call.whole.1))
 large_send-no_record message answer (inr long) is = absurd (omega (arith, long, is.call.whole.1))
 
@@ -146,20 +263,32 @@ answered_send-no_record is = absurd (omega (arith, is.reply.results.0))
 pub done_allocation-no_record : IsRecord (record { space = 1; call = call.Allocate 1; reply = reply.Done 5 }) → ⊥
 done_allocation-no_record is = cc is.reply.results
 
-pub shorter_receive-no_record : IsRecord (record { space = 1; call = call.Receive 32 false 0x100 false; reply = reply.Message Success 32 0x100 kept_send }) → ⊥
+pub shorter_receive-no_record : IsRecord
+    (record { space = 1; call = call.Receive 32 false 0x100 false; reply = reply.Message Success 32 0x100 kept_send })
+    → ⊥
 shorter_receive-no_record is = absurd (omega (arith, is.reply.results.3.1))
 
-pub receive_above_limit-no_record : IsRecord (record { space = 1; call = call.Receive 24 false 0x100 false; reply = reply.Message Success 28 0x100 kept_send }) → ⊥
+pub receive_above_limit-no_record : IsRecord
+    (record { space = 1; call = call.Receive 24 false 0x100 false; reply = reply.Message Success 28 0x100 kept_send })
+    → ⊥
 receive_above_limit-no_record is = absurd (omega (arith, is.reply.results.3.0))
 
-pub nameless_receive-no_record : IsRecord (record { space = 1; call = call.Receive 28 false 0x100 false; reply = reply.Message Success 28 0 kept_send }) → ⊥
+pub nameless_receive-no_record : IsRecord
+    (record { space = 1; call = call.Receive 28 false 0x100 false; reply = reply.Message Success 28 0 kept_send }) → ⊥
 nameless_receive-no_record is = absurd (omega (arith, is.reply.results.1))
 
-pub odd_size-no_record : IsRecord (record { space = 1; call = call.Receive 24 false 0x100 false; reply = reply.Message RcvTooLarge 30 0x100 [] }) → ⊥
+pub odd_size-no_record : IsRecord
+    (record { space = 1; call = call.Receive 24 false 0x100 false; reply = reply.Message RcvTooLarge 30 0x100 [] }) → ⊥
 odd_size-no_record is = absurd (omega (arith, is.reply.results.0.2))
 
-pub destroyed_within_limit-no_record : IsRecord (record { space = 1; call = call.Receive 28 false 0x100 false; reply = reply.Message RcvTooLarge 28 0x100 [] }) → ⊥
+pub destroyed_within_limit-no_record : IsRecord
+    (record { space = 1; call = call.Receive 28 false 0x100 false; reply = reply.Message RcvTooLarge 28 0x100 [] }) → ⊥
 destroyed_within_limit-no_record is = absurd (omega (arith, is.reply.results.3.0))
 
-pub destroyed_with_bytes-no_record : IsRecord (record { space = 1; call = call.Receive 24 false 0x100 false; reply = reply.Message RcvTooLarge 28 0x100 kept_send }) → ⊥
+pub destroyed_with_bytes-no_record : IsRecord
+    (record {
+      space = 1;
+      call = call.Receive 24 false 0x100 false;
+      reply = reply.Message RcvTooLarge 28 0x100 kept_send;
+    }) → ⊥
 destroyed_with_bytes-no_record is = absurd (omega (arith, ap length is.reply.results.3.1))

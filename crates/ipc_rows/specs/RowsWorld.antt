@@ -33,9 +33,11 @@ names_of_one = finmap.insert finmap.empty 0x100 (allocated_entry 1 1)
 abbrev pub two_allocated : State
 two_allocated = allocated one_allocated 1 names_of_one 1 0x101
 
-second-acts : ActsFrom one_allocated 1 (finmap.get one_allocated.spaces 1) allocation (reply.Allocate 0x101) two_allocated []
+second-acts : ActsFrom one_allocated 1 (finmap.get one_allocated.spaces 1) allocation
+    (reply.Allocate 0x101) two_allocated []
 unfolding Done tests_of
-second-acts = simp rows (0x101, record { least = omega arith; below_dead = omega arith; free = simp map_rules }, refl, refl, refl)
+second-acts =
+    simp rows (0x101, record { least = omega arith; below_dead = omega arith; free = simp map_rules }, refl, refl, refl)
 
 pub second-step : Step one_allocated 1 allocation (reply.Allocate 0x101) two_allocated
 unfolding Step
@@ -61,21 +63,33 @@ may-first : MayGive opening_state (first_world 0 0) 1 allocation (reply.Allocate
 may-first = ((opening_state, one_allocated, refl, allocate-step), (λ (_ : _). omega arith))
 
 may-second : MayGive opening_state one_submitted 1 allocation (reply.Allocate 0x101)
-may-second = ((one_allocated, two_allocated, (one_allocated, allocate-step, refl), second-step), (λ (_ : _). omega arith))
+may-second =
+    ((one_allocated, two_allocated, (one_allocated, allocate-step, refl), second-step), (λ (_ : _). omega arith))
 
 -- the events in their order, with what they answer
 abbrev pub two_calls : List (Event × Outcome)
-two_calls = (submit 1 allocation, given (reply.Allocate 0x100)) ∷ (submit 1 allocation, given (reply.Allocate 0x101)) ∷ (take_batch, done) ∷ (append, done) ∷ (durable, done) ∷ []
+two_calls =
+    (submit 1 allocation, given (reply.Allocate 0x100)) ∷ (submit 1 allocation, given (reply.Allocate 0x101)) ∷
+    (take_batch, done) ∷ (append, done) ∷ (durable, done) ∷ []
 
 pub two_calls-leave : Worlds opening_state (first_world 0 0) two_calls two_durable
 two_calls-leave = (
   one_submitted,
   (refl, tt, (may-first, refl)),
-  (two_submitted, (refl, tt, (may-second, refl)), (two_taken, (refl, (omega arith, refl), refl), (two_appended, (refl, (refl, tt), refl), (two_durable, (refl, omega arith, refl), refl)))),
+  (
+    two_submitted,
+    (refl, tt, (may-second, refl)),
+    (
+      two_taken,
+      (refl, (omega arith, refl), refl),
+      (two_appended, (refl, (refl, tt), refl), (two_durable, (refl, omega arith, refl), refl)),
+    ),
+  ),
 )
 
 -- both are stored at once, and so acknowledged: one batch has both
-pub two_calls-acknowledged : (acknowledged two_submitted ≡ 0) × (acknowledged two_taken ≡ 0) × (acknowledged two_appended ≡ 2) × (acknowledged two_durable ≡ 2)
+pub two_calls-acknowledged : (acknowledged two_submitted ≡ 0) × (acknowledged two_taken ≡ 0)
+    × (acknowledged two_appended ≡ 2) × (acknowledged two_durable ≡ 2)
 two_calls-acknowledged = (refl, refl, refl, refl)
 
 -- then the replies may be requested in any order
@@ -110,7 +124,9 @@ read-waits = ((λ (possible : _). absurd (omega (arith, possible.1))), refl)
 -- after a snapshot no other is possible before its checkpoint is over, and the next segment is not opened while a
 -- record of the old epoch isn't appended
 abbrev pub cut_early : World
-cut_early = record (after_cut two_submitted opening_state) { checkpoint = Some (record { rolled = 2; imaged = 1; pieces = 1; finished = false }) }
+cut_early =
+    record (after_cut two_submitted opening_state)
+    { checkpoint = Some (record { rolled = 2; imaged = 1; pieces = 1; finished = false }) }
 
 pub second-cut : IsPossible cut_early cut → ⊥
 second-cut possible = absurd (cc possible.1)
@@ -133,8 +149,14 @@ twice-closed possible = absurd (omega (arith, possible))
 pub twice-rolled : IsPossible cut_early roll_close → ⊥
 twice-rolled possible = absurd (omega (arith, possible))
 
-pub segment-closed : IsPossible (record cut_early { batch = Some (record { epoch = 1; size = 1; appended = false }) }) append → ⊥
-segment-closed possible = elim possible.1 as (λ _. ⊥) [ inl older ↦ absurd (omega (arith, older)) | inr rolled ↦ absurd (omega (arith, rolled)) ]
+pub segment-closed : IsPossible
+    (record cut_early { batch = Some (record { epoch = 1; size = 1; appended = false }) }) append → ⊥
+segment-closed possible =
+    elim possible.1 as (λ _. ⊥) [
+      | inl older ↦ absurd (omega (arith, older))
+      | inr rolled ↦
+          absurd (omega (arith, rolled))
+    ]
 
 -- the last epoch isn't left
 pub last-epoch : IsPossible (first_world 0xffffffffffffffff 0) cut → ⊥
@@ -143,14 +165,23 @@ last-epoch possible = absurd (omega (arith, possible.0))
 -- A whole checkpoint of a new store: the steps of rotating and of the image in their order, and the receipt of its
 -- finish. It leaves an empty epoch log in the next epoch.
 abbrev pub checkpoint_events : List (Event × Outcome)
-checkpoint_events = (cut, done) ∷ (roll_close, done) ∷ (roll_head, done) ∷ (roll_open, done) ∷ (image_close, done) ∷ (piece, done) ∷ (finish, done) ∷ (durable, done) ∷ []
+checkpoint_events =
+    (cut, done) ∷ (roll_close, done) ∷ (roll_head, done) ∷ (roll_open, done) ∷ (image_close, done) ∷ (piece, done) ∷
+    (finish, done) ∷ (durable, done) ∷ []
 
 abbrev checkpointing : ℕ → ℕ → Bool → List Receipt → World
 checkpointing rolled imaged finished receipts =
-    record (first_world 1 0) { checkpoint = Some (record { rolled = rolled; imaged = imaged; pieces = 1; finished = finished }); receipts = receipts }
+    record (first_world 1 0) {
+      checkpoint = Some
+          (record { rolled = rolled; imaged = imaged; pieces = 1; finished = finished });
+      receipts = receipts;
+    }
 
 opening-cut : checkpointing 0 0 false [] ≡ after_cut (first_world 0 0) opening_state
-opening-cut = ap (λ (encoding : List ℕ). record (first_world 1 0) { checkpoint = Some (record { rolled = 0; imaged = 0; pieces = pieces_of encoding; finished = false }) }) (sym opening-image)
+opening-cut =
+    ap (λ (encoding : List ℕ). record (first_world 1 0)
+    { checkpoint = Some (record { rolled = 0; imaged = 0; pieces = pieces_of encoding; finished = false }) })
+    (sym opening-image)
 
 pub checkpoint-leaves : Worlds opening_state (first_world 0 0) checkpoint_events (first_world 1 0)
 checkpoint-leaves = (
@@ -168,7 +199,15 @@ checkpoint-leaves = (
         (
           checkpointing 3 1 false [],
           (refl, refl, refl),
-          (checkpointing 3 2 false [], (refl, (omega arith, omega arith), refl), (checkpointing 3 2 true (of_finish ∷ []), (refl, (refl, refl, refl), refl), (first_world 1 0, (refl, omega arith, refl), refl))),
+          (
+            checkpointing 3 2 false [],
+            (refl, (omega arith, omega arith), refl),
+            (
+              checkpointing 3 2 true (of_finish ∷ []),
+              (refl, (refl, refl, refl), refl),
+              (first_world 1 0, (refl, omega arith, refl), refl),
+            ),
+          ),
         ),
       ),
     ),
@@ -191,20 +230,25 @@ abbrev pub full_world : World
 full_world = first_world 0 65536
 
 pub full-answer : After opening_state full_world (submit 1 allocation) epoch_full full_world
-full-answer = (refl, tt, ((omega arith, reply.Allocate 0x100, (opening_state, one_allocated, refl, allocate-step), refl), refl))
+full-answer =
+    (refl, tt, ((omega arith, reply.Allocate 0x100, (opening_state, one_allocated, refl, allocate-step), refl), refl))
 
-pub full-no_ticket : (new : World) → After opening_state full_world (submit 1 allocation) (given (reply.Allocate 0x100)) new → ⊥
+pub full-no_ticket : (new : World)
+    → After opening_state full_world (submit 1 allocation) (given (reply.Allocate 0x100)) new → ⊥
 full-no_ticket new after = let below : 65536 < 65536 = after.2.0.1 refl in absurd (omega (arith, below))
 
 pub full-emptied : log_length (after_cut full_world opening_state) ≡ 0
 full-emptied = refl
 
 -- in a new store a name has no type, and this is the only possible answer
-unknown-acts : (answer : Reply) (acted : State) (effects : List Effect) → ActsFrom opening_state 1 (finmap.get opening_state.spaces 1) (call.Type 0x200) answer acted effects → answer ≡ reply.Refused 2 InvalidName
+unknown-acts : (answer : Reply) (acted : State) (effects : List Effect)
+    → ActsFrom opening_state 1 (finmap.get opening_state.spaces 1) (call.Type 0x200) answer acted effects
+    → answer ≡ reply.Refused 2 InvalidName
 unfolding Done tests_of
 unknown-acts answer acted effects = simp rows (λ (acts : _). acts.0)
 
-pub unknown-refused : (answer : Reply) (new : State) → Step opening_state 1 (call.Type 0x200) answer new → answer ≡ reply.Refused 2 InvalidName
+pub unknown-refused : (answer : Reply) (new : State) → Step opening_state 1 (call.Type 0x200) answer new
+    → answer ≡ reply.Refused 2 InvalidName
 unfolding Step
 unknown-refused answer new step = unknown-acts answer step.0 step.1 step.2
 
@@ -212,7 +256,8 @@ pub unknown-answer : Answer opening_state 1 (call.Type 0x200) (reply.Refused 2 I
 unfolding Step Done tests_of
 unknown-answer = (opening_state, [], simp rows (refl, refl, refl), settled)
 
-pub full-read : After opening_state full_world (submit 1 (call.Type 0x200)) (given (reply.Refused 2 InvalidName)) (after_submit full_world 1 (call.Type 0x200) (reply.Refused 2 InvalidName))
+pub full-read : After opening_state full_world (submit 1 (call.Type 0x200)) (given (reply.Refused 2 InvalidName))
+    (after_submit full_world 1 (call.Type 0x200) (reply.Refused 2 InvalidName))
 full-read = (refl, tt, (((opening_state, opening_state, refl, unknown-answer), (λ (has : _). absurd (cc has))), refl))
 
 -- the epoch isn't full while its log has room, nor for a call without a record
@@ -246,15 +291,26 @@ pub failed-done : (new : World) → After opening_state failed_world append done
 failed-done new after = absurd (cc after.0)
 
 -- then no receipt is out, and no reply can be given
-pub fault-goes_on : Worlds opening_state two_taken ((append, store fault.device) ∷ (append, store fault.failed) ∷ (durable, not_now) ∷ (ask_reply 0, not_now) ∷ []) failed_world
+pub fault-goes_on : Worlds opening_state two_taken
+    ((append, store fault.device) ∷ (append, store fault.failed) ∷ (durable, not_now) ∷ (ask_reply 0, not_now) ∷ [])
+    failed_world
 fault-goes_on = (
   failed_world,
   fault-changes,
-  (failed_world, failed-append, (failed_world, (refl, (λ (possible : _). absurd (omega (arith, possible))), refl), (failed_world, (refl, (λ (possible : _). absurd (omega (arith, possible.1))), refl), refl))),
+  (
+    failed_world,
+    failed-append,
+    (
+      failed_world,
+      (refl, (λ (possible : _). absurd (omega (arith, possible))), refl),
+      (failed_world, (refl, (λ (possible : _). absurd (omega (arith, possible.1))), refl), refl),
+    ),
+  ),
 )
 
 -- a call is given its ticket as ever
-pub failed-submit : After opening_state (record (first_world 0 0) { failed = true }) (submit 1 allocation) (given (reply.Allocate 0x100)) (record one_submitted { failed = true })
+pub failed-submit : After opening_state (record (first_world 0 0) { failed = true }) (submit 1 allocation)
+    (given (reply.Allocate 0x100)) (record one_submitted { failed = true })
 failed-submit = (refl, tt, (((opening_state, one_allocated, refl, allocate-step), (λ (_ : _). omega arith)), refl))
 
 -- an event that isn't of the store goes on, and doesn't fail
@@ -275,24 +331,36 @@ roll-takes_none world new after = absurd (cc after.2.0)
 -- Lists of events that can't happen.
 
 -- the reply before the append
-pub reply_before_append : (answer : Reply) (new : World) → Worlds opening_state (first_world 0 0) ((submit 1 allocation, given (reply.Allocate 0x100)) ∷ (take_batch, done) ∷ (ask_reply 0, replied answer) ∷ []) new → ⊥
+pub reply_before_append : (answer : Reply) (new : World)
+    → Worlds opening_state (first_world 0 0)
+    ((submit 1 allocation, given (reply.Allocate 0x100)) ∷ (take_batch, done) ∷ (ask_reply 0, replied answer) ∷ [])
+    new → ⊥
 reply_before_append answer new (one, submitted, (two, taken, (three, asked, end))) =
     let world : two ≡ after_take one_submitted = taken.2 ∙ ap after_take submitted.2.1 in
-    let early : IsPossible (after_take one_submitted) (ask_reply 0) = subst (λ (w : World). IsPossible w (ask_reply 0)) world asked.1 in
+    let early : IsPossible (after_take one_submitted) (ask_reply 0) =
+    subst (λ (w : World). IsPossible w (ask_reply 0)) world asked.1 in
     absurd (omega (arith, early.1))
 
 -- what comes after the two calls begins where both are durable
-after_two : (events : List (Event × Outcome)) (new : World) → Worlds opening_state (first_world 0 0) (two_calls ++ events) new → Worlds opening_state two_durable events new
+after_two : (events : List (Event × Outcome)) (new : World)
+    → Worlds opening_state (first_world 0 0) (two_calls ++ events) new → Worlds opening_state two_durable events new
 after_two events new (one, first, (two, second, (three, taken, (four, appended, (five, handed, rest))))) =
-    let submitted : two ≡ two_submitted = second.2.1 ∙ ap (λ (w : World). after_submit w 1 allocation (reply.Allocate 0x101)) first.2.1 in
-    let stored : four ≡ two_appended = appended.2 ∙ ap (λ (w : World). after_append w w.batch) (taken.2 ∙ ap after_take submitted) in
-    subst (λ (w : World). Worlds opening_state w events new) (handed.2 ∙ ap (λ (w : World). after_durable w w.receipts) stored) rest
+    let submitted : two ≡ two_submitted =
+    second.2.1 ∙ ap (λ (w : World). after_submit w 1 allocation (reply.Allocate 0x101)) first.2.1 in
+    let stored : four ≡ two_appended =
+    appended.2 ∙ ap (λ (w : World). after_append w w.batch) (taken.2 ∙ ap after_take submitted) in
+    subst (λ (w : World). Worlds opening_state w events new)
+    (handed.2 ∙ ap (λ (w : World). after_durable w w.receipts) stored) rest
 
 -- the ticket answered twice
-pub answered_twice : (answer again : Reply) (new : World) → Worlds opening_state (first_world 0 0) (two_calls ++ (ask_reply 0, replied answer) ∷ (ask_reply 0, replied again) ∷ []) new → ⊥
+pub answered_twice : (answer again : Reply) (new : World)
+    → Worlds opening_state (first_world 0 0)
+    (two_calls ++ (ask_reply 0, replied answer) ∷ (ask_reply 0, replied again) ∷ []) new → ⊥
 answered_twice answer again new worlds =
-    let (one, first, (two, second, end)) = after_two ((ask_reply 0, replied answer) ∷ (ask_reply 0, replied again) ∷ []) new worlds in
-    let kept : IsPossible (record two_durable { tickets = with_answered two_durable.tickets 0 }) (ask_reply 0) = subst (λ (w : World). IsPossible w (ask_reply 0)) first.2.3 second.1 in
+    let (one, first, (two, second, end)) =
+    after_two ((ask_reply 0, replied answer) ∷ (ask_reply 0, replied again) ∷ []) new worlds in
+    let kept : IsPossible (record two_durable { tickets = with_answered two_durable.tickets 0 }) (ask_reply 0) =
+    subst (λ (w : World). IsPossible w (ask_reply 0)) first.2.3 second.1 in
     absurd (cc kept.0)
 
 -- a reply other than the ticket's
@@ -300,28 +368,38 @@ abbrev name_given : Reply → ℕ
 name_given (reply.Allocate name) = name
 name_given answer = 0
 
-pub other_reply : (new : World) → Worlds opening_state (first_world 0 0) (two_calls ++ (ask_reply 0, replied (reply.Allocate 0x101)) ∷ []) new → ⊥
+pub other_reply : (new : World)
+    → Worlds opening_state (first_world 0 0) (two_calls ++ (ask_reply 0, replied (reply.Allocate 0x101)) ∷ []) new → ⊥
 other_reply new worlds =
     let (one, asked, end) = after_two ((ask_reply 0, replied (reply.Allocate 0x101)) ∷ []) new worlds in
-    let kept : reply.Allocate 0x100 ≡ asked.2.0.answer = ap (λ (o : Option Ticket). elim o as (λ _. Reply) [ None ↦ reply.Allocate 0x100 | Some ticket ↦ ticket.answer ]) asked.2.1 in
+    let kept : reply.Allocate 0x100 ≡ asked.2.0.answer =
+    ap (λ (o : Option Ticket). elim o as (λ _. Reply) [ None ↦ reply.Allocate 0x100 | Some ticket ↦ ticket.answer ])
+    asked.2.1 in
     let names : 0x100 ≡ 0x101 = ap {B = ℕ} name_given (kept ∙ asked.2.2) in
     absurd (omega (arith, names))
 
 -- "not now" where a batch can be taken
-pub take_not_now : (new : World) → Worlds opening_state (first_world 0 0) ((submit 1 allocation, given (reply.Allocate 0x100)) ∷ (take_batch, not_now) ∷ []) new → ⊥
+pub take_not_now : (new : World)
+    → Worlds opening_state (first_world 0 0)
+    ((submit 1 allocation, given (reply.Allocate 0x100)) ∷ (take_batch, not_now) ∷ []) new → ⊥
 take_not_now new (one, submitted, (two, later, end)) =
-    let can : IsPossible one take_batch = subst (λ (w : World). IsPossible w take_batch) (sym submitted.2.1) (omega arith, refl) in
+    let can : IsPossible one take_batch =
+    subst (λ (w : World). IsPossible w take_batch) (sym submitted.2.1) (omega arith, refl) in
     later.1 can
 
 -- an invented reply, and an invented refusal
-pub invented_reply : (new : World) → Worlds opening_state (first_world 0 0) ((submit 1 (call.Type 0x200), given (reply.Type 0x20000)) ∷ []) new → ⊥
+pub invented_reply : (new : World)
+    → Worlds opening_state (first_world 0 0) ((submit 1 (call.Type 0x200), given (reply.Type 0x20000)) ∷ []) new → ⊥
 invented_reply new (one, submitted, end) =
     let step = submitted.2.0.0 in
-    let from_start : Step opening_state 1 (call.Type 0x200) (reply.Type 0x20000) step.1 = subst (λ (s : State). Step s 1 (call.Type 0x200) (reply.Type 0x20000) step.1) step.2 step.3 in
+    let from_start : Step opening_state 1 (call.Type 0x200) (reply.Type 0x20000) step.1 =
+    subst (λ (s : State). Step s 1 (call.Type 0x200) (reply.Type 0x20000) step.1) step.2 step.3 in
     absurd (cc (unknown-refused (reply.Type 0x20000) step.1 from_start))
 
 -- a new store doesn't refuse an allocation
-allocation-acts : (acted : State) (effects : List Effect) → ActsFrom opening_state 1 (finmap.get opening_state.spaces 1) allocation (reply.Refused 5 NoSpace) acted effects → ⊥
+allocation-acts : (acted : State) (effects : List Effect)
+    → ActsFrom opening_state 1 (finmap.get opening_state.spaces 1) allocation (reply.Refused 5 NoSpace) acted effects
+    → ⊥
 unfolding Done tests_of
 allocation-acts acted effects = simp rows (λ (acts : _). absurd (cc acts.2))
 
@@ -329,7 +407,9 @@ pub allocation-granted : (new : State) → Step opening_state 1 allocation (repl
 unfolding Step
 allocation-granted new step = allocation-acts step.0 step.1 step.2
 
-pub invented_refusal : (new : World) → Worlds opening_state (first_world 0 0) ((submit 1 allocation, given (reply.Refused 5 NoSpace)) ∷ []) new → ⊥
+pub invented_refusal : (new : World)
+    → Worlds opening_state (first_world 0 0) ((submit 1 allocation, given (reply.Refused 5 NoSpace)) ∷ []) new → ⊥
 invented_refusal new (one, submitted, end) =
     let step = submitted.2.0.0 in
-    allocation-granted step.1 (subst (λ (s : State). Step s 1 allocation (reply.Refused 5 NoSpace) step.1) step.2 step.3)
+    allocation-granted step.1 (subst
+    (λ (s : State). Step s 1 allocation (reply.Refused 5 NoSpace) step.1) step.2 step.3)

@@ -19,5 +19,8 @@ module _ (state : State) (space : ℕ) (names : Names) where
   pub names_added : names_in (with_names state space names) space ≡ names
   names_added = ap or_empty added_there
 
-  pub added_again : (others : Names) → with_names (with_names state space names) space others ≡ with_names state space others
-  added_again others = ap (λ (spaces : FinMap nat_cmp Names). record state { spaces = spaces }) (insert-insert state.spaces space names others)
+  pub added_again : (others : Names)
+      → with_names (with_names state space names) space others ≡ with_names state space others
+  added_again others =
+      ap (λ (spaces : FinMap nat_cmp Names). record state { spaces = spaces })
+      (insert-insert state.spaces space names others)

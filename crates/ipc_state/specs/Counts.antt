@@ -14,6 +14,10 @@ count_weighs test [] = refl
 count_weighs test (x ∷ xs) = sum_by-cons (λ y. cond (test y) 1 0) x xs ∙ omega (arith, count_weighs test xs)
 
 -- those that names hold or have as targets, and those that ports carry or have as targets
-pub counted_apart : (wanted : RightKind) (state : State) (serial : ℕ) → total (λ space names. names_weigh (right_weight wanted serial) names) state.spaces + total (port_weigh (right_weight wanted serial)) state.ports ≡ count_of wanted state serial
+pub counted_apart : (wanted : RightKind) (state : State) (serial : ℕ)
+    → total (λ space names. names_weigh (right_weight wanted serial) names) state.spaces + total
+    (port_weigh (right_weight wanted serial)) state.ports ≡ count_of wanted state serial
 unfolding state_weigh
-counted_apart wanted state serial = sym (count_weighs (λ (r : Right). same_kind r.kind wanted && r.port == serial) (placed state) ∙ weigh-placed (right_weight wanted serial) state)
+counted_apart wanted state serial =
+    sym (count_weighs (λ (r : Right). same_kind r.kind wanted && r.port == serial) (placed state)
+    ∙ weigh-placed (right_weight wanted serial) state)

@@ -1,3 +1,21 @@
 -- What the crates above use of the libraries below, so that they name only one of them.
-pub use Rattle.ports.specs.Passed.{IsNextPort, PortNumbers, lives_in, messages_at, messages_in, numbers_of, seen_message, seen_right, with_numbers}
-pub use Rattle.spaces.specs.Passed.{AreFewReferences, IsNextEntry, entries_from, from_end, from_first, from_next, under_other_name}
+pub use Rattle.ports.specs.Passed.{
+  IsNextPort,
+  PortNumbers,
+  lives_in,
+  messages_at,
+  messages_in,
+  numbers_of,
+  seen_message,
+  seen_right,
+  with_numbers,
+}
+pub use Rattle.spaces.specs.Passed.{
+  AreFewReferences,
+  IsNextEntry,
+  entries_from,
+  from_end,
+  from_first,
+  from_next,
+  under_other_name,
+}

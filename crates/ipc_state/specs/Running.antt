@@ -10,7 +10,9 @@ pub record Running : Type 0 where
   pub current : State
 
 abbrev pub running_code : Coded Running
-running_code = code_by (State × State) (coded× state_code state_code) (λ r. (r.before, r.current)) (λ p. record { before = p.0; current = p.1 }) (λ _. refl)
+running_code =
+    code_by (State × State) (coded× state_code state_code) (λ r. (r.before, r.current))
+    (λ p. record { before = p.0; current = p.1 }) (λ _. refl)
 
 -- a state without changes to commit or roll back
 abbrev pub at_rest : State → Running

@@ -15,26 +15,31 @@ abbrev changed_to : State → ℕ → (Names → Names) → Option Names → Sta
 changed_to state space change None = state
 changed_to state space change (Some names) = with_names state space (change names)
 
-is_there : (state : State) (space : ℕ) (change : Names → Names) (o : Option Names) → IsSome o → changed_to state space change o ≡ with_names state space (change (or_empty o))
+is_there : (state : State) (space : ℕ) (change : Names → Names) (o : Option Names) → IsSome o
+    → changed_to state space change o ≡ with_names state space (change (or_empty o))
 is_there state space change None there = absurd (cc there)
 is_there state space change (Some names) there = refl
 
 module _ (state : State) (space : ℕ) (there : IsSome (finmap.get state.spaces space)) where
-  pub changed_there : (change : Names → Names) → with_changed state space change ≡ with_names state space (change (names_in state space))
+  pub changed_there : (change : Names → Names)
+      → with_changed state space change ≡ with_names state space (change (names_in state space))
   changed_there change = is_there state space change (finmap.get state.spaces space) there
 
   -- a name that is put
-  pub entry_put : (name : ℕ) (entry : Entry) → with_entry state space name entry ≡ with_names state space (finmap.insert (names_in state space) name entry)
+  pub entry_put : (name : ℕ) (entry : Entry)
+      → with_entry state space name entry ≡ with_names state space (finmap.insert (names_in state space) name entry)
   entry_put name entry = changed_there (λ (names : Names). finmap.insert names name entry)
 
   -- a name that goes
-  pub name_gone : (name : ℕ) → without_name state space name ≡ with_names state space (finmap.remove (names_in state space) name)
+  pub name_gone : (name : ℕ) → without_name state space name
+      ≡ with_names state space (finmap.remove (names_in state space) name)
   name_gone name = changed_there (λ (names : Names). finmap.remove names name)
 
 -- what stands under a name, whether its space exists or not
 pub entry_named : (state : State) (space name : ℕ) → entry_at state space name ≡ finmap.get (names_in state space) name
 entry_named state space name = go (finmap.get state.spaces space)
   where
-    go : (o : Option Names) → option_and_then (λ (names : Names). finmap.get names name) o ≡ finmap.get (or_empty o) name
+    go : (o : Option Names) → option_and_then (λ (names : Names). finmap.get names name) o
+        ≡ finmap.get (or_empty o) name
     go None = sym (finmap.get-empty nat_cmp name)
     go (Some names) = refl

@@ -13,7 +13,8 @@ use Rattle.waiting.specs.Waiting.{IsQuiet, occupancy}
 
 -- a port lives if it lived, holds as many messages as before, with the same limit, and is in the same set
 abbrev pub same_occupancy : Ports → Ports → ℕ → Type 0
-same_occupancy before current serial = option_map occupancy (finmap.get current serial) ≡ option_map occupancy (finmap.get before serial)
+same_occupancy before current serial =
+    option_map occupancy (finmap.get current serial) ≡ option_map occupancy (finmap.get before serial)
 
 -- a name is named, and so is the set of the port whose receive right it holds
 pub record IsSetListed (named : ℕ → Bool) (spaces : SpaceMap) (ports : Ports) (number : ℕ) : Type 0 where
@@ -32,6 +33,8 @@ is_full_in ports serial = is_full (record { spaces = finmap.empty; ports = ports
 -- a port is named if a send may find room there, and so are the places of its receives if one may find something
 pub record IsPortListed (named : ℕ → Bool) (spaces : SpaceMap) (ports : Ports) (serial : ℕ) : Type 0 where
   pub room : (is_full_in ports serial ≡ true) ⊎ (named (place_of_port serial) ≡ true)
-  pub alone : (number : ℕ) (port : PortState) → number < 2 ^ 64 → at_place received_port spaces number ≡ Some serial → finmap.get ports serial ≡ Some port → IsQuiet port ⊎ (named number ≡ true)
-  pub sets : (number set : ℕ) (port : PortState) → number < 2 ^ 64 → at_place received_port spaces number ≡ Some serial → finmap.get ports serial ≡ Some port → port.set ≡ Some set
+  pub alone : (number : ℕ) (port : PortState) → number < 2 ^ 64 → at_place received_port spaces number ≡ Some serial
+      → finmap.get ports serial ≡ Some port → IsQuiet port ⊎ (named number ≡ true)
+  pub sets : (number set : ℕ) (port : PortState) → number < 2 ^ 64 → at_place received_port spaces number ≡ Some serial
+      → finmap.get ports serial ≡ Some port → port.set ≡ Some set
       → (port.messages ≡ []) ⊎ (named (place (number / 2 ^ 32) set) ≡ true)

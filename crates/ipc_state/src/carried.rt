@@ -49,7 +49,8 @@ impl IpcState {
 
     /// Adds the releases of the rights of a port's messages, oldest message first.
     pub fn releases(&self, serial: u64, effects: &mut Effects) -> Result<(), AllocError>
-        ensures { OnOk result (effects.new ≡ effects.old ++ flat_map releases_of (messages_at self.now.current.ports serial)) }
+        ensures { OnOk result (effects.new ≡ effects.old
+            ++ flat_map releases_of (messages_at self.now.current.ports serial)) }
     {
         for index in 0..self.message_count(serial) {
             if let Some(message) = self.ports.message_as_sent(serial, index) {
@@ -76,7 +77,8 @@ impl IpcState {
     /// Adds the releases of the reply right and the body rights of a port's oldest message, if it has one, in this
     /// order.
     pub fn release_oldest(&self, serial: u64, effects: &mut Effects) -> Result<(), AllocError>
-        ensures { OnOk result (effects.new ≡ effects.old ++ flat_map releases_of (take 1 (messages_at self.now.current.ports serial))) }
+        ensures { OnOk result (effects.new ≡ effects.old
+            ++ flat_map releases_of (take 1 (messages_at self.now.current.ports serial))) }
     {
         release_oldest_in(&self.ports, serial, effects)
     }
@@ -108,7 +110,8 @@ fn oldest_in(ports: &Ports, serial: u64) -> Option<&Message>
 
 /// Adds the releases of a port's oldest message, if it has one.
 fn release_oldest_in(ports: &Ports, serial: u64, effects: &mut Effects) -> Result<(), AllocError>
-    ensures { OnOk result (effects.new ≡ effects.old ++ flat_map releases_of (take 1 (messages_at ports.now.current.ports serial))) }
+    ensures { OnOk result (effects.new ≡ effects.old
+        ++ flat_map releases_of (take 1 (messages_at ports.now.current.ports serial))) }
 {
     let Some(message) = oldest_in(ports, serial) else {
         return Ok(());
@@ -119,7 +122,11 @@ fn release_oldest_in(ports: &Ports, serial: u64, effects: &mut Effects) -> Resul
 
 /// Takes the oldest message of a live port, and increments its sequence number.
 fn take_and_count(ports: &mut Ports, serial: u64) -> Result<(), AllocError>
-    ensures ok { OnOk result (ports.new ≡ record ports.old { current = record ports.old.current { ports = changed ports.old.current.ports serial oldest_gone } }) }
+    ensures ok { OnOk result (ports.new
+        ≡ record ports.old {
+          current = record ports.old.current
+              { ports = changed ports.old.current.ports serial oldest_gone };
+        }) }
     ensures before { ports.new.before ≡ ports.old.before }
 {
     let Some(numbers) = ports.numbers(serial) else {
@@ -150,7 +157,8 @@ fn next_number(number: u32) -> u32
 /// Adds the releases of a message's reply right and body rights whose ports still live.
 #[tactic(auto, using(crate::proofs::Releasing::released_all))]
 fn release(ports: &Ports, message: &Message, effects: &mut Effects) -> Result<(), AllocError>
-    ensures { OnOk result (effects.new ≡ effects.old ++ releases_of (seen_message (lives_in ports.now.current.ports) message.now)) }
+    ensures { OnOk result (effects.new ≡ effects.old
+        ++ releases_of (seen_message (lives_in ports.now.current.ports) message.now)) }
 {
     release_reply(ports, message.reply, effects)?;
     release_rights(ports, message.rights.as_slice(), effects)?;
@@ -162,7 +170,8 @@ fn release_reply(
     reply: Option<CarriedRight>,
     effects: &mut Effects,
 ) -> Result<(), AllocError>
-    ensures { OnOk result (effects.new ≡ effects.old ++ release_of_reply (option_map (seen_right (lives_in ports.now.current.ports)) reply)) }
+    ensures { OnOk result (effects.new ≡ effects.old
+        ++ release_of_reply (option_map (seen_right (lives_in ports.now.current.ports)) reply)) }
 {
     match reply {
         Some(reply) => effects.release(ports.seen(reply)),
@@ -175,7 +184,8 @@ fn release_rights(
     rights: &[CarriedRight],
     effects: &mut Effects,
 ) -> Result<(), AllocError>
-    ensures { OnOk result (effects.new ≡ effects.old ++ flat_map (λ r. release_of (seen_right (lives_in ports.now.current.ports) r)) rights.now) }
+    ensures { OnOk result (effects.new ≡ effects.old ++ flat_map
+        (λ r. release_of (seen_right (lives_in ports.now.current.ports) r)) rights.now) }
 {
     for right in rights {
         effects.release(ports.seen(*right))?;

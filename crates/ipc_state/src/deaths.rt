@@ -28,7 +28,8 @@ impl IpcState {
 
     /// A port leaves its set. If an allocation fails, the changes are rolled back.
     fn leave_set(&mut self, serial: u64) -> Result<(), AllocError>
-        ensures ok { OnOk result (self.new ≡ record self.old { current = with_port self.old.current serial (λ port. record port { set = None }) }) }
+        ensures ok { OnOk result (self.new
+            ≡ record self.old { current = with_port self.old.current serial (λ port. record port { set = None }) }) }
         ensures err { OnErr result (self.new ≡ at_rest self.old.before) }
     {
         let Some(numbers) = self.numbers(serial) else {
@@ -66,13 +67,17 @@ fn bury_in_both(
     serial: u64,
     effects: &mut Effects,
 ) -> Result<(), AllocError>
-    ensures spaces { OnOk result (spaces.new ≡ record spaces.old { current = map_values (map_values (entry_after_death serial)) spaces.old.current }) }
+    ensures spaces { OnOk result (spaces.new
+        ≡ record spaces.old { current = map_values (map_values (entry_after_death serial)) spaces.old.current }) }
     ensures ports { OnOk result (ports.new ≡ record ports.old {
       current = record ports.old.current {
         ports = map_values (port_after_death serial) (map.remove ports.old.current.ports serial);
       };
     }) }
-    ensures notified { OnOk result (effects.new ≡ effects.old ++ flat_map (λ s. flat_map (λ e. dead_name_of_entry serial e.0 e.1) (map.entries s.1)) (map.entries spaces.old.current)) }
+    ensures notified { OnOk result
+        (effects.new ≡ effects.old ++ flat_map
+        (λ s. flat_map (λ e. dead_name_of_entry serial e.0 e.1) (map.entries s.1))
+        (map.entries spaces.old.current)) }
     ensures before { spaces.new.before ≡ spaces.old.before }
     ensures ports_before { ports.new.before ≡ ports.old.before }
 {

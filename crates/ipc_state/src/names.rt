@@ -85,9 +85,11 @@ impl IpcState {
     /// Makes a name of a space stand for this, if the space exists. If an allocation fails, the changes are rolled
     /// back.
     pub fn put_name(&mut self, space: u32, name: u32, entry: Entry) -> Result<(), AllocError>
-        requires room { entry_at self.old.current space name ≡ None → map.len (names_in self.old.current space) < MAX_NAMES }
+        requires room { entry_at self.old.current space name ≡ None
+            → map.len (names_in self.old.current space) < MAX_NAMES }
         requires few { AreFewReferences entry }
-        ensures ok { OnOk result (self.new ≡ record self.old { current = with_entry self.old.current space name entry }) }
+        ensures ok { OnOk result (self.new
+            ≡ record self.old { current = with_entry self.old.current space name entry }) }
         ensures err { OnErr result (self.new ≡ at_rest self.old.before) }
     {
         if !self.spaces.contains(space) {
@@ -140,7 +142,11 @@ impl IpcState {
     /// changes are rolled back.
     pub fn rename(&mut self, space: u32, from: u32, to: u32) -> Result<(), AllocError>
         requires unused { entry_at self.old.current space to ≡ None }
-        ensures ok { OnOk result (self.new ≡ record self.old { current = with_changed self.old.current space (λ names. under_other_name names from to) }) }
+        ensures ok { OnOk result (self.new
+            ≡ record self.old {
+              current = with_changed self.old.current space
+                  (λ names. under_other_name names from to);
+            }) }
         ensures err { OnErr result (self.new ≡ at_rest self.old.before) }
     {
         match rename_in_both(
@@ -183,10 +189,20 @@ fn put_in_both(
     name: u32,
     entry: Entry,
 ) -> Result<(), AllocError>
-    requires room { (names : Names) → map.get spaces.old.current space ≡ Some names → map.get names name ≡ None → map.len names < MAX_NAMES }
+    requires room { (names : Names) → map.get spaces.old.current space ≡ Some names → map.get names name ≡ None
+        → map.len names < MAX_NAMES }
     requires few { AreFewReferences entry }
-    ensures spaces { OnOk result (spaces.new ≡ record spaces.old { current = names_changed spaces.old.current space (λ names. map.insert names name entry) }) }
-    ensures members { OnOk result (members.new ≡ record members.old { current = moved members.old.current (place space name) (set_place_of ports.now.current.ports space (entry_in spaces.old.current space name)) (set_place_of ports.now.current.ports space (Some entry)) }) }
+    ensures spaces { OnOk result (spaces.new
+        ≡ record spaces.old {
+          current = names_changed spaces.old.current space
+              (λ names. map.insert names name entry);
+        }) }
+    ensures members { OnOk result (members.new
+        ≡ record members.old {
+          current = moved members.old.current (place space name)
+              (set_place_of ports.now.current.ports space (entry_in spaces.old.current space name))
+              (set_place_of ports.now.current.ports space (Some entry));
+        }) }
     ensures before { spaces.new.before ≡ spaces.old.before }
     ensures members_before { members.new.before ≡ members.old.before }
 {
@@ -203,8 +219,14 @@ fn remove_from_both(
     space: u32,
     name: u32,
 ) -> Result<(), AllocError>
-    ensures spaces { OnOk result (spaces.new ≡ record spaces.old { current = names_changed spaces.old.current space (λ names. map.remove names name) }) }
-    ensures members { OnOk result (members.new ≡ record members.old { current = moved members.old.current (place space name) (set_place_of ports.now.current.ports space (entry_in spaces.old.current space name)) (set_place_of ports.now.current.ports space None) }) }
+    ensures spaces { OnOk result (spaces.new
+        ≡ record spaces.old { current = names_changed spaces.old.current space (λ names. map.remove names name) }) }
+    ensures members { OnOk result (members.new
+        ≡ record members.old {
+          current = moved members.old.current (place space name)
+              (set_place_of ports.now.current.ports space (entry_in spaces.old.current space name))
+              (set_place_of ports.now.current.ports space None);
+        }) }
     ensures before { spaces.new.before ≡ spaces.old.before }
     ensures members_before { members.new.before ≡ members.old.before }
 {
@@ -220,8 +242,13 @@ fn rename_in_both(
     names: (u32, u32),
 ) -> Result<(), AllocError>
     requires unused { entry_in spaces.old.current space names.1 ≡ None }
-    ensures spaces { OnOk result (spaces.new ≡ record spaces.old { current = names_changed spaces.old.current space (λ n. under_other_name n names.0 names.1) }) }
-    ensures members { OnOk result (ArePlacesRenamed ports.now.current.ports members.old members.new space names.0 names.1 (entry_in spaces.old.current space names.0)) }
+    ensures spaces { OnOk result (spaces.new
+        ≡ record spaces.old {
+          current = names_changed spaces.old.current space
+              (λ n. under_other_name n names.0 names.1);
+        }) }
+    ensures members { OnOk result (ArePlacesRenamed ports.now.current.ports members.old members.new space names.0
+        names.1 (entry_in spaces.old.current space names.0)) }
     ensures before { spaces.new.before ≡ spaces.old.before }
     ensures members_before { members.new.before ≡ members.old.before }
 {

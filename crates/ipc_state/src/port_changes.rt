@@ -83,7 +83,8 @@ impl IpcState {
 
     /// Changes what a live port has besides its queue. If an allocation fails, the changes are rolled back.
     pub fn set_numbers(&mut self, serial: u64, numbers: PortNumbers) -> Result<(), AllocError>
-        ensures ok { OnOk result (self.new ≡ record self.old { current = with_port self.old.current serial (with_numbers numbers) }) }
+        ensures ok { OnOk result (self.new
+            ≡ record self.old { current = with_port self.old.current serial (with_numbers numbers) }) }
         ensures err { OnErr result (self.new ≡ at_rest self.old.before) }
     {
         let Some(former) = self.ports.numbers(serial) else {
@@ -118,8 +119,13 @@ fn replace_numbers(
     numbers: PortNumbers,
 ) -> Result<(), AllocError>
     requires there { option_map numbers_of (map.get ports.old.current.ports serial) ≡ Some former }
-    ensures ports { OnOk result (ports.new ≡ record ports.old { current = record ports.old.current { ports = changed ports.old.current.ports serial (with_numbers numbers) } }) }
-    ensures members { OnOk result (AreMembers spaces.now.current ports.old.current.ports members.old.current → AreMembers spaces.now.current ports.new.current.ports members.new.current) }
+    ensures ports { OnOk result (ports.new
+        ≡ record ports.old {
+          current = record ports.old.current
+              { ports = changed ports.old.current.ports serial (with_numbers numbers) };
+        }) }
+    ensures members { OnOk result (AreMembers spaces.now.current ports.old.current.ports members.old.current
+        → AreMembers spaces.now.current ports.new.current.ports members.new.current) }
     ensures before { ports.new.before ≡ ports.old.before }
     ensures members_before { members.new.before ≡ members.old.before }
 {
@@ -136,8 +142,10 @@ fn move_places(
     former: Option<u32>,
     set: Option<u32>,
 ) -> Result<(), AllocError>
-    ensures ok { OnOk result ((before : PortMap) → (after : PortMap) → DifferAt serial before after → set_in before serial ≡ former → set_in after serial ≡ set
-        → AreMembers spaces.now.current before members.old.current → AreMembers spaces.now.current after members.new.current) }
+    ensures ok { OnOk result ((before : PortMap) → (after : PortMap) → DifferAt serial before after
+        → set_in before serial ≡ former → set_in after serial ≡ set
+        → AreMembers spaces.now.current before members.old.current
+        → AreMembers spaces.now.current after members.new.current) }
     ensures before { members.new.before ≡ members.old.before }
 {
     if former == set {
@@ -161,7 +169,11 @@ fn move_place(
     former: Option<u32>,
     set: Option<u32>,
 ) -> Result<(), AllocError>
-    ensures ok { OnOk result (members.new ≡ record members.old { current = moved members.old.current name (option_map (place (name / 2 ^ 32)) former) (option_map (place (name / 2 ^ 32)) set) }) }
+    ensures ok { OnOk result (members.new
+        ≡ record members.old {
+          current = moved members.old.current name (option_map (place (name / 2 ^ 32)) former)
+              (option_map (place (name / 2 ^ 32)) set);
+        }) }
     ensures before { members.new.before ≡ members.old.before }
 {
     let space = (name / (1 << 32)) as u32;

@@ -21,7 +21,8 @@ impl IpcState {
         space: u32,
         set: u32,
     ) -> Result<Vec<(u32, u64)>, AllocError>
-        ensures { IfOk result (λ members. members.items ≡ flat_map (member_under self.now.current set) (map.entries (names_in self.now.current space))) }
+        ensures { IfOk result (λ members. members.items
+            ≡ flat_map (member_under self.now.current set) (map.entries (names_in self.now.current space))) }
     {
         let mut members = Vec::new(alloc);
         let mut from: u64 = 0;
@@ -58,7 +59,8 @@ impl IpcState {
         name: u32,
         members: &mut Vec<(u32, u64)>,
     ) -> Result<(), AllocError>
-        ensures { OnOk result (members.new.items ≡ members.old.items ++ member_at self.now.current set name (entry_at self.now.current space name)) }
+        ensures { OnOk result (members.new.items ≡ members.old.items
+            ++ member_at self.now.current set name (entry_at self.now.current space name)) }
     {
         match self.member_port(set, self.entry(space, name)) {
             Some(port) => Ok(members.push((name, port))?),

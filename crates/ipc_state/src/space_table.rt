@@ -38,7 +38,8 @@ impl IpcState {
     pub fn add_space(&mut self, number: u32) -> Result<(), AllocError>
         requires unused { map.get self.old.current.spaces number ≡ None }
         requires room { map.len self.old.current.spaces < MAX_SPACES }
-        ensures ok { OnOk result (self.new ≡ record self.old { current = with_names self.old.current number map.empty }) }
+        ensures ok { OnOk result (self.new
+            ≡ record self.old { current = with_names self.old.current number map.empty }) }
         ensures err { OnErr result (self.new ≡ at_rest self.old.before) }
     {
         match self.spaces.add(number) {
@@ -53,7 +54,11 @@ impl IpcState {
 
     /// Removes a space with all its names, if it exists. If an allocation fails, the changes are rolled back.
     pub fn remove_space(&mut self, number: u32) -> Result<(), AllocError>
-        ensures ok { OnOk result (self.new ≡ record self.old { current = record self.old.current { spaces = map.remove self.old.current.spaces number } }) }
+        ensures ok { OnOk result (self.new
+            ≡ record self.old {
+              current = record self.old.current
+                  { spaces = map.remove self.old.current.spaces number };
+            }) }
         ensures err { OnErr result (self.new ≡ at_rest self.old.before) }
     {
         // Upward: a name that is gone leaves a mark, and a walk from the first name would pass over it again.
@@ -68,7 +73,11 @@ impl IpcState {
     /// Removes a space without names, if it exists. If an allocation fails, the changes are rolled back.
     fn close_space(&mut self, number: u32) -> Result<(), AllocError>
         requires empty { (names : Names) → map.get self.old.current.spaces number ≡ Some names → names ≡ map.empty }
-        ensures ok { OnOk result (self.new ≡ record self.old { current = record self.old.current { spaces = map.remove self.old.current.spaces number } }) }
+        ensures ok { OnOk result (self.new
+            ≡ record self.old {
+              current = record self.old.current
+                  { spaces = map.remove self.old.current.spaces number };
+            }) }
         ensures err { OnErr result (self.new ≡ at_rest self.old.before) }
     {
         match self.spaces.close(number) {

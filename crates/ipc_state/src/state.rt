@@ -43,7 +43,10 @@ impl Model for IpcState {
 
     ghost coded = { running_code };
 
-    ghost view = { λ s. record { before = state_of s.spaces.before s.ports.before; current = state_of s.spaces.current s.ports.current } };
+    ghost view = { λ s. record {
+      before = state_of s.spaces.before s.ports.before;
+      current = state_of s.spaces.current s.ports.current;
+    } };
 
     ghost invariant = { λ s.
         AreMembers s.spaces.before s.ports.before.ports s.members.before

@@ -101,7 +101,8 @@ fn name_receivers(
     places: &mut Places,
 )
     ensures kept { IsMore places.old places.new }
-    ensures listed { (number : ℕ) → number < 2 ^ 64 → is_number (at_place received_port spaces.now.current number) serial ≡ true
+    ensures listed { (number : ℕ) → number < 2 ^ 64
+        → is_number (at_place received_port spaces.now.current number) serial ≡ true
         → IsListedFor (names places.new) numbers.set has_messages number }
 {
     let mut at: u64 = 0;

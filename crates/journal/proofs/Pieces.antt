@@ -10,55 +10,74 @@ pub record IsFrontOf (most : ℕ) (front whole : List ℕ) : Type 0 where
   pub enough : (most ≤ length front) ⊎ (front ≡ whole)
 
 -- what the front begins with, the whole begins with
-pub whole_begins : (most : ℕ) (front whole encoding content : List ℕ) → IsFrontOf most front whole → front ≡ encoding ++ content → whole ≡ encoding ++ drop (length encoding) whole
+pub whole_begins : (most : ℕ) (front whole encoding content : List ℕ) → IsFrontOf most front whole
+    → front ≡ encoding ++ content → whole ≡ encoding ++ drop (length encoding) whole
 whole_begins most front whole encoding content is begins =
     let rest : List ℕ = drop (length front) whole in
-    let joined : whole ≡ encoding ++ (content ++ rest) = sym (take-append-drop (length front) whole) ∙ ap (λ l. l ++ rest) (sym is.shown ∙ begins) ∙ append_assoc encoding content rest in
-    let behind : drop (length encoding) whole ≡ content ++ rest = ap (drop (length encoding)) joined ∙ drop_at encoding (content ++ rest) (length encoding) refl in
+    let joined : whole ≡ encoding ++ (content ++ rest) =
+    sym (take-append-drop (length front) whole) ∙ ap (λ l. l ++ rest) (sym is.shown ∙ begins)
+    ∙ append_assoc encoding content rest in
+    let behind : drop (length encoding) whole ≡ content ++ rest =
+    ap (drop (length encoding)) joined ∙ drop_at encoding (content ++ rest) (length encoding) refl in
     joined ∙ ap (λ l. encoding ++ l) (sym behind)
 
 -- and after that comes the front of what is left
-pub front_after : (most less : ℕ) (front whole encoding content : List ℕ) → IsFrontOf most front whole → front ≡ encoding ++ content → most ≡ length encoding + less → IsFrontOf less content (drop (length encoding) whole)
+pub front_after : (most less : ℕ) (front whole encoding content : List ℕ) → IsFrontOf most front whole
+    → front ≡ encoding ++ content → most ≡ length encoding + less
+    → IsFrontOf less content (drop (length encoding) whole)
 front_after most less front whole encoding content is begins fits =
     let rest : List ℕ = drop (length front) whole in
-    let joined : whole ≡ encoding ++ (content ++ rest) = sym (take-append-drop (length front) whole) ∙ ap (λ l. l ++ rest) (sym is.shown ∙ begins) ∙ append_assoc encoding content rest in
-    let behind : drop (length encoding) whole ≡ content ++ rest = ap (drop (length encoding)) joined ∙ drop_at encoding (content ++ rest) (length encoding) refl in
+    let joined : whole ≡ encoding ++ (content ++ rest) =
+    sym (take-append-drop (length front) whole) ∙ ap (λ l. l ++ rest) (sym is.shown ∙ begins)
+    ∙ append_assoc encoding content rest in
+    let behind : drop (length encoding) whole ≡ content ++ rest =
+    ap (drop (length encoding)) joined ∙ drop_at encoding (content ++ rest) (length encoding) refl in
     let long : length front ≡ length encoding + length content = ap length begins ∙ length-append encoding content in
     record {
       shown = sym (take_at content rest (length content) refl) ∙ ap (take (length content)) (sym behind);
       enough = elim is.enough [
         | inl many ↦ inl (omega arith)
-        | inr all ↦ inr (sym (drop_at encoding content (length encoding) refl) ∙ ap (drop (length encoding)) (sym begins ∙ all))
+        | inr all ↦ inr (sym (drop_at encoding content (length encoding) refl)
+            ∙ ap (drop (length encoding)) (sym begins ∙ all))
       ];
     }
 
 -- what the whole begins with, the front begins with, if that isn't too long
-pub front_begins : (most : ℕ) (front whole encoding rest : List ℕ) → IsFrontOf most front whole → whole ≡ encoding ++ rest → length encoding ≤ most → front ≡ encoding ++ drop (length encoding) front
+pub front_begins : (most : ℕ) (front whole encoding rest : List ℕ) → IsFrontOf most front whole
+    → whole ≡ encoding ++ rest → length encoding ≤ most → front ≡ encoding ++ drop (length encoding) front
 front_begins most front whole encoding rest is begins fits = elim is.enough [
   | inl many ↦
       let first : take (length encoding) front ≡ encoding =
-      ap (take (length encoding)) is.shown ∙ take-take (length encoding) (length front) whole (omega arith) ∙ ap (take (length encoding)) begins ∙ take_at encoding rest (length encoding) refl in
+      ap (take (length encoding)) is.shown ∙ take-take (length encoding) (length front) whole (omega arith)
+      ∙ ap (take (length encoding)) begins ∙ take_at encoding rest (length encoding) refl in
       sym (take-append-drop (length encoding) front) ∙ ap (λ l. l ++ drop (length encoding) front) first
   | inr all ↦
       let same : front ≡ encoding ++ rest = all ∙ begins in
-      same ∙ ap (λ l. encoding ++ l) (sym (ap (drop (length encoding)) same ∙ drop_at encoding rest (length encoding) refl))
+      same ∙ ap (λ l. encoding ++ l)
+      (sym (ap (drop (length encoding)) same ∙ drop_at encoding rest (length encoding) refl))
 ]
 
 -- a full window shows a front of what stands from its place on
-pub window_front : (bytes : List ℕ) (window : WindowValue) → IsOver bytes window → IsFull window → IsFrontOf LONGEST_STEP window.front (drop window.at bytes)
+pub window_front : (bytes : List ℕ) (window : WindowValue) → IsOver bytes window → IsFull window
+    → IsFrontOf LONGEST_STEP window.front (drop window.at bytes)
 window_front bytes window over full = record {
   shown = over.shown;
   enough = elim full [
     | inl many ↦ inl many
-    | inr all ↦ inr (over.shown ∙ take_all (length window.front) (drop window.at bytes) (omega (arith, length-drop window.at bytes, over.ended)))
+    | inr all ↦ inr (over.shown ∙ take_all (length window.front) (drop window.at bytes)
+        (omega (arith, length-drop window.at bytes, over.ended)))
   ];
 }
 
 -- a window that moves on shows the same slot
-pub window_on : (bytes : List ℕ) (old new : WindowValue) (count : ℕ) → IsOver bytes old → count ≤ length old.front → new.at ≡ old.at + count → new.front ≡ drop count old.front → new.room ≡ old.room → new.end ≡ old.end → IsOver bytes new
+pub window_on : (bytes : List ℕ) (old new : WindowValue) (count : ℕ) → IsOver bytes old → count ≤ length old.front
+    → new.at ≡ old.at + count → new.front ≡ drop count old.front → new.room ≡ old.room → new.end ≡ old.end
+    → IsOver bytes new
 window_on bytes old new count over fits moved left room end =
-    let shorter : length new.front + count ≡ length old.front = omega (arith, ap length left, length-drop count old.front) in
-    let from : drop new.at bytes ≡ drop count (drop old.at bytes) = ap (λ n. drop n bytes) moved ∙ sym (drop-drop count old.at bytes) in
+    let shorter : length new.front + count ≡ length old.front =
+    omega (arith, ap length left, length-drop count old.front) in
+    let from : drop new.at bytes ≡ drop count (drop old.at bytes) =
+    ap (λ n. drop n bytes) moved ∙ sym (drop-drop count old.at bytes) in
     record {
       ended = end ∙ over.ended;
       inside = omega (arith, over.inside);
@@ -71,5 +90,7 @@ window_on bytes old new count over fits moved left room end =
 front_long : (from to : ℕ) (buffer : List ℕ) → to ≤ length buffer → length (drop from (take to buffer)) ≡ to - from
 front_long from to buffer fits = omega (arith, length-drop from (take to buffer), length-take to buffer)
 
-pub full_front : (from to : ℕ) (buffer : List ℕ) (window : WindowValue) → to ≤ length buffer → drop from (take to buffer) ≡ window.front → LONGEST_STEP ≤ to - from → LONGEST_STEP ≤ length window.front
-full_front from to buffer window fits is long = subst (λ n. LONGEST_STEP ≤ n) (sym (front_long from to buffer fits) ∙ ap length is) long
+pub full_front : (from to : ℕ) (buffer : List ℕ) (window : WindowValue) → to ≤ length buffer
+    → drop from (take to buffer) ≡ window.front → LONGEST_STEP ≤ to - from → LONGEST_STEP ≤ length window.front
+full_front from to buffer window fits is long =
+    subst (λ n. LONGEST_STEP ≤ n) (sym (front_long from to buffer fits) ∙ ap length is) long

@@ -24,9 +24,11 @@ abbrev pub head_encoding : ℕ → ℕ → List ℕ
 head_encoding count size = open_gate ∷ (word count ++ long_word size)
 
 length-head : (count size : ℕ) → length (head_encoding count size) ≡ 13
-length-head count size = omega (arith, length-append (word count) (long_word size), length-word count, length-long_word size)
+length-head count size =
+    omega (arith, length-append (word count) (long_word size), length-word count, length-long_word size)
 
-head_apart : (count size : ℕ) (content : List ℕ) → head_encoding count size ++ content ≡ open_gate ∷ (word count ++ (long_word size ++ content))
+head_apart : (count size : ℕ) (content : List ℕ)
+    → head_encoding count size ++ content ≡ open_gate ∷ (word count ++ (long_word size ++ content))
 head_apart count size content = ap (λ (l : List ℕ). open_gate ∷ l) (append_assoc (word count) (long_word size) content)
 
 -- the records after a batch's head, and the batches after them
@@ -40,35 +42,49 @@ pub record HasHead (n count size : ℕ) (content : List ℕ) (records : List Rec
   pub flat : records ≡ batch ++ all_records batches
 
 -- an open gate begins a batch
-head_of : (n count size : ℕ) (content tail : List ℕ) (batch records : List Record) (batches : List (List Record)) → length batch ≡ 0 → count < 2 ^ 32 → size < 2 ^ 64 → n + length records ≤ MAX_RECORDS → AreRecords records
-    → open_gate ∷ (word count ++ (long_word size ++ content)) ≡ records_encoding n batch ++ (batches_encoding (n + length batch) batches ++ tail) → IsClosed tail → NoneEmpty batches → records ≡ batch ++ all_records batches
+head_of : (n count size : ℕ) (content tail : List ℕ) (batch records : List Record) (batches : List (List Record))
+    → length batch ≡ 0 → count < 2 ^ 32 → size < 2 ^ 64 → n + length records ≤ MAX_RECORDS → AreRecords records
+    → open_gate ∷ (word count ++ (long_word size ++ content)) ≡ records_encoding n batch
+    ++ (batches_encoding (n + length batch) batches ++ tail) → IsClosed tail → NoneEmpty batches
+    → records ≡ batch ++ all_records batches
     → HasHead n count size content records tail
-head_of n count size content tail (first ∷ batch) records batches none count_fits size_fits room are encoding closed some flat = absurd (omega arith)
-head_of n count size content tail [] records [] none count_fits size_fits room are encoding closed some flat = absurd (subst IsClosed (sym encoding) closed refl)
-head_of n count size content tail [] records (first ∷ batches) none count_fits size_fits room are encoding closed some flat =
+head_of n count size content tail
+    (first ∷ batch) records batches none count_fits size_fits room are encoding closed some flat = absurd (omega arith)
+head_of n count size content tail [] records [] none count_fits size_fits room are encoding closed some flat =
+    absurd (subst IsClosed (sym encoding) closed refl)
+head_of n count size content tail [] records
+    (first ∷ batches) none count_fits size_fits room are encoding closed some flat =
     let m : n + 0 ≡ n = omega arith in
     let more : List ℕ = batches_encoding (n + 0 + length first) batches in
     let rest : List ℕ = more ++ tail in
     let here : AreRecords first = are_records-front first (all_records batches) (subst AreRecords flat are) in
-    let long : length records ≡ length first + length (all_records batches) = ap length flat ∙ length-append first (all_records batches) in
-    let whole : word count ++ (long_word size ++ content) ≡ word (length first) ++ (long_word (length (records_encoding (n + 0) first)) ++ (records_encoding (n + 0) first ++ rest)) =
+    let long : length records ≡ length first + length (all_records batches) =
+    ap length flat ∙ length-append first (all_records batches) in
+    let whole : word count ++ (long_word size ++ content) ≡ word (length first)
+    ++ (long_word (length (records_encoding (n + 0) first)) ++ (records_encoding (n + 0) first ++ rest)) =
     ap (drop 1) encoding ∙ append_assoc (batch_encoding (n + 0) first) more tail ∙ batch_apart (n + 0) first rest in
-    let heads = same_heads count (length first) size (length (records_encoding (n + 0) first)) content (records_encoding (n + 0) first ++ rest)
+    let heads =
+    same_heads count (length first) size (length (records_encoding (n + 0) first)) content
+    (records_encoding (n + 0) first ++ rest)
     count_fits (omega arith) size_fits (records_are_short (n + 0) first here (omega arith)) whole in
     record {
       batch = first;
       batches = batches;
       counted = sym heads.0;
       sized = sym (heads.1 ∙ ap (λ k. length (records_encoding k first)) m);
-      encoding = heads.2 ∙ ap (λ k. records_encoding k first ++ (batches_encoding (k + length first) batches ++ tail)) m;
+      encoding =
+          heads.2 ∙ ap (λ k. records_encoding k first ++ (batches_encoding (k + length first) batches ++ tail)) m;
       none_empty = some.1;
       flat = flat;
     }
 
 -- a batch's encoding after its gate, from its head
-batch_of_head : (n : ℕ) (batch : List Record) (rest : List ℕ) → open_gate ∷ (batch_encoding n batch ++ rest) ≡ head_encoding (length batch) (length (records_encoding n batch)) ++ (records_encoding n batch ++ rest)
+batch_of_head : (n : ℕ) (batch : List Record) (rest : List ℕ)
+    → open_gate ∷ (batch_encoding n batch ++ rest) ≡ head_encoding (length batch) (length (records_encoding n batch))
+    ++ (records_encoding n batch ++ rest)
 batch_of_head n batch rest =
-    ap (λ (l : List ℕ). open_gate ∷ l) (batch_apart n batch rest) ∙ sym (head_apart (length batch) (length (records_encoding n batch)) (records_encoding n batch ++ rest))
+    ap (λ (l : List ℕ). open_gate ∷ l) (batch_apart n batch rest)
+    ∙ sym (head_apart (length batch) (length (records_encoding n batch)) (records_encoding n batch ++ rest))
 
 -- A reader that went into the next batch, or was in one: where it is then, and that from there on the same is encoded.
 pub record IsEntered (bytes front : List ℕ) (old : Place) (count size : ℕ) (content : List ℕ) : Type 0 where
@@ -77,39 +93,63 @@ pub record IsEntered (bytes front : List ℕ) (old : Place) (count size : ℕ) (
   pub moved : at + length content ≡ old.at + length front
   pub shorter : length content ≤ length front
   pub some : 0 < count
-  pub same : (records : List Record) (end : ℕ) → EncodesFrom bytes old records end ↔ EncodesFrom bytes (record { at = at; number = old.number; left = count; size = size }) records end
+  pub same : (records : List Record) (end : ℕ)
+      → EncodesFrom bytes old records end ↔ EncodesFrom bytes
+      (record { at = at; number = old.number; left = count; size = size }) records end
 
-in_same : (bytes front : List ℕ) (old : Place) (count size : ℕ) (content : List ℕ) → IsFrontOf LONGEST_STEP front (drop old.at bytes) → 0 < old.left → count ≡ old.left → size ≡ old.size → content ≡ front → IsEntered bytes front old count size content
+in_same : (bytes front : List ℕ) (old : Place) (count size : ℕ) (content : List ℕ)
+    → IsFrontOf LONGEST_STEP front (drop old.at bytes) → 0 < old.left → count ≡ old.left → size ≡ old.size
+    → content ≡ front → IsEntered bytes front old count size content
 in_same bytes front old count size content is some counted sized all =
-    let place : record { at = old.at; number = old.number; left = count; size = size } ≡ old = λ i. record { at = old.at; number = old.number; left = counted i; size = sized i } in
+    let place : record { at = old.at; number = old.number; left = count; size = size } ≡ old =
+    λ i. record { at = old.at; number = old.number; left = counted i; size = sized i } in
     record {
       at = old.at;
-      shown = subst (λ l. IsFrontOf longest_record l (drop old.at bytes)) (sym all) (record { shown = is.shown; enough = elim is.enough [ inl many ↦ inl (omega arith) | inr whole ↦ inr whole ] });
+      shown =
+          subst (λ l. IsFrontOf longest_record l (drop old.at bytes)) (sym all)
+          (record {
+            shown = is.shown;
+            enough = elim is.enough
+                [ inl many ↦ inl (omega arith) | inr whole ↦ inr whole ];
+          });
       moved = ap (λ (l : List ℕ). old.at + length l) all;
       shorter = omega (arith, ap length all);
       some = omega arith;
-      same = λ records end. (λ encodes. subst (λ (p : Place). EncodesFrom bytes p records end) (sym place) encodes, λ encodes. subst (λ (p : Place). EncodesFrom bytes p records end) place encodes);
+      same =
+          λ records end. (
+            λ encodes. subst (λ (p : Place). EncodesFrom bytes p records end) (sym place) encodes,
+            λ encodes. subst (λ (p : Place). EncodesFrom bytes p records end) place encodes,
+          );
     }
 
-in_next : (bytes front : List ℕ) (old : Place) (count size : ℕ) (content : List ℕ) → IsFrontOf LONGEST_STEP front (drop old.at bytes) → old.left ≡ 0 → old.size ≡ 0 → 0 < count → count < 2 ^ 32 → size < 2 ^ 64
+in_next : (bytes front : List ℕ) (old : Place) (count size : ℕ) (content : List ℕ)
+    → IsFrontOf LONGEST_STEP front (drop old.at bytes) → old.left ≡ 0 → old.size ≡ 0 → 0 < count → count < 2 ^ 32
+    → size < 2 ^ 64
     → front ≡ open_gate ∷ (word count ++ (long_word size ++ content)) → IsEntered bytes front old count size content
 in_next bytes front old count size content is left empty some count_fits size_fits begins =
     let head : List ℕ = head_encoding count size in
     let n : ℕ = old.number in
     let thirteen : length head ≡ 13 = length-head count size in
     let parts : front ≡ head ++ content = begins ∙ sym (head_apart count size content) in
-    let from : drop (length head) (drop old.at bytes) ≡ drop (old.at + 13) bytes = drop-drop (length head) old.at bytes ∙ ap (λ k. drop (old.at + k) bytes) thirteen in
-    let whole : drop old.at bytes ≡ head ++ drop (old.at + 13) bytes = whole_begins LONGEST_STEP front (drop old.at bytes) head content is parts ∙ ap (λ l. head ++ l) from in
+    let from : drop (length head) (drop old.at bytes) ≡ drop (old.at + 13) bytes =
+    drop-drop (length head) old.at bytes ∙ ap (λ k. drop (old.at + k) bytes) thirteen in
+    let whole : drop old.at bytes ≡ head ++ drop (old.at + 13) bytes =
+    whole_begins LONGEST_STEP front (drop old.at bytes) head content is parts ∙ ap (λ l. head ++ l) from in
     record {
       at = old.at + 13;
-      shown = subst (λ l. IsFrontOf longest_record content l) from (front_after LONGEST_STEP longest_record front (drop old.at bytes) head content is parts (omega arith));
+      shown =
+          subst (λ l. IsFrontOf longest_record content l) from
+          (front_after LONGEST_STEP longest_record front (drop old.at bytes) head content is parts (omega arith));
       moved = omega (arith, ap length parts, length-append head content);
       shorter = omega (arith, ap length parts, length-append head content);
       some = some;
       same = λ records end. (
         λ encodes.
-            let has = head_of n count size (drop (old.at + 13) bytes) encodes.tail encodes.batch records encodes.batches (encodes.counted ∙ left) count_fits size_fits encodes.bounded encodes.canonical
-            (sym (head_apart count size (drop (old.at + 13) bytes)) ∙ sym whole ∙ encodes.encoding) encodes.closed encodes.none_empty encodes.flat in
+            let has =
+            head_of n count size (drop (old.at + 13) bytes) encodes.tail encodes.batch records encodes.batches
+            (encodes.counted ∙ left) count_fits size_fits encodes.bounded encodes.canonical
+            (sym (head_apart count size (drop (old.at + 13) bytes)) ∙ sym whole ∙ encodes.encoding) encodes.closed
+            encodes.none_empty encodes.flat in
             record {
               batch = has.batch;
               batches = has.batches;
@@ -132,7 +172,8 @@ in_next bytes front old count size content is left empty some count_fits size_fi
               batches = batch ∷ encodes.batches;
               tail = encodes.tail;
               encoding = whole ∙ ap (λ l. head ++ l) encodes.encoding
-                  ∙ (λ i. head_encoding (sym encodes.counted i) (sym encodes.sized i) ++ (records_encoding n batch ++ (more ++ encodes.tail)))
+                  ∙ (λ i. head_encoding (sym encodes.counted i) (sym encodes.sized i)
+                  ++ (records_encoding n batch ++ (more ++ encodes.tail)))
                   ∙ sym (batch_of_head n batch (more ++ encodes.tail))
                   ∙ ap (λ (l : List ℕ). open_gate ∷ l) (sym (append_assoc (batch_encoding n batch) more encodes.tail))
                   ∙ ap (λ k. batches_encoding k (batch ∷ encodes.batches) ++ encodes.tail) (omega arith);
@@ -148,9 +189,13 @@ in_next bytes front old count size content is left empty some count_fits size_fi
       );
     }
 
-pub entered : (bytes front : List ℕ) (old : Place) (count size : ℕ) (content : List ℕ) → IsFrontOf LONGEST_STEP front (drop old.at bytes) → IsInBatch old.left old.size front count size content → IsEntered bytes front old count size content
-entered bytes front old count size content is (inl within) = in_same bytes front old count size content is within.0 within.1 within.2 within.3
-entered bytes front old count size content is (inr next) = in_next bytes front old count size content is next.0 next.1 next.2 next.3 next.4 next.5
+pub entered : (bytes front : List ℕ) (old : Place) (count size : ℕ) (content : List ℕ)
+    → IsFrontOf LONGEST_STEP front (drop old.at bytes) → IsInBatch old.left old.size front count size content
+    → IsEntered bytes front old count size content
+entered bytes front old count size content is (inl within) =
+    in_same bytes front old count size content is within.0 within.1 within.2 within.3
+entered bytes front old count size content is (inr next) =
+    in_next bytes front old count size content is next.0 next.1 next.2 next.3 next.4 next.5
 
 -- the first of the records that are left of a batch
 pub record HasNext (bytes : List ℕ) (place : Place) (records : List Record) (end : ℕ) : Type 0 where
@@ -164,15 +209,23 @@ pub record HasNext (bytes : List ℕ) (place : Place) (records : List Record) (e
   pub others : (at size : ℕ) → drop at bytes ≡ behind → size + length (record_encoding place.number first) ≡ place.size
       → EncodesFrom bytes (record { at = at; number = place.number + 1; left = place.left - 1; size = size }) more end
 
-next_of : (bytes : List ℕ) (place : Place) (records : List Record) (end : ℕ) (batch : List Record) (batches : List (List Record)) (tail : List ℕ) → 0 < place.left
-    → drop place.at bytes ≡ records_encoding place.number batch ++ (batches_encoding (place.number + length batch) batches ++ tail) → length batch ≡ place.left → length (records_encoding place.number batch) ≡ place.size
-    → IsClosed tail → NoneEmpty batches → records ≡ batch ++ all_records batches → AreRecords records → place.number + length records ≤ MAX_RECORDS → end + length tail ≡ length bytes → HasNext bytes place records end
-next_of bytes place records end [] batches tail some encoding counted sized closed none_empty flat are room ended = absurd (omega arith)
-next_of bytes place records end (first ∷ batch) batches tail some encoding counted sized closed none_empty flat are room ended =
+next_of : (bytes : List ℕ) (place : Place) (records : List Record) (end : ℕ) (batch : List Record)
+    (batches : List (List Record)) (tail : List ℕ) → 0 < place.left
+    → drop place.at bytes ≡ records_encoding place.number batch
+    ++ (batches_encoding (place.number + length batch) batches ++ tail) → length batch ≡ place.left
+    → length (records_encoding place.number batch) ≡ place.size
+    → IsClosed tail → NoneEmpty batches → records ≡ batch ++ all_records batches → AreRecords records
+    → place.number + length records ≤ MAX_RECORDS → end + length tail ≡ length bytes → HasNext bytes place records end
+next_of bytes place records end [] batches tail some encoding counted sized closed none_empty flat are room ended =
+    absurd (omega arith)
+next_of bytes place records end
+    (first ∷ batch) batches tail some encoding counted sized closed none_empty flat are room ended =
     let n : ℕ = place.number in
     let rest : List ℕ = batches_encoding (n + length (first ∷ batch)) batches ++ tail in
     let fits : AreRecords (first ∷ (batch ++ all_records batches)) = subst AreRecords flat are in
-    let long : length (records_encoding n (first ∷ batch)) ≡ length (record_encoding n first) + length (records_encoding (n + 1) batch) = length-append (record_encoding n first) (records_encoding (n + 1) batch) in
+    let long : length (records_encoding n (first ∷ batch))
+    ≡ length (record_encoding n first) + length (records_encoding (n + 1) batch) = length-append
+    (record_encoding n first) (records_encoding (n + 1) batch) in
     record {
       first = first;
       more = batch ++ all_records batches;
@@ -181,42 +234,56 @@ next_of bytes place records end (first ∷ batch) batches tail some encoding cou
       behind = records_encoding (n + 1) batch ++ rest;
       encoding = encoding ∙ append_assoc (record_encoding n first) (records_encoding (n + 1) batch) rest;
       long = omega arith;
-      others = λ (at size : ℕ) (behind : drop at bytes ≡ records_encoding (n + 1) batch ++ rest) (left : size + length (record_encoding n first) ≡ place.size). record {
-        batch = batch;
-        batches = batches;
-        tail = tail;
-        encoding = behind ∙ ap (λ k. records_encoding (n + 1) batch ++ (batches_encoding k batches ++ tail)) (omega arith);
-        counted = omega arith;
-        sized = omega arith;
-        closed = closed;
-        none_empty = none_empty;
-        flat = refl;
-        canonical = fits.1;
-        bounded = omega (arith, ap length flat);
-        ended = ended;
-      };
+      others =
+          λ (at size : ℕ) (behind : drop at bytes ≡ records_encoding (n + 1) batch ++ rest) (left : size + length (record_encoding n first) ≡ place.size). record {
+            batch = batch;
+            batches = batches;
+            tail = tail;
+            encoding =
+                behind ∙ ap (λ k. records_encoding (n + 1) batch ++ (batches_encoding k batches ++ tail)) (omega arith);
+            counted = omega arith;
+            sized = omega arith;
+            closed = closed;
+            none_empty = none_empty;
+            flat = refl;
+            canonical = fits.1;
+            bounded = omega (arith, ap length flat);
+            ended = ended;
+          };
     }
 
-pub has_next : (bytes : List ℕ) (place : Place) (records : List Record) (end : ℕ) → 0 < place.left → EncodesFrom bytes place records end → HasNext bytes place records end
+pub has_next : (bytes : List ℕ) (place : Place) (records : List Record) (end : ℕ) → 0 < place.left
+    → EncodesFrom bytes place records end → HasNext bytes place records end
 has_next bytes place records end some encodes =
-    next_of bytes place records end encodes.batch encodes.batches encodes.tail some encodes.encoding encodes.counted encodes.sized encodes.closed encodes.none_empty encodes.flat encodes.canonical encodes.bounded encodes.ended
+    next_of bytes place records end encodes.batch encodes.batches encodes.tail some encodes.encoding encodes.counted
+    encodes.sized encodes.closed encodes.none_empty encodes.flat encodes.canonical encodes.bounded encodes.ended
 
 -- the records that are left of a batch, with one more before them
-one_more : (bytes : List ℕ) (old new : Place) (entry : Record) (records more : List Record) (end : ℕ) → IsRecord entry → 0 < old.left → drop old.at bytes ≡ record_encoding old.number entry ++ drop new.at bytes
-    → new.number ≡ old.number + 1 → new.left ≡ old.left - 1 → new.size + length (record_encoding old.number entry) ≡ old.size → records ≡ entry ∷ more → EncodesFrom bytes new more end → EncodesFrom bytes old records end
+one_more : (bytes : List ℕ) (old new : Place) (entry : Record) (records more : List Record) (end : ℕ) → IsRecord entry
+    → 0 < old.left → drop old.at bytes ≡ record_encoding old.number entry ++ drop new.at bytes
+    → new.number ≡ old.number + 1 → new.left ≡ old.left - 1
+    → new.size + length (record_encoding old.number entry) ≡ old.size → records ≡ entry ∷ more
+    → EncodesFrom bytes new more end → EncodesFrom bytes old records end
 one_more bytes old new entry records more end fits some encoding numbered left sized are encodes =
     let n : ℕ = old.number in
     let batch : List Record = encodes.batch in
     let rest : List ℕ = batches_encoding (n + 1 + length batch) encodes.batches ++ encodes.tail in
-    let long : length (records_encoding n (entry ∷ batch)) ≡ length (record_encoding n entry) + length (records_encoding (n + 1) batch) = length-append (record_encoding n entry) (records_encoding (n + 1) batch) in
-    let same : length (records_encoding (n + 1) batch) ≡ new.size = ap (λ k. length (records_encoding k batch)) (sym numbered) ∙ encodes.sized in
+    let long : length (records_encoding n (entry ∷ batch))
+    ≡ length (record_encoding n entry) + length (records_encoding (n + 1) batch) = length-append
+    (record_encoding n entry) (records_encoding (n + 1) batch) in
+    let same : length (records_encoding (n + 1) batch) ≡ new.size =
+    ap (λ k. length (records_encoding k batch)) (sym numbered) ∙ encodes.sized in
     record {
       batch = entry ∷ batch;
       batches = encodes.batches;
       tail = encodes.tail;
-      encoding = encoding ∙ ap (λ l. record_encoding n entry ++ l) (encodes.encoding ∙ ap (λ k. records_encoding k batch ++ (batches_encoding (k + length batch) encodes.batches ++ encodes.tail)) numbered)
+      encoding =
+          encoding ∙ ap (λ l. record_encoding n entry ++ l)
+          (encodes.encoding ∙ ap (λ k. records_encoding k batch
+          ++ (batches_encoding (k + length batch) encodes.batches ++ encodes.tail)) numbered)
           ∙ sym (append_assoc (record_encoding n entry) (records_encoding (n + 1) batch) rest)
-          ∙ ap (λ k. records_encoding n (entry ∷ batch) ++ (batches_encoding k encodes.batches ++ encodes.tail)) (omega arith);
+          ∙ ap (λ k. records_encoding n (entry ∷ batch) ++ (batches_encoding k encodes.batches ++ encodes.tail))
+          (omega arith);
       counted = omega (arith, encodes.counted);
       sized = omega arith;
       closed = encodes.closed;
@@ -228,54 +295,82 @@ one_more bytes old new entry records more end fits some encoding numbered left s
     }
 
 -- the record at the front is the first of those that are encoded
-first_is : (bytes : List ℕ) (old new : Place) (entry : Record) (records : List Record) (end : ℕ) → IsRecord entry → old.number < MAX_RECORDS → drop old.at bytes ≡ record_encoding old.number entry ++ drop new.at bytes
-    → new.number ≡ old.number + 1 → new.left ≡ old.left - 1 → new.size + length (record_encoding old.number entry) ≡ old.size → HasNext bytes old records end → (more : List Record) × (records ≡ entry ∷ more) × EncodesFrom bytes new more end
+first_is : (bytes : List ℕ) (old new : Place) (entry : Record) (records : List Record) (end : ℕ) → IsRecord entry
+    → old.number < MAX_RECORDS → drop old.at bytes ≡ record_encoding old.number entry ++ drop new.at bytes
+    → new.number ≡ old.number + 1 → new.left ≡ old.left - 1
+    → new.size + length (record_encoding old.number entry) ≡ old.size → HasNext bytes old records end
+    → (more : List Record) × (records ≡ entry ∷ more) × EncodesFrom bytes new more end
 first_is bytes old new entry records end fits room encoding numbered left sized has =
     let n : ℕ = old.number in
-    let once = record_once n n has.first entry has.behind (drop new.at bytes) has.fits fits (omega arith) (omega arith) (sym has.encoding ∙ encoding) in
-    let place : record { at = new.at; number = n + 1; left = old.left - 1; size = new.size } ≡ new = λ i. record { at = new.at; number = sym numbered i; left = sym left i; size = new.size } in (
+    let once =
+    record_once n n has.first entry has.behind (drop new.at bytes) has.fits fits (omega arith) (omega arith)
+    (sym has.encoding ∙ encoding) in
+    let place : record { at = new.at; number = n + 1; left = old.left - 1; size = new.size } ≡ new =
+    λ i. record { at = new.at; number = sym numbered i; left = sym left i; size = new.size } in (
       has.more,
       has.are ∙ ap (λ (e : Record). e ∷ has.more) once.1,
       subst (λ (p : Place). EncodesFrom bytes p has.more end) place
-          (has.others new.at new.size (sym once.2) (ap (λ (e : Record). new.size + length (record_encoding n e)) once.1 ∙ sized)),
+          (has.others new.at new.size (sym once.2)
+          (ap (λ (e : Record). new.size + length (record_encoding n e)) once.1 ∙ sized)),
     )
 
-leads_within : (bytes : List ℕ) (old new : Place) (entry : Record) → IsRecord entry → old.number < MAX_RECORDS → 0 < old.left → drop old.at bytes ≡ record_encoding old.number entry ++ drop new.at bytes
-    → new.number ≡ old.number + 1 → new.left ≡ old.left - 1 → new.size + length (record_encoding old.number entry) ≡ old.size → Leads bytes old entry new
+leads_within : (bytes : List ℕ) (old new : Place) (entry : Record) → IsRecord entry → old.number < MAX_RECORDS
+    → 0 < old.left → drop old.at bytes ≡ record_encoding old.number entry ++ drop new.at bytes
+    → new.number ≡ old.number + 1 → new.left ≡ old.left - 1
+    → new.size + length (record_encoding old.number entry) ≡ old.size → Leads bytes old entry new
 leads_within bytes old new entry fits room some encoding numbered left sized = record {
   on = λ records end. (
-    λ encodes. first_is bytes old new entry records end fits room encoding numbered left sized (has_next bytes old records end some encodes),
+    λ encodes. first_is bytes old new entry records end fits room encoding numbered left sized
+        (has_next bytes old records end some encodes),
     λ given. one_more bytes old new entry records given.0 end fits some encoding numbered left sized given.1 given.2,
   );
 }
 
 -- what a full window shows at a reader's place
-shown_at : (bytes front : List ℕ) (window : WindowValue) (old : Place) → IsOver bytes window → IsFull window → old.at ≡ window.at → front ≡ window.front → IsFrontOf LONGEST_STEP front (drop old.at bytes)
+shown_at : (bytes front : List ℕ) (window : WindowValue) (old : Place) → IsOver bytes window → IsFull window
+    → old.at ≡ window.at → front ≡ window.front → IsFrontOf LONGEST_STEP front (drop old.at bytes)
 shown_at bytes front window old over full same shows =
-    subst (λ l. IsFrontOf LONGEST_STEP l (drop old.at bytes)) (sym shows) (subst (λ k. IsFrontOf LONGEST_STEP window.front (drop k bytes)) (sym same) (window_front bytes window over full))
+    subst (λ l. IsFrontOf LONGEST_STEP l (drop old.at bytes)) (sym shows)
+    (subst (λ k. IsFrontOf LONGEST_STEP window.front (drop k bytes)) (sym same)
+    (window_front bytes window over full))
 
 -- A record was taken from a window that was full.
-pub taken : (bytes front : List ℕ) (window : WindowValue) (old new : Place) (count size : ℕ) (content behind : List ℕ) (entry : Record) → IsOver bytes window → IsFull window → old.at ≡ window.at → front ≡ window.front
-    → IsInBatch old.left old.size front count size content → content ≡ record_encoding old.number entry ++ behind → IsRecord entry → old.number < MAX_RECORDS → length content ≤ size + length behind
-    → new.at ≡ old.at + (length front - length behind) → new.number ≡ old.number + 1 → new.left ≡ count - 1 → new.size ≡ size - (length content - length behind) → Leads bytes old entry new
-taken bytes front window old new count size content behind entry over full same shows batch encoding fits room within moved numbered left sized =
-    let shown : IsFrontOf LONGEST_STEP front (drop old.at bytes) = shown_at bytes front window old over full same shows in
+pub taken : (bytes front : List ℕ) (window : WindowValue) (old new : Place) (count size : ℕ) (content behind : List ℕ)
+    (entry : Record) → IsOver bytes window → IsFull window → old.at ≡ window.at → front ≡ window.front
+    → IsInBatch old.left old.size front count size content → content ≡ record_encoding old.number entry ++ behind
+    → IsRecord entry → old.number < MAX_RECORDS → length content ≤ size + length behind
+    → new.at ≡ old.at + (length front - length behind) → new.number ≡ old.number + 1 → new.left ≡ count - 1
+    → new.size ≡ size - (length content - length behind) → Leads bytes old entry new
+taken bytes front window old new count size content behind entry over full same shows batch encoding fits room within
+    moved numbered left sized =
+    let shown : IsFrontOf LONGEST_STEP front (drop old.at bytes) =
+    shown_at bytes front window old over full same shows in
     let into = entered bytes front old count size content shown batch in
     let one : List ℕ = record_encoding old.number entry in
     let long : length content ≡ length one + length behind = ap length encoding ∙ length-append one behind in
     let ends : length front - length behind + old.at ≡ into.at + length one = omega (arith, into.moved, into.shorter) in
-    let from : drop (length one) (drop into.at bytes) ≡ drop new.at bytes = drop-drop (length one) into.at bytes ∙ ap (λ k. drop k bytes) (omega arith) in
-    let whole : drop into.at bytes ≡ one ++ drop new.at bytes = whole_begins longest_record content (drop into.at bytes) one behind into.shown encoding ∙ ap (λ l. one ++ l) from in
+    let from : drop (length one) (drop into.at bytes) ≡ drop new.at bytes =
+    drop-drop (length one) into.at bytes ∙ ap (λ k. drop k bytes) (omega arith) in
+    let whole : drop into.at bytes ≡ one ++ drop new.at bytes =
+    whole_begins longest_record content (drop into.at bytes) one behind into.shown encoding ∙ ap
+    (λ l. one ++ l) from in
     let here : Place = record { at = into.at; number = old.number; left = count; size = size } in
     let on = leads_within bytes here new entry fits room into.some whole numbered left (omega arith) in
-    record { on = λ records end. (λ encodes. (on.on records end).0 ((into.same records end).0 encodes), λ given. (into.same records end).1 ((on.on records end).1 given)) }
+    record {
+      on = λ records end. (
+        λ encodes. (on.on records end).0 ((into.same records end).0 encodes),
+        λ given. (into.same records end).1 ((on.on records end).1 given),
+      );
+    }
 
 abbrev first_byte : List ℕ → ℕ
 first_byte [] = 0
 first_byte (x ∷ xs) = x
 
-front_closed : (most : ℕ) (front whole : List ℕ) → IsFrontOf most front whole → 0 < most → IsClosed front → IsClosed whole
-front_closed most [] whole is some closed = elim is.enough [ inl many ↦ absurd (omega arith) | inr all ↦ subst IsClosed all closed ]
+front_closed : (most : ℕ) (front whole : List ℕ) → IsFrontOf most front whole → 0 < most → IsClosed front
+    → IsClosed whole
+front_closed most [] whole is some closed =
+    elim is.enough [ inl many ↦ absurd (omega arith) | inr all ↦ subst IsClosed all closed ]
 front_closed most (gate ∷ front) [] is some closed = tt
 front_closed most (gate ∷ front) (first ∷ whole) is some closed = λ opened. closed (ap first_byte is.shown ∙ opened)
 
@@ -285,7 +380,9 @@ whole_closed most (gate ∷ front) [] is closed = absurd (cc is.shown)
 whole_closed most (gate ∷ front) (first ∷ whole) is closed = λ opened. closed (ap first_byte (sym is.shown) ∙ opened)
 
 -- No open gate comes after the last batch.
-pub last : (bytes front : List ℕ) (window : WindowValue) (old : Place) → IsOver bytes window → IsFull window → old.at ≡ window.at → front ≡ window.front → old.number ≤ MAX_RECORDS → IsAfterBatches old.left old.size front → IsLast bytes old
+pub last : (bytes front : List ℕ) (window : WindowValue) (old : Place) → IsOver bytes window → IsFull window
+    → old.at ≡ window.at → front ≡ window.front → old.number ≤ MAX_RECORDS → IsAfterBatches old.left old.size front
+    → IsLast bytes old
 last bytes front window old over full same shows room behind =
     let whole : List ℕ = drop old.at bytes in
     let shown : IsFrontOf LONGEST_STEP front whole = shown_at bytes front window old over full same shows in
@@ -305,41 +402,71 @@ last bytes front window old over full same shows room behind =
     }
 
 -- what is encoded after the last batch, or from the next one's head on
-no_step : (n : ℕ) (left size : ℕ) (front whole tail : List ℕ) (batch records : List Record) (batches : List (List Record)) → IsFrontOf LONGEST_STEP front whole
-    → whole ≡ records_encoding n batch ++ (batches_encoding (n + length batch) batches ++ tail) → length batch ≡ left → length (records_encoding n batch) ≡ size → IsClosed tail → NoneEmpty batches
+no_step : (n : ℕ) (left size : ℕ) (front whole tail : List ℕ) (batch records : List Record)
+    (batches : List (List Record)) → IsFrontOf LONGEST_STEP front whole
+    → whole ≡ records_encoding n batch ++ (batches_encoding (n + length batch) batches ++ tail) → length batch ≡ left
+    → length (records_encoding n batch) ≡ size → IsClosed tail → NoneEmpty batches
     → records ≡ batch ++ all_records batches → AreRecords records → n + length records ≤ MAX_RECORDS
-    → ((count length_of : ℕ) (content : List ℕ) → IsInBatch left size front count length_of content → ⊥) → (IsAfterBatches left size front → ⊥) → ⊥
-no_step n left size front whole tail (first ∷ batch) records batches is encoding counted sized closed some flat are room no_batch no_end =
+    → ((count length_of : ℕ) (content : List ℕ) → IsInBatch left size front count length_of content → ⊥)
+    → (IsAfterBatches left size front → ⊥) → ⊥
+no_step n left size front whole tail
+    (first ∷ batch) records batches is encoding counted sized closed some flat are room no_batch no_end =
     no_batch left size front (inl (omega arith, refl, refl, refl))
 no_step n left size front whole tail [] records [] is encoding counted sized closed some flat are room no_batch no_end =
     no_end (sym counted, sym sized, whole_closed LONGEST_STEP front whole is (subst IsClosed (sym encoding) closed))
-no_step n left size front whole tail [] records (first ∷ batches) is encoding counted sized closed some flat are room no_batch no_end =
+no_step n left size front whole tail [] records
+    (first ∷ batches) is encoding counted sized closed some flat are room no_batch no_end =
     let more : List ℕ = batches_encoding (n + 0 + length first) batches in
     let rest : List ℕ = records_encoding (n + 0) first ++ (more ++ tail) in
     let here : AreRecords first = are_records-front first (all_records batches) (subst AreRecords flat are) in
-    let long : length records ≡ length first + length (all_records batches) = ap length flat ∙ length-append first (all_records batches) in
+    let long : length records ≡ length first + length (all_records batches) =
+    ap length flat ∙ length-append first (all_records batches) in
     let head : List ℕ = head_encoding (length first) (length (records_encoding (n + 0) first)) in
-    let whole_is : whole ≡ head ++ rest = encoding ∙ ap (λ (l : List ℕ). open_gate ∷ l) (append_assoc (batch_encoding (n + 0) first) more tail) ∙ batch_of_head (n + 0) first (more ++ tail) in
+    let whole_is : whole ≡ head ++ rest =
+    encoding ∙ ap (λ (l : List ℕ). open_gate ∷ l) (append_assoc (batch_encoding (n + 0) first) more tail)
+    ∙ batch_of_head (n + 0) first (more ++ tail) in
     let thirteen : length head ≡ 13 = length-head (length first) (length (records_encoding (n + 0) first)) in
-    let begins : front ≡ head ++ drop (length head) front = front_begins LONGEST_STEP front whole head rest is whole_is (omega arith) in
+    let begins : front ≡ head ++ drop (length head) front =
+    front_begins LONGEST_STEP front whole head rest is whole_is (omega arith) in
     no_batch (length first) (length (records_encoding (n + 0) first)) (drop (length head) front)
-    (inr (sym counted, sym sized, some.0, omega arith, records_are_short (n + 0) first here (omega arith), begins ∙ head_apart (length first) (length (records_encoding (n + 0) first)) (drop (length head) front)))
+    (inr (
+      sym counted,
+      sym sized,
+      some.0,
+      omega arith,
+      records_are_short (n + 0) first here (omega arith),
+      begins ∙ head_apart (length first) (length (records_encoding (n + 0) first)) (drop (length head) front),
+    ))
 
-pub no_batch_at : (bytes front : List ℕ) (window : WindowValue) (old : Place) → IsOver bytes window → IsFull window → old.at ≡ window.at → front ≡ window.front
-    → ((count length_of : ℕ) (content : List ℕ) → IsInBatch old.left old.size front count length_of content → ⊥) → (IsAfterBatches old.left old.size front → ⊥) → IsNothing bytes old
+pub no_batch_at : (bytes front : List ℕ) (window : WindowValue) (old : Place) → IsOver bytes window → IsFull window
+    → old.at ≡ window.at → front ≡ window.front
+    → ((count length_of : ℕ) (content : List ℕ) → IsInBatch old.left old.size front count length_of content → ⊥)
+    → (IsAfterBatches old.left old.size front → ⊥) → IsNothing bytes old
 no_batch_at bytes front window old over full same shows no_batch no_end records end encodes =
-    let shown : IsFrontOf LONGEST_STEP front (drop old.at bytes) = shown_at bytes front window old over full same shows in
-    no_step old.number old.left old.size front (drop old.at bytes) encodes.tail encodes.batch records encodes.batches shown encodes.encoding encodes.counted encodes.sized encodes.closed encodes.none_empty encodes.flat encodes.canonical encodes.bounded no_batch no_end
+    let shown : IsFrontOf LONGEST_STEP front (drop old.at bytes) =
+    shown_at bytes front window old over full same shows in
+    no_step old.number old.left old.size front
+    (drop old.at bytes) encodes.tail encodes.batch records encodes.batches shown encodes.encoding encodes.counted
+    encodes.sized encodes.closed encodes.none_empty encodes.flat encodes.canonical encodes.bounded no_batch
+    no_end
 
 -- No record of this number stands in the batch.
-pub no_record_at : (bytes front : List ℕ) (window : WindowValue) (old : Place) (count size : ℕ) (content : List ℕ) → IsOver bytes window → IsFull window → old.at ≡ window.at → front ≡ window.front → IsInBatch old.left old.size front count size content
-    → ((entry : Record) (rest : List ℕ) → IsRecord entry → old.number < MAX_RECORDS → length content ≤ size + length rest → content ≡ record_encoding old.number entry ++ rest → ⊥) → IsNothing bytes old
+pub no_record_at : (bytes front : List ℕ) (window : WindowValue) (old : Place) (count size : ℕ) (content : List ℕ)
+    → IsOver bytes window → IsFull window → old.at ≡ window.at → front ≡ window.front
+    → IsInBatch old.left old.size front count size content
+    → ((entry : Record) (rest : List ℕ) → IsRecord entry → old.number < MAX_RECORDS
+    → length content ≤ size + length rest → content ≡ record_encoding old.number entry ++ rest → ⊥)
+    → IsNothing bytes old
 no_record_at bytes front window old count size content over full same shows batch none records end encodes =
-    let shown : IsFrontOf LONGEST_STEP front (drop old.at bytes) = shown_at bytes front window old over full same shows in
+    let shown : IsFrontOf LONGEST_STEP front (drop old.at bytes) =
+    shown_at bytes front window old over full same shows in
     let into = entered bytes front old count size content shown batch in
     let here : Place = record { at = into.at; number = old.number; left = count; size = size } in
     let has = has_next bytes here records end into.some ((into.same records end).0 encodes) in
     let one : List ℕ = record_encoding old.number has.first in
-    let short : length one ≤ longest_record = omega (arith, length-record_encoding old.number has.first, has.fits.frames.0, has.fits.frames.1) in
-    let begins : content ≡ one ++ drop (length one) content = front_begins longest_record content (drop into.at bytes) one has.behind into.shown has.encoding short in
-    none has.first (drop (length one) content) has.fits (omega (arith, encodes.bounded, ap length has.are)) (omega (arith, has.long, ap length begins, length-append one (drop (length one) content))) begins
+    let short : length one ≤ longest_record =
+    omega (arith, length-record_encoding old.number has.first, has.fits.frames.0, has.fits.frames.1) in
+    let begins : content ≡ one ++ drop (length one) content =
+    front_begins longest_record content (drop into.at bytes) one has.behind into.shown has.encoding short in
+    none has.first (drop (length one) content) has.fits (omega (arith, encodes.bounded, ap length has.are))
+    (omega (arith, has.long, ap length begins, length-append one (drop (length one) content))) begins

@@ -13,22 +13,26 @@ front_of_one all front last is one =
     (λ i. take (begins i) (is i)) ∙ take_at front last (length front) refl
 
 -- how a batch of these records is read back
-pub body_back : (count : ℕ) (body : List ℕ) → body_of (content_of (record { count = count; body = body }) ++ closed_gate ∷ []) ≡ body
+pub body_back : (count : ℕ) (body : List ℕ)
+    → body_of (content_of (record { count = count; body = body }) ++ closed_gate ∷ []) ≡ body
 unfolding content_of
 body_back count body =
     let content : List ℕ = word count ++ (long_word (length body) ++ body) in
     ap (λ (l : List ℕ). drop 12 l) (front_of_one (content ++ closed_gate ∷ []) content (closed_gate ∷ []) refl refl)
 
-pub whole_of : (count : ℕ) (body encoding : List ℕ) → encoding ≡ content_of (record { count = count; body = body }) ++ closed_gate ∷ [] → IsWhole count encoding
+pub whole_of : (count : ℕ) (body encoding : List ℕ)
+    → encoding ≡ content_of (record { count = count; body = body }) ++ closed_gate ∷ [] → IsWhole count encoding
 whole_of count body encoding is =
     let back : body_of encoding ≡ body = ap body_of is ∙ body_back count body in
     is ∙ ap (λ (b : List ℕ). content_of (record { count = count; body = b }) ++ closed_gate ∷ []) (sym back)
 
-pub whole_long : (count : ℕ) (encoding : List ℕ) → IsWhole count encoding → length encoding ≡ length (body_of encoding) + 13
+pub whole_long : (count : ℕ) (encoding : List ℕ) → IsWhole count encoding
+    → length encoding ≡ length (body_of encoding) + 13
 unfolding content_of
 whole_long count encoding whole = omega (arith, ap length whole, length-append (body_of encoding) (closed_gate ∷ []))
 
-pub pushed_long : (count : ℕ) (encoding more pushed : List ℕ) → IsWhole count encoding → pushed ≡ take (length encoding - 1) encoding ++ (more ++ closed_gate ∷ []) → 13 ≤ length pushed
+pub pushed_long : (count : ℕ) (encoding more pushed : List ℕ) → IsWhole count encoding
+    → pushed ≡ take (length encoding - 1) encoding ++ (more ++ closed_gate ∷ []) → 13 ≤ length pushed
 pushed_long count encoding more pushed whole is =
     omega (
       arith,
@@ -40,22 +44,35 @@ pushed_long count encoding more pushed whole is =
     )
 
 -- one more record before the gate, and then the count and length
-pub more_encoding : (count : ℕ) (encoding more pushed new : List ℕ) → IsWhole count encoding → pushed ≡ take (length encoding - 1) encoding ++ (more ++ closed_gate ∷ []) → new ≡ word (count + 1) ++ (long_word (length pushed - 13) ++ drop 12 pushed)
+pub more_encoding : (count : ℕ) (encoding more pushed new : List ℕ) → IsWhole count encoding
+    → pushed ≡ take (length encoding - 1) encoding ++ (more ++ closed_gate ∷ [])
+    → new ≡ word (count + 1) ++ (long_word (length pushed - 13) ++ drop 12 pushed)
     → new ≡ content_of (with_encoding (value_of count encoding) more) ++ closed_gate ∷ []
 unfolding content_of
 more_encoding count encoding more pushed new whole is_pushed is_new =
     let body = body_of encoding in
     let content : List ℕ = word count ++ (long_word (length body) ++ body) in
-    let front : take (length encoding - 1) encoding ≡ content = front_of_one encoding content (closed_gate ∷ []) whole refl in
-    let parts : pushed ≡ content ++ (more ++ closed_gate ∷ []) = is_pushed ∙ ap (λ (l : List ℕ). l ++ (more ++ closed_gate ∷ [])) front in
+    let front : take (length encoding - 1) encoding ≡ content =
+    front_of_one encoding content (closed_gate ∷ []) whole refl in
+    let parts : pushed ≡ content ++ (more ++ closed_gate ∷ []) =
+    is_pushed ∙ ap (λ (l : List ℕ). l ++ (more ++ closed_gate ∷ [])) front in
     let behind : drop 12 pushed ≡ body ++ (more ++ closed_gate ∷ []) = ap (λ (l : List ℕ). drop 12 l) parts in
     let long : length pushed - 13 ≡ length (body ++ more) =
-    omega (arith, ap length parts, length-append body (more ++ closed_gate ∷ []), length-append more (closed_gate ∷ []), length-append body more) in
+    omega (
+      arith,
+      ap length parts,
+      length-append body (more ++ closed_gate ∷ []),
+      length-append more (closed_gate ∷ []),
+      length-append body more,
+    ) in
     is_new ∙ (λ i. word (count + 1) ++ (long_word (long i) ++ behind i))
-    ∙ ap (λ (l : List ℕ). word (count + 1) ++ (long_word (length (body ++ more)) ++ l)) (sym (append_assoc body more (closed_gate ∷ [])))
+    ∙ ap (λ (l : List ℕ). word (count + 1) ++ (long_word (length (body ++ more)) ++ l))
+    (sym (append_assoc body more (closed_gate ∷ [])))
 
 -- this many bytes less before the gate, and then the count less one, and the length
-pub cut_encoding : (count size : ℕ) (encoding cut new : List ℕ) → IsWhole count encoding → size ≤ length (body_of encoding) → cut ≡ take (length encoding - 1 - size) encoding ++ closed_gate ∷ [] → new ≡ word (count - 1) ++ (long_word (length cut - 13) ++ drop 12 cut)
+pub cut_encoding : (count size : ℕ) (encoding cut new : List ℕ) → IsWhole count encoding
+    → size ≤ length (body_of encoding) → cut ≡ take (length encoding - 1 - size) encoding ++ closed_gate ∷ []
+    → new ≡ word (count - 1) ++ (long_word (length cut - 13) ++ drop 12 cut)
     → new ≡ content_of (without_last (value_of count encoding) size) ++ closed_gate ∷ []
 unfolding content_of
 cut_encoding count size encoding cut new whole within is_cut is_new =
@@ -64,16 +81,22 @@ cut_encoding count size encoding cut new whole within is_cut is_new =
     let front : List ℕ = word count ++ (long_word (length body) ++ take left body) in
     let behind : List ℕ = drop left body ++ closed_gate ∷ [] in
     let whole_body : body ++ closed_gate ∷ [] ≡ take left body ++ behind =
-    ap (λ (l : List ℕ). l ++ closed_gate ∷ []) (sym (take-append-drop left body)) ∙ append_assoc (take left body) (drop left body) (closed_gate ∷ []) in
-    let parts : encoding ≡ front ++ behind = whole ∙ ap (λ (l : List ℕ). word count ++ (long_word (length body) ++ l)) whole_body in
-    let long : length encoding - 1 - size ≡ length front = omega (arith, whole_long count encoding whole, within, length-take left body) in
-    let begun : take (length encoding - 1 - size) encoding ≡ front = (λ i. take (long i) (parts i)) ∙ take_at front behind (length front) refl in
+    ap (λ (l : List ℕ). l ++ closed_gate ∷ []) (sym (take-append-drop left body))
+    ∙ append_assoc (take left body) (drop left body) (closed_gate ∷ []) in
+    let parts : encoding ≡ front ++ behind =
+    whole ∙ ap (λ (l : List ℕ). word count ++ (long_word (length body) ++ l)) whole_body in
+    let long : length encoding - 1 - size ≡ length front =
+    omega (arith, whole_long count encoding whole, within, length-take left body) in
+    let begun : take (length encoding - 1 - size) encoding ≡ front =
+    (λ i. take (long i) (parts i)) ∙ take_at front behind (length front) refl in
     let is : cut ≡ front ++ closed_gate ∷ [] = is_cut ∙ ap (λ (l : List ℕ). l ++ closed_gate ∷ []) begun in
-    let counted : length cut - 13 ≡ length (take left body) = omega (arith, ap length is, length-append (take left body) (closed_gate ∷ [])) in
+    let counted : length cut - 13 ≡ length (take left body) =
+    omega (arith, ap length is, length-append (take left body) (closed_gate ∷ [])) in
     let rest : drop 12 cut ≡ take left body ++ closed_gate ∷ [] = ap (λ (l : List ℕ). drop 12 l) is in
     is_new ∙ (λ i. word (count - 1) ++ (long_word (counted i) ++ rest i))
 
-pub value_back : (count : ℕ) (encoding : List ℕ) (batch : BatchValue) → encoding ≡ content_of batch ++ closed_gate ∷ [] → batch.count ≡ count → value_of count encoding ≡ batch
+pub value_back : (count : ℕ) (encoding : List ℕ) (batch : BatchValue) → encoding ≡ content_of batch ++ closed_gate ∷ []
+    → batch.count ≡ count → value_of count encoding ≡ batch
 value_back count encoding batch is counted =
     let back : body_of encoding ≡ batch.body = ap body_of is ∙ body_back batch.count batch.body in
     λ i. record { count = sym counted i; body = back i }
@@ -91,15 +114,20 @@ pub padded_some : (encoding : List ℕ) → 0 < length encoding → padded encod
 padded_some [] some = absurd (omega arith)
 padded_some (x ∷ encoding) some = refl
 
-pub whole_padded : (encoding : List ℕ) (batch : BatchValue) → encoding ≡ content_of batch ++ closed_gate ∷ [] → padded encoding ≡ encoding
-whole_padded encoding batch is = padded_some encoding (omega (arith, ap length is, length-append (content_of batch) (closed_gate ∷ [])))
+pub whole_padded : (encoding : List ℕ) (batch : BatchValue) → encoding ≡ content_of batch ++ closed_gate ∷ []
+    → padded encoding ≡ encoding
+whole_padded encoding batch is =
+    padded_some encoding (omega (arith, ap length is, length-append (content_of batch) (closed_gate ∷ [])))
 
-none_counted : (count : ℕ) (encoding : List ℕ) → encoding ≡ [] → IsWhole count (padded encoding) → count < 2 ^ 32 → count ≡ 0
+none_counted : (count : ℕ) (encoding : List ℕ) → encoding ≡ [] → IsWhole count (padded encoding) → count < 2 ^ 32
+    → count ≡ 0
 unfolding content_of
 none_counted count encoding is whole fits =
     let body = body_of (padded encoding) in
-    sym (same_word 0 count (replicate 9 0) ((long_word (length body) ++ body) ++ closed_gate ∷ []) (omega arith) fits (sym (ap padded is) ∙ whole))
+    sym (same_word 0 count (replicate 9 0) ((long_word (length body) ++ body) ++ closed_gate ∷ []) (omega arith) fits
+    (sym (ap padded is) ∙ whole))
 
-pub counted_some : (count : ℕ) (encoding : List ℕ) → IsWhole count (padded encoding) → 0 < count → count < 2 ^ 32 → padded encoding ≡ encoding
+pub counted_some : (count : ℕ) (encoding : List ℕ) → IsWhole count (padded encoding) → 0 < count → count < 2 ^ 32
+    → padded encoding ≡ encoding
 counted_some count [] whole some fits = absurd (omega (arith, none_counted count [] refl whole fits))
 counted_some count (x ∷ encoding) whole some fits = refl

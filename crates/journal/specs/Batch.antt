@@ -13,7 +13,8 @@ pub record BatchValue : Type 0 where
 
 abbrev pub batch_code : Coded BatchValue
 batch_code =
-    code_by (ℕ × List ℕ) (coded× coded_ℕ (coded_list coded_ℕ)) (λ b. (b.count, b.body)) (λ p. record { count = p.0; body = p.1 }) (λ _. refl)
+    code_by (ℕ × List ℕ) (coded× coded_ℕ (coded_list coded_ℕ)) (λ b. (b.count, b.body))
+    (λ p. record { count = p.0; body = p.1 }) (λ _. refl)
 
 -- no records
 abbrev pub empty_batch : BatchValue

@@ -6,6 +6,8 @@ use Rattle.journal.specs.Batch.{BatchValue, Holds, content_of}
 use Rattle.words.specs.Words.{word, long_word}
 
 -- a batch of these records has the encoding of their batch
-pub batch_of_records : (n : ℕ) (records : List Record) (batch : BatchValue) → Holds n records batch → content_of batch ≡ batch_encoding n records
+pub batch_of_records : (n : ℕ) (records : List Record) (batch : BatchValue) → Holds n records batch
+    → content_of batch ≡ batch_encoding n records
 unfolding content_of batch_encoding
-batch_of_records n records batch holds = λ i. word (holds.counted i) ++ (long_word (length (holds.encoding i)) ++ holds.encoding i)
+batch_of_records n records batch holds =
+    λ i. word (holds.counted i) ++ (long_word (length (holds.encoding i)) ++ holds.encoding i)

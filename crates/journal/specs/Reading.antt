@@ -20,7 +20,8 @@ pub record EncodesFrom (bytes : List ℕ) (place : Place) (records : List Record
   pub batch : List Record
   pub batches : List (List Record)
   pub tail : List ℕ
-  pub encoding : drop place.at bytes ≡ records_encoding place.number batch ++ (batches_encoding (place.number + length batch) batches ++ tail)
+  pub encoding : drop place.at bytes ≡ records_encoding place.number batch
+      ++ (batches_encoding (place.number + length batch) batches ++ tail)
   pub counted : length batch ≡ place.left
   pub sized : length (records_encoding place.number batch) ≡ place.size
   pub closed : IsClosed tail
@@ -49,7 +50,8 @@ IsNothing bytes place = (records : List Record) (end : ℕ) → EncodesFrom byte
 abbrev pub IsInBatch : ℕ → ℕ → List ℕ → ℕ → ℕ → List ℕ → Type 0
 IsInBatch left size bytes count length_of content =
     ((0 < left) × (count ≡ left) × (length_of ≡ size) × (content ≡ bytes))
-    ⊎ ((left ≡ 0) × (size ≡ 0) × (0 < count) × (count < 2 ^ 32) × (length_of < 2 ^ 64) × (bytes ≡ open_gate ∷ (word count ++ (long_word length_of ++ content))))
+    ⊎ ((left ≡ 0) × (size ≡ 0) × (0 < count) × (count < 2 ^ 32) × (length_of < 2 ^ 64)
+    × (bytes ≡ open_gate ∷ (word count ++ (long_word length_of ++ content))))
 
 -- the last batch ended, and these bytes don't begin with an open gate
 abbrev pub IsAfterBatches : ℕ → ℕ → List ℕ → Type 0

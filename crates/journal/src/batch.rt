@@ -109,7 +109,8 @@ fn write_front(encoding: &mut Vec<u8>) -> Result<(), AllocError>
 fn push_before_gate(encoding: &mut Vec<u8>, more: &[u8])
     requires some { 0 < length encoding.old.items }
     requires room { vec_len encoding.old + length more.now ≤ vec_capacity encoding.old }
-    ensures { encoding.new.items ≡ take (length encoding.old.items - 1) encoding.old.items ++ (more.now ++ closed_gate ∷ []) }
+    ensures { encoding.new.items ≡ take (length encoding.old.items - 1) encoding.old.items
+        ++ (more.now ++ closed_gate ∷ []) }
 {
     let end = encoding.len() - 1;
     encoding.truncate(end);
@@ -130,7 +131,8 @@ fn cut_before_gate(encoding: &mut Vec<u8>, size: usize)
 /// Writes the number and the length of the records into the first bytes of a batch.
 fn write_header(encoding: &mut Vec<u8>, count: u32)
     requires { 13 ≤ length encoding.old.items }
-    ensures { encoding.new.items ≡ word count ++ (long_word (length encoding.old.items - 13) ++ drop 12 encoding.old.items) }
+    ensures { encoding.new.items ≡ word count
+        ++ (long_word (length encoding.old.items - 13) ++ drop 12 encoding.old.items) }
 {
     let length = encoding.len() - (HEADER + 1);
     let bytes = encoding.as_mut_slice();

@@ -41,7 +41,8 @@ fn after_open_gate(bytes: &[u8]) -> Option<&[u8]>
 fn batch_at(bytes: &[u8], left: u32, size: u64) -> Result<Option<(u32, u64, &[u8])>, StoreFault>
     ensures found { IfOk result (λ found. IfSome found (λ r. IsInBatch left size bytes.now r.0 r.1 r.2.now)) }
     ensures ended { IfOk result (λ found. IfNone found (IsAfterBatches left size bytes.now)) }
-    ensures no_batch { OnErr result ((count length_of : ℕ) (content : List ℕ) → IsInBatch left size bytes.now count length_of content → ⊥) }
+    ensures no_batch { OnErr result
+        ((count length_of : ℕ) (content : List ℕ) → IsInBatch left size bytes.now count length_of content → ⊥) }
     ensures no_end { OnErr result (IsAfterBatches left size bytes.now → ⊥) }
     ensures faults { OnErr result (result ≡ Err StoreFault.Damaged) }
 {
@@ -78,7 +79,8 @@ fn record_at(
     ensures found { IfOk result (λ r. bytes.now ≡ record_encoding number r.0 ++ r.1.now) }
     ensures fits { IfOk result (λ r. IsRecord r.0 × (number < MAX_RECORDS)) }
     ensures within { IfOk result (λ r. length bytes.now ≤ size + length r.1.now) }
-    ensures damaged { IsErrOf result StoreFault.Damaged → (entry : Record) (rest : List ℕ) → IsRecord entry → number < MAX_RECORDS
+    ensures damaged { IsErrOf result StoreFault.Damaged → (entry : Record) (rest : List ℕ) → IsRecord entry
+        → number < MAX_RECORDS
         → length bytes.now ≤ size + length rest → bytes.now ≡ record_encoding number entry ++ rest → ⊥ }
     ensures faults { OnErr result ((result ≡ Err StoreFault.Damaged) ⊎ (result ≡ Err StoreFault.NoMemory)) }
 {
@@ -129,7 +131,8 @@ impl RecordReader {
         requires place { D.honest → at ≤ length (slot_of (D.view disk.now).seen slot) }
         requires room { LONGEST_STEP ≤ room }
         ensures over { D.honest → IfOk result (λ reader. IsOver (slot_of (D.view disk.now).seen slot) reader.window) }
-        ensures place { D.honest → IfOk result (λ reader. place_of reader ≡ record { at = at; number = 0; left = 0; size = 0 }) }
+        ensures place { D.honest → IfOk result
+            (λ reader. place_of reader ≡ record { at = at; number = 0; left = 0; size = 0 }) }
         ensures number { IfOk result (λ reader. reader.number ≡ 0) }
         ensures slot { IfOk result (λ reader. reader.window.slot ≡ slot) }
     {
@@ -163,11 +166,13 @@ impl RecordReader {
             → IfOk result (λ found. IfSome found (λ entry. Leads bytes (place_of self.old) entry (place_of self.new))) }
         ensures last { (bytes : List ℕ) → IsOver bytes self.old.window → IsFull self.old.window
             → IfOk result (λ found. IfNone found (IsLast bytes (place_of self.old))) }
-        ensures damaged { IsErrOf result StoreFault.Damaged → (bytes : List ℕ) → IsOver bytes self.old.window → IsFull self.old.window
+        ensures damaged { IsErrOf result StoreFault.Damaged → (bytes : List ℕ) → IsOver bytes self.old.window
+            → IsFull self.old.window
             → IsNothing bytes (place_of self.old) }
         ensures over { (bytes : List ℕ) → IsOver bytes self.old.window → OnOk result (IsOver bytes self.new.window) }
         ensures stays { IfOk result (λ found. IfNone found (self.new ≡ self.old)) }
-        ensures counted { IfOk result (λ found. IfSome found (λ _. (self.new.number ≡ self.old.number + 1) × (self.new.number ≤ MAX_RECORDS))) }
+        ensures counted { IfOk result (λ found. IfSome found
+            (λ _. (self.new.number ≡ self.old.number + 1) × (self.new.number ≤ MAX_RECORDS))) }
         ensures slot { self.new.window.slot ≡ self.old.window.slot }
         ensures faults { OnErr result ((result ≡ Err StoreFault.Damaged) ⊎ (result ≡ Err StoreFault.NoMemory)) }
     {
@@ -199,15 +204,20 @@ impl RecordReader {
         ensures stays { IfOk result (λ found. IfNone found (place_of self.new ≡ place_of self.old)) }
         ensures damaged { D.honest → IsErrOf result StoreFault.Damaged
             → IsNothing (slot_of (D.view disk.old).seen self.old.window.slot) (place_of self.old) }
-        ensures over { D.honest → OnOk result (IsOver (slot_of (D.view disk.old).seen self.old.window.slot) self.new.window) }
-        ensures counted { IfOk result (λ found. IfSome found (λ _. (self.new.number ≡ self.old.number + 1) × (self.new.number ≤ MAX_RECORDS))) }
+        ensures over { D.honest → OnOk result
+            (IsOver (slot_of (D.view disk.old).seen self.old.window.slot) self.new.window) }
+        ensures counted { IfOk result (λ found. IfSome found
+            (λ _. (self.new.number ≡ self.old.number + 1) × (self.new.number ≤ MAX_RECORDS))) }
         ensures slot { self.new.window.slot ≡ self.old.window.slot }
         ensures seen { D.honest → (D.view disk.new).seen ≡ (D.view disk.old).seen }
         ensures time { D.honest → Passes (D.view disk.old) (D.view disk.new) (MayLeave (D.view disk.old)) }
         ensures quiet { OnOk result (D.failed_calls disk.new ≡ D.failed_calls disk.old) }
-        ensures still { OnErr result ((result ≡ Err StoreFault.Device) ⊎ (D.failed_calls disk.new ≡ D.failed_calls disk.old)) }
-        ensures device { IsErrOf result StoreFault.Device → D.failed_calls disk.new ≡ one_more (D.failed_calls disk.old) }
-        ensures faults { OnErr result ((result ≡ Err StoreFault.Device) ⊎ ((result ≡ Err StoreFault.Damaged) ⊎ (result ≡ Err StoreFault.NoMemory))) }
+        ensures still { OnErr result ((result ≡ Err StoreFault.Device)
+            ⊎ (D.failed_calls disk.new ≡ D.failed_calls disk.old)) }
+        ensures device { IsErrOf result StoreFault.Device
+            → D.failed_calls disk.new ≡ one_more (D.failed_calls disk.old) }
+        ensures faults { OnErr result ((result ≡ Err StoreFault.Device)
+            ⊎ ((result ≡ Err StoreFault.Damaged) ⊎ (result ≡ Err StoreFault.NoMemory))) }
     {
         self.window.fill(disk)?;
         let found = self.take_next()?;

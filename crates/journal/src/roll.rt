@@ -54,7 +54,8 @@ pub fn roll_close<D: Disk>(disk: &mut D, epoch: u64) -> Result<(), DiskFault>
 /// header.
 pub fn roll_head<D: Disk>(disk: &mut D, epoch: u64) -> Result<(), DiskFault>
     requires { D.honest → 0 < length (slot_of (D.view disk.old).seen (slot_of_epoch epoch)) }
-    ensures header { D.honest → OnOk result ((D.view disk.new).seen ≡ with_slot (D.view disk.old).seen (slot_of_epoch epoch)
+    ensures header { D.honest → OnOk result
+        ((D.view disk.new).seen ≡ with_slot (D.view disk.old).seen (slot_of_epoch epoch)
         (take 1 (slot_of (D.view disk.old).seen (slot_of_epoch epoch)) ++ (epoch_encoding epoch ++ closed_gate ∷ []))) }
     ensures synced { D.honest → OnOk result (IsSynced (D.view disk.new) (slot_of_epoch epoch)) }
     ensures any_moment { D.honest → IsShut (D.view disk.old) (slot_of_epoch epoch)

@@ -45,7 +45,8 @@ impl Segment {
     pub fn append<D: Disk>(&mut self, disk: &mut D, batch: &Batch) -> Result<(), StoreFault>
         requires some { 0 < batch.now.count }
         requires gate { D.honest → 0 < length (slot_of (D.view disk.old).seen (slot_of_epoch self.old.epoch)) }
-        ensures stored { D.honest → OnOk result ((D.view disk.new).seen ≡ with_slot (D.view disk.old).seen (slot_of_epoch self.old.epoch)
+        ensures stored { D.honest → OnOk result
+            ((D.view disk.new).seen ≡ with_slot (D.view disk.old).seen (slot_of_epoch self.old.epoch)
             (with_batch (slot_of (D.view disk.old).seen (slot_of_epoch self.old.epoch)) (content_of batch.now))) }
         ensures synced { D.honest → OnOk result (IsSynced (D.view disk.new) (slot_of_epoch self.old.epoch)) }
         // A crash at any moment of the call leaves the other slots as they were, and the segment as it was, with bytes
@@ -59,7 +60,8 @@ impl Segment {
 
         ensures full { IsErrOf result StoreFault.Full ↔ (MAX_RECORDS < self.old.records + batch.now.count) }
         ensures unchanged { IsErrOf result StoreFault.Full → disk.new ≡ disk.old }
-        ensures device { IsErrOf result StoreFault.Device → D.failed_calls disk.new ≡ one_more (D.failed_calls disk.old) }
+        ensures device { IsErrOf result StoreFault.Device
+            → D.failed_calls disk.new ≡ one_more (D.failed_calls disk.old) }
         ensures faults { OnErr result ((result ≡ Err StoreFault.Device) ⊎ (result ≡ Err StoreFault.Full)) }
         ensures kept { OnErr result (self.new ≡ self.old) }
     {

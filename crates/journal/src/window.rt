@@ -31,7 +31,13 @@ impl Model for Window {
 
     ghost Value = { WindowValue };
 
-    ghost view = { λ w. record { slot = w.slot; at = w.at; front = drop w.from (take w.to w.buffer.items); room = length w.buffer.items; end = w.end } };
+    ghost view = { λ w. record {
+      slot = w.slot;
+      at = w.at;
+      front = drop w.from (take w.to w.buffer.items);
+      room = length w.buffer.items;
+      end = w.end;
+    } };
 
     ghost invariant = { λ w. (w.from ≤ w.to) × (w.to ≤ length w.buffer.items) × (w.at + (w.to - w.from) ≤ w.end) };
 }
@@ -84,7 +90,8 @@ impl Window {
         requires { count ≤ length self.old.front }
         ensures at { self.new.at ≡ self.old.at + count }
         ensures front { self.new.front ≡ drop count self.old.front }
-        ensures others { (self.new.slot ≡ self.old.slot) × (self.new.room ≡ self.old.room) × (self.new.end ≡ self.old.end) }
+        ensures others { (self.new.slot ≡ self.old.slot) × (self.new.room ≡ self.old.room)
+            × (self.new.end ≡ self.old.end) }
     {
         self.from += count;
         self.at += count as u64;

@@ -40,11 +40,18 @@ space_shown _ = None
 
 -- what a reply shows
 abbrev pub shown_by : Reply → Shown
-shown_by answer = record { name = name_shown answer; space = space_shown answer; preference = preferred_by answer; names = names_shown (encoding_in answer) }
+shown_by answer =
+    record {
+      name = name_shown answer;
+      space = space_shown answer;
+      preference = preferred_by answer;
+      names = names_shown (encoding_in answer);
+    }
 
 -- If the call may get a reply that shows this, it gets that reply.
 pub record Prefers (old : State) (space : ℕ) (c : Call) (shown : Shown) (answer : Reply) : Type 0 where
-  pub takes : (other : Reply) (new : State) (effects : List Effect) → shown ≡ shown_by other → ActsIn old space (names_in old space) c other new effects → answer ≡ other
+  pub takes : (other : Reply) (new : State) (effects : List Effect) → shown ≡ shown_by other
+      → ActsIn old space (names_in old space) c other new effects → answer ≡ other
 
 -- Calls that leave something open.
 abbrev pub is_open : Call → Bool
@@ -57,62 +64,95 @@ is_open c = false
 
 -- For other calls the state determines the reply.
 
-on_entry : (entry : Option Entry) (action : Entry → Action) (one other : Reply) (new last : State) (effects others : List Effect) → ActsOn entry action one new effects → ActsOn entry action other last others → one ≡ other
+on_entry : (entry : Option Entry) (action : Entry → Action) (one other : Reply) (new last : State)
+    (effects others : List Effect) → ActsOn entry action one new effects → ActsOn entry action other last others
+    → one ≡ other
 on_entry None action one other new last effects others a b = absurd a
 on_entry (Some entry) action one other new last effects others a b = a.0 ∙ sym b.0
 
-done_alike : (old : State) (space : ℕ) (names : Names) (c : Call) (one other : Reply) (new last : State) (effects others : List Effect) → is_open c ≡ false
+done_alike : (old : State) (space : ℕ) (names : Names) (c : Call) (one other : Reply) (new last : State)
+    (effects others : List Effect) → is_open c ≡ false
     → Done old space names c one new effects → Done old space names c other last others → one ≡ other
 unfolding Done
 done_alike old space names (call.Attach s) one other new last effects others closed a b = a.0 ∙ sym b.0
 done_alike old space names call.Names one other new last effects others closed a b = a.0 ∙ sym b.0
-done_alike old space names (call.Type name) one other new last effects others closed a b = on_entry _ _ one other new last effects others a b
-done_alike old space names (call.Rename from to) one other new last effects others closed a b = on_entry _ _ one other new last effects others a b
+done_alike old space names (call.Type name) one other new last effects others closed a b =
+    on_entry _ _ one other new last effects others a b
+done_alike old space names (call.Rename from to) one other new last effects others closed a b =
+    on_entry _ _ one other new last effects others a b
 done_alike old space names (call.AllocateName kind name) one other new last effects others closed a b = a.0 ∙ sym b.0
 done_alike old space names (call.Allocate kind) one other new last effects others closed a b = absurd (cc closed)
-done_alike old space names (call.Destroy name) one other new last effects others closed a b = on_entry _ _ one other new last effects others a b
-done_alike old space names (call.Deallocate name) one other new last effects others closed a b = on_entry _ _ one other new last effects others a b
-done_alike old space names (call.GetRefs name kind) one other new last effects others closed a b = on_entry _ _ one other new last effects others a b
-done_alike old space names (call.ModRefs name kind delta) one other new last effects others closed a b = on_entry _ _ one other new last effects others a b
-done_alike old space names (call.SetQlimit name limit) one other new last effects others closed a b = on_entry _ _ one other new last effects others a b
-done_alike old space names (call.SetMscount name count) one other new last effects others closed a b = on_entry _ _ one other new last effects others a b
-done_alike old space names (call.SetSeqno name seqno) one other new last effects others closed a b = on_entry _ _ one other new last effects others a b
-done_alike old space names (call.GetReceiveStatus name) one other new last effects others closed a b = on_entry _ _ one other new last effects others a b
+done_alike old space names (call.Destroy name) one other new last effects others closed a b =
+    on_entry _ _ one other new last effects others a b
+done_alike old space names (call.Deallocate name) one other new last effects others closed a b =
+    on_entry _ _ one other new last effects others a b
+done_alike old space names (call.GetRefs name kind) one other new last effects others closed a b =
+    on_entry _ _ one other new last effects others a b
+done_alike old space names (call.ModRefs name kind delta) one other new last effects others closed a b =
+    on_entry _ _ one other new last effects others a b
+done_alike old space names (call.SetQlimit name limit) one other new last effects others closed a b =
+    on_entry _ _ one other new last effects others a b
+done_alike old space names (call.SetMscount name count) one other new last effects others closed a b =
+    on_entry _ _ one other new last effects others a b
+done_alike old space names (call.SetSeqno name seqno) one other new last effects others closed a b =
+    on_entry _ _ one other new last effects others a b
+done_alike old space names (call.GetReceiveStatus name) one other new last effects others closed a b =
+    on_entry _ _ one other new last effects others a b
 done_alike old space names (call.GetSetStatus name) one other new last effects others closed a b = a.0 ∙ sym b.0
-done_alike old space names (call.MoveMember member after) one other new last effects others closed a b = on_entry _ _ one other new last effects others a b
-done_alike old space names (call.RequestNotification name variant sync notify_name disposition) one other new last effects others closed a b = absurd (cc closed)
-done_alike old space names (call.InsertRight name right_name disposition) one other new last effects others closed a b = a.0 ∙ sym b.0
-done_alike old space names (call.ExtractRight name disposition) one other new last effects others closed a b = absurd (cc closed)
+done_alike old space names (call.MoveMember member after) one other new last effects others closed a b =
+    on_entry _ _ one other new last effects others a b
+done_alike old space names (call.RequestNotification name variant sync notify_name disposition) one other new last
+    effects others closed a b = absurd (cc closed)
+done_alike old space names (call.InsertRight name right_name disposition) one other new last effects others closed a b =
+    a.0 ∙ sym b.0
+done_alike old space names (call.ExtractRight name disposition) one other new last effects others closed a b =
+    absurd (cc closed)
 done_alike old space names (call.Send message) one other new last effects others closed a b = absurd a
-done_alike old space names (call.Receive limit large name waited) one other new last effects others closed a b = absurd a
-done_alike old space names (call.SpaceCreate name disposition) one other new last effects others closed a b = absurd (cc closed)
+done_alike old space names (call.Receive limit large name waited) one other new last effects others closed a b =
+    absurd a
+done_alike old space names (call.SpaceCreate name disposition) one other new last effects others closed a b =
+    absurd (cc closed)
 done_alike old space names call.SpaceDestroy one other new last effects others closed a b = a.0 ∙ sym b.0
 
-called_alike : (refusal : Option KernReturn) (old : State) (space : ℕ) (names : Names) (c : Call) (one other : Reply) (new last : State) (effects others : List Effect) → is_open c ≡ false
-    → Called refusal old space names c one new effects → Called refusal old space names c other last others → one ≡ other
+called_alike : (refusal : Option KernReturn) (old : State) (space : ℕ) (names : Names) (c : Call) (one other : Reply)
+    (new last : State) (effects others : List Effect) → is_open c ≡ false
+    → Called refusal old space names c one new effects → Called refusal old space names c other last others
+    → one ≡ other
 called_alike (Some code) old space names c one other new last effects others closed a b = a.0 ∙ sym b.0
-called_alike None old space names c one other new last effects others closed a b = done_alike old space names c one other new last effects others closed a b
+called_alike None old space names c one other new last effects others closed a b =
+    done_alike old space names c one other new last effects others closed a b
 
 -- a send, done or refused
 abbrev pub SentAs : Result Ready KernReturn → State → Reply → State → List Effect → Type 0
 SentAs ready old answer new effects =
-    MatchResult ready (λ (ready : Ready). (answer ≡ without_message Success 0 MACH_PORT_NULL) × (new ≡ (sent ready).0) × (effects ≡ (sent ready).1))
+    MatchResult ready (λ (ready : Ready). (answer ≡ without_message Success 0 MACH_PORT_NULL) × (new ≡ (sent ready).0)
+    × (effects ≡ (sent ready).1))
     (λ code. IsRefusedWith (without_message code 0 MACH_PORT_NULL) old answer new effects)
 
-sent_alike : (ready : Result Ready KernReturn) (old : State) (one other : Reply) (new last : State) (effects others : List Effect) → SentAs ready old one new effects → SentAs ready old other last others → one ≡ other
+sent_alike : (ready : Result Ready KernReturn) (old : State) (one other : Reply) (new last : State)
+    (effects others : List Effect) → SentAs ready old one new effects → SentAs ready old other last others → one ≡ other
 sent_alike (Ok ready) old one other new last effects others a b = a.0 ∙ sym b.0
 sent_alike (Err code) old one other new last effects others a b = a.0 ∙ sym b.0
 
-acts_alike : (c : Call) (old : State) (space : ℕ) (names : Names) (one other : Reply) (new last : State) (effects others : List Effect) → is_open c ≡ false
+acts_alike : (c : Call) (old : State) (space : ℕ) (names : Names) (one other : Reply) (new last : State)
+    (effects others : List Effect) → is_open c ≡ false
     → ActsIn old space names c one new effects → ActsIn old space names c other last others → one ≡ other
-acts_alike (call.Send message) old space names one other new last effects others closed a b = sent_alike (ready_to_send old space message) old one other new last effects others a b
-acts_alike (call.Receive limit large name waited) old space names one other new last effects others closed a b = absurd (cc closed)
-acts_alike c old space names one other new last effects others closed a b = called_alike (first_failing (tests_of old space names c)) old space names c one other new last effects others closed a b
+acts_alike (call.Send message) old space names one other new last effects others closed a b =
+    sent_alike (ready_to_send old space message) old one other new last effects others a b
+acts_alike (call.Receive limit large name waited) old space names one other new last effects others closed a b =
+    absurd (cc closed)
+acts_alike c old space names one other new last effects others closed a b =
+    called_alike (first_failing (tests_of old space names c)) old space names c one other new last effects others closed
+    a b
 
-pub prefers_told : (old : State) (space : ℕ) (c : Call) (shown : Shown) (answer : Reply) (new : State) (effects : List Effect) → is_open c ≡ false
+pub prefers_told : (old : State) (space : ℕ) (c : Call) (shown : Shown) (answer : Reply) (new : State)
+    (effects : List Effect) → is_open c ≡ false
     → ActsIn old space (names_in old space) c answer new effects → Prefers old space c shown answer
 prefers_told old space c shown answer new effects closed acts =
-    record { takes = λ other last others _ may. acts_alike c old space (names_in old space) answer other new last effects others closed acts may }
+    record {
+      takes = λ other last others _ may. acts_alike c old space
+          (names_in old space) answer other new last effects others closed acts may;
+    }
 
 -- Open calls.
 
@@ -120,99 +160,150 @@ name_of : Shown → Option ℕ
 name_of shown = shown.name
 
 -- a new right
-pub prefers_allocate : (old : State) (space kind : ℕ) (shown : Shown) (answer : Reply) (new : State) (effects : List Effect) → ActsIn old space (names_in old space) (call.Allocate kind) answer new effects
-    → ((name : ℕ) → shown.name ≡ Some name → (last : State) → (others : List Effect) → ActsIn old space (names_in old space) (call.Allocate kind) (reply.Allocate name) last others → answer ≡ reply.Allocate name)
+pub prefers_allocate : (old : State) (space kind : ℕ) (shown : Shown) (answer : Reply) (new : State)
+    (effects : List Effect) → ActsIn old space (names_in old space) (call.Allocate kind) answer new effects
+    → ((name : ℕ) → shown.name ≡ Some name → (last : State) → (others : List Effect)
+    → ActsIn old space (names_in old space) (call.Allocate kind) (reply.Allocate name) last others
+    → answer ≡ reply.Allocate name)
     → Prefers old space (call.Allocate kind) shown answer
 unfolding Done name_of
 prefers_allocate old space kind shown answer new effects acts wanted = record {
-  takes = λ other last others is may. by_case (first_failing (tests_of old space (names_in old space) (call.Allocate kind))) other last others is acts may wanted;
+  takes =
+      λ other last others is may. by_case
+      (first_failing (tests_of old space (names_in old space) (call.Allocate kind))) other last others is acts may
+      wanted;
 }
   where
-    by_case : (refusal : Option KernReturn) (other : Reply) (last : State) (others : List Effect) → shown ≡ shown_by other
-        → Called refusal old space (names_in old space) (call.Allocate kind) answer new effects → Called refusal old space (names_in old space) (call.Allocate kind) other last others
-        → ((name : ℕ) → shown.name ≡ Some name → (last : State) → (others : List Effect) → Called refusal old space (names_in old space) (call.Allocate kind) (reply.Allocate name) last others → answer ≡ reply.Allocate name)
+    by_case : (refusal : Option KernReturn) (other : Reply) (last : State) (others : List Effect)
+        → shown ≡ shown_by other
+        → Called refusal old space (names_in old space) (call.Allocate kind) answer new effects
+        → Called refusal old space (names_in old space) (call.Allocate kind) other last others
+        → ((name : ℕ) → shown.name ≡ Some name → (last : State) → (others : List Effect)
+        → Called refusal old space (names_in old space) (call.Allocate kind) (reply.Allocate name) last others
+        → answer ≡ reply.Allocate name)
         → answer ≡ other
     by_case (Some code) other last others is a b wanted = a.0 ∙ sym b.0
     by_case None other last others is a b wanted =
         let named : shown.name ≡ Some b.0 = ap name_of is ∙ ap (λ (r : Reply). name_of (shown_by r)) b.2 in
-        wanted b.0 named last others (subst (λ (r : Reply). Done old space (names_in old space) (call.Allocate kind) r last others) b.2 b) ∙ sym b.2
+        wanted b.0 named last others (subst
+        (λ (r : Reply). Done old space (names_in old space) (call.Allocate kind) r last others) b.2 b) ∙ sym b.2
 
 -- a former target that comes back
-pub prefers_request : (old : State) (space name variant sync notify_name disposition : ℕ) (shown : Shown) (answer : Reply) (new : State) (effects : List Effect)
-    → ActsIn old space (names_in old space) (call.RequestNotification name variant sync notify_name disposition) answer new effects
+pub prefers_request : (old : State) (space name variant sync notify_name disposition : ℕ) (shown : Shown)
+    (answer : Reply) (new : State) (effects : List Effect)
+    → ActsIn old space (names_in old space)
+    (call.RequestNotification name variant sync notify_name disposition) answer new effects
     → ((given : ℕ) → shown.name ≡ Some given → (last : State) → (others : List Effect)
-    → ActsIn old space (names_in old space) (call.RequestNotification name variant sync notify_name disposition) (reply.PreviousTarget given) last others → answer ≡ reply.PreviousTarget given)
+    → ActsIn old space (names_in old space) (call.RequestNotification name variant sync notify_name disposition)
+    (reply.PreviousTarget given) last others → answer ≡ reply.PreviousTarget given)
     → Prefers old space (call.RequestNotification name variant sync notify_name disposition) shown answer
 unfolding Done name_of
 prefers_request old space name variant sync notify_name disposition shown answer new effects acts wanted = record {
-  takes = λ other last others is may. by_case (first_failing (tests_of old space (names_in old space) (call.RequestNotification name variant sync notify_name disposition))) other last others is acts may wanted;
+  takes =
+      λ other last others is may. by_case
+      (first_failing (tests_of old space (names_in old space)
+      (call.RequestNotification name variant sync notify_name disposition))) other last others is acts may
+      wanted;
 }
   where
-    by_case : (refusal : Option KernReturn) (other : Reply) (last : State) (others : List Effect) → shown ≡ shown_by other
-        → Called refusal old space (names_in old space) (call.RequestNotification name variant sync notify_name disposition) answer new effects
-        → Called refusal old space (names_in old space) (call.RequestNotification name variant sync notify_name disposition) other last others
+    by_case : (refusal : Option KernReturn) (other : Reply) (last : State) (others : List Effect)
+        → shown ≡ shown_by other
+        → Called refusal old space (names_in old space)
+        (call.RequestNotification name variant sync notify_name disposition) answer new effects
+        → Called refusal old space (names_in old space)
+        (call.RequestNotification name variant sync notify_name disposition) other last others
         → ((given : ℕ) → shown.name ≡ Some given → (last : State) → (others : List Effect)
-        → Called refusal old space (names_in old space) (call.RequestNotification name variant sync notify_name disposition) (reply.PreviousTarget given) last others → answer ≡ reply.PreviousTarget given)
+        → Called refusal old space (names_in old space)
+        (call.RequestNotification name variant sync notify_name disposition)
+        (reply.PreviousTarget given) last others → answer ≡ reply.PreviousTarget given)
         → answer ≡ other
     by_case (Some code) other last others is a b wanted = a.0 ∙ sym b.0
     by_case None other last others is a b wanted =
         let named : shown.name ≡ Some b.0 = ap name_of is ∙ ap (λ (r : Reply). name_of (shown_by r)) b.1 in
-        wanted b.0 named last others (subst (λ (r : Reply). Done old space (names_in old space) (call.RequestNotification name variant sync notify_name disposition) r last others) b.1 b) ∙ sym b.1
+        wanted b.0 named last others (subst
+        (λ (r : Reply). Done old space (names_in old space)
+        (call.RequestNotification name variant sync notify_name disposition) r last others) b.1 b) ∙ sym b.1
 
 -- a right that comes out under a name
-shown_extracted : (taken : Option Taken) (space : ℕ) (other : Reply) (last : State) (others : List Effect) → actions.Extracted taken space other last others → (name : ℕ) × (kind : RightKind) × (other ≡ reply.Extracted name kind)
+shown_extracted : (taken : Option Taken) (space : ℕ) (other : Reply) (last : State) (others : List Effect)
+    → actions.Extracted taken space other last others → (name : ℕ) × (kind : RightKind)
+    × (other ≡ reply.Extracted name kind)
 shown_extracted None space other last others acts = absurd acts
 shown_extracted (Some taken) space other last others acts = (acts.0, taken.right.kind, acts.1)
 
-pub prefers_extract : (old : State) (space name disposition : ℕ) (shown : Shown) (answer : Reply) (new : State) (effects : List Effect) → ActsIn old space (names_in old space) (call.ExtractRight name disposition) answer new effects
-    → ((given : ℕ) → shown.name ≡ Some given → (kind : RightKind) → (last : State) → (others : List Effect) → ActsIn old space (names_in old space) (call.ExtractRight name disposition) (reply.Extracted given kind) last others
+pub prefers_extract : (old : State) (space name disposition : ℕ) (shown : Shown) (answer : Reply) (new : State)
+    (effects : List Effect) → ActsIn old space (names_in old space)
+    (call.ExtractRight name disposition) answer new effects
+    → ((given : ℕ) → shown.name ≡ Some given → (kind : RightKind) → (last : State) → (others : List Effect)
+    → ActsIn old space (names_in old space) (call.ExtractRight name disposition)
+    (reply.Extracted given kind) last others
     → answer ≡ reply.Extracted given kind)
     → Prefers old space (call.ExtractRight name disposition) shown answer
 unfolding Done name_of
 prefers_extract old space name disposition shown answer new effects acts wanted = record {
-  takes = λ other last others is may. by_case (first_failing (tests_of old space (names_in old space) (call.ExtractRight name disposition))) other last others is acts may wanted;
+  takes =
+      λ other last others is may. by_case
+      (first_failing (tests_of old space (names_in old space) (call.ExtractRight name disposition))) other last
+      others is acts may wanted;
 }
   where
-    by_case : (refusal : Option KernReturn) (other : Reply) (last : State) (others : List Effect) → shown ≡ shown_by other
+    by_case : (refusal : Option KernReturn) (other : Reply) (last : State) (others : List Effect)
+        → shown ≡ shown_by other
         → Called refusal old space (names_in old space) (call.ExtractRight name disposition) answer new effects
         → Called refusal old space (names_in old space) (call.ExtractRight name disposition) other last others
         → ((given : ℕ) → shown.name ≡ Some given → (kind : RightKind) → (last : State) → (others : List Effect)
-        → Called refusal old space (names_in old space) (call.ExtractRight name disposition) (reply.Extracted given kind) last others → answer ≡ reply.Extracted given kind)
+        → Called refusal old space (names_in old space) (call.ExtractRight name disposition)
+        (reply.Extracted given kind) last others → answer ≡ reply.Extracted given kind)
         → answer ≡ other
     by_case (Some code) other last others is a b wanted = a.0 ∙ sym b.0
     by_case None other last others is a b wanted =
         let told = shown_extracted (actions.taken_by old space name disposition) space other last others b in
         let named : shown.name ≡ Some told.0 = ap name_of is ∙ ap (λ (r : Reply). name_of (shown_by r)) told.2 in
-        wanted told.0 named told.1 last others (subst (λ (r : Reply). Done old space (names_in old space) (call.ExtractRight name disposition) r last others) told.2 b) ∙ sym told.2
+        wanted told.0 named told.1 last others
+        (subst (λ (r : Reply). Done old space (names_in old space)
+        (call.ExtractRight name disposition) r last others) told.2 b) ∙ sym told.2
 
 -- a new space
 space_of : Shown → Option (ℕ × ℕ)
 space_of shown = shown.space
 
-shown_created : (taken : Option Taken) (other : Reply) (last : State) (others : List Effect) → actions.Created taken other last others → (number : ℕ) × (name : ℕ) × (other ≡ reply.SpaceCreated number name)
+shown_created : (taken : Option Taken) (other : Reply) (last : State) (others : List Effect)
+    → actions.Created taken other last others → (number : ℕ) × (name : ℕ) × (other ≡ reply.SpaceCreated number name)
 shown_created None other last others acts = absurd acts
 shown_created (Some taken) other last others acts = (acts.0, acts.1, acts.3)
 
-pub prefers_create : (old : State) (space name disposition : ℕ) (shown : Shown) (answer : Reply) (new : State) (effects : List Effect) → ActsIn old space (names_in old space) (call.SpaceCreate name disposition) answer new effects
-    → ((number : ℕ) → (child : ℕ) → shown.space ≡ Some (number, child) → (last : State) → (others : List Effect) → ActsIn old space (names_in old space) (call.SpaceCreate name disposition) (reply.SpaceCreated number child) last others
+pub prefers_create : (old : State) (space name disposition : ℕ) (shown : Shown) (answer : Reply) (new : State)
+    (effects : List Effect) → ActsIn old space (names_in old space)
+    (call.SpaceCreate name disposition) answer new effects
+    → ((number : ℕ) → (child : ℕ) → shown.space ≡ Some (number, child) → (last : State) → (others : List Effect)
+    → ActsIn old space (names_in old space) (call.SpaceCreate name disposition)
+    (reply.SpaceCreated number child) last others
     → answer ≡ reply.SpaceCreated number child)
     → Prefers old space (call.SpaceCreate name disposition) shown answer
 unfolding Done space_of
 prefers_create old space name disposition shown answer new effects acts wanted = record {
-  takes = λ other last others is may. by_case (first_failing (tests_of old space (names_in old space) (call.SpaceCreate name disposition))) other last others is acts may wanted;
+  takes =
+      λ other last others is may. by_case
+      (first_failing (tests_of old space (names_in old space) (call.SpaceCreate name disposition))) other last
+      others is acts may wanted;
 }
   where
-    by_case : (refusal : Option KernReturn) (other : Reply) (last : State) (others : List Effect) → shown ≡ shown_by other
+    by_case : (refusal : Option KernReturn) (other : Reply) (last : State) (others : List Effect)
+        → shown ≡ shown_by other
         → Called refusal old space (names_in old space) (call.SpaceCreate name disposition) answer new effects
         → Called refusal old space (names_in old space) (call.SpaceCreate name disposition) other last others
         → ((number : ℕ) → (child : ℕ) → shown.space ≡ Some (number, child) → (last : State) → (others : List Effect)
-        → Called refusal old space (names_in old space) (call.SpaceCreate name disposition) (reply.SpaceCreated number child) last others → answer ≡ reply.SpaceCreated number child)
+        → Called refusal old space (names_in old space) (call.SpaceCreate name disposition)
+        (reply.SpaceCreated number child) last others → answer ≡ reply.SpaceCreated number child)
         → answer ≡ other
     by_case (Some code) other last others is a b wanted = a.0 ∙ sym b.0
     by_case None other last others is a b wanted =
         let told = shown_created (actions.taken_by old space name disposition) other last others b in
-        let numbered : shown.space ≡ Some (told.0, told.1) = ap space_of is ∙ ap (λ (r : Reply). space_of (shown_by r)) told.2 in
-        wanted told.0 told.1 numbered last others (subst (λ (r : Reply). Done old space (names_in old space) (call.SpaceCreate name disposition) r last others) told.2 b) ∙ sym told.2
+        let numbered : shown.space ≡ Some (told.0, told.1) =
+        ap space_of is ∙ ap (λ (r : Reply). space_of (shown_by r)) told.2 in
+        wanted told.0 told.1 numbered last others
+        (subst (λ (r : Reply). Done old space (names_in old space)
+        (call.SpaceCreate name disposition) r last others) told.2 b) ∙ sym told.2
 
 -- a receive takes the message that a reply shows, and its rights get the names shown
 preference_of : Shown → Preference
@@ -221,12 +312,15 @@ preference_of shown = shown.preference
 names_of : Shown → List ℕ
 names_of shown = shown.names
 
-pub prefers_receive : (old : State) (space limit : ℕ) (large : Bool) (name : ℕ) (waited : Bool) (shown : Shown) (answer : Reply)
-    → ((other : Reply) → (last : State) → (others : List Effect) → shown.preference ≡ preferred_by other → shown.names ≡ names_shown (encoding_in other)
+pub prefers_receive : (old : State) (space limit : ℕ) (large : Bool) (name : ℕ) (waited : Bool) (shown : Shown)
+    (answer : Reply)
+    → ((other : Reply) → (last : State) → (others : List Effect) → shown.preference ≡ preferred_by other
+    → shown.names ≡ names_shown (encoding_in other)
     → ActsIn old space (names_in old space) (call.Receive limit large name waited) other last others → answer ≡ other)
     → Prefers old space (call.Receive limit large name waited) shown answer
 unfolding preference_of names_of
-prefers_receive old space limit large name waited shown answer wanted = record { takes = λ other last others is may. wanted other last others (ap preference_of is) (ap names_of is) may }
+prefers_receive old space limit large name waited shown answer wanted =
+    record { takes = λ other last others is may. wanted other last others (ap preference_of is) (ap names_of is) may }
 
 -- Which calls only read, which change the state and set nothing off, which give up rights, and which copy one in.
 abbrev pub only_reads : Call → Bool

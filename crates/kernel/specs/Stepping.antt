@@ -27,61 +27,89 @@ or_empty : Option Names → Names
 or_empty None = finmap.empty
 or_empty (Some names) = names
 
-from_there : (old : State) (space : ℕ) (o : Option Names) (c : Call) (answer : Reply) (new : State) (effects : List Effect) → finmap.get old.spaces space ≡ o → IsSome o → ActsIn old space (names_in old space) c answer new effects → ActsFrom old space o c answer new effects
+from_there : (old : State) (space : ℕ) (o : Option Names) (c : Call) (answer : Reply) (new : State)
+    (effects : List Effect) → finmap.get old.spaces space ≡ o → IsSome o
+    → ActsIn old space (names_in old space) c answer new effects → ActsFrom old space o c answer new effects
 unfolding or_empty
 from_there old space None c answer new effects is there acts = absurd (cc there)
-from_there old space (Some names) c answer new effects is there acts = subst (λ (n : Names). ActsIn old space n c answer new effects) (ap or_empty is) acts
+from_there old space (Some names) c answer new effects is there acts =
+    subst (λ (n : Names). ActsIn old space n c answer new effects) (ap or_empty is) acts
 
-there_from : (old : State) (space : ℕ) (o : Option Names) (c : Call) (answer : Reply) (new : State) (effects : List Effect) → finmap.get old.spaces space ≡ o → IsSome o → ActsFrom old space o c answer new effects → ActsIn old space (names_in old space) c answer new effects
+there_from : (old : State) (space : ℕ) (o : Option Names) (c : Call) (answer : Reply) (new : State)
+    (effects : List Effect) → finmap.get old.spaces space ≡ o → IsSome o → ActsFrom old space o c answer new effects
+    → ActsIn old space (names_in old space) c answer new effects
 unfolding or_empty
 there_from old space None c answer new effects is there acts = absurd (cc there)
-there_from old space (Some names) c answer new effects is there acts = subst (λ (n : Names). ActsIn old space n c answer new effects) (sym (ap or_empty is)) acts
+there_from old space (Some names) c answer new effects is there acts =
+    subst (λ (n : Names). ActsIn old space n c answer new effects) (sym (ap or_empty is)) acts
 
 -- A call acted, and what it set off has settled.
-pub step_settled : (old : State) (space : ℕ) (c : Call) (answer : Reply) (mid new : State) (effects : List Effect) → IsSome (finmap.get old.spaces space)
+pub step_settled : (old : State) (space : ℕ) (c : Call) (answer : Reply) (mid new : State) (effects : List Effect)
+    → IsSome (finmap.get old.spaces space)
     → ActsIn old space (names_in old space) c answer mid effects → Settles mid effects new → Step old space c answer new
 unfolding Step
-step_settled old space c answer mid new effects there acts ends = (mid, effects, from_there old space (finmap.get old.spaces space) c answer mid effects refl there acts, ends)
+step_settled old space c answer mid new effects there acts ends =
+    (mid, effects, from_there old space (finmap.get old.spaces space) c answer mid effects refl there acts, ends)
 
 -- A call acted, and set nothing off.
-pub step_alone : (old : State) (space : ℕ) (c : Call) (answer : Reply) (new : State) → IsSome (finmap.get old.spaces space)
+pub step_alone : (old : State) (space : ℕ) (c : Call) (answer : Reply) (new : State)
+    → IsSome (finmap.get old.spaces space)
     → ActsIn old space (names_in old space) c answer new [] → Step old space c answer new
 step_alone old space c answer new there acts = step_settled old space c answer new new [] there acts settled
 
 -- A caller whose space is gone.
-gone_from : (old : State) (space : ℕ) (o : Option Names) (c : Call) (answer : Reply) → is_some o ≡ false → answer ≡ refused c InvalidTask → ActsFrom old space o c answer old []
+gone_from : (old : State) (space : ℕ) (o : Option Names) (c : Call) (answer : Reply) → is_some o ≡ false
+    → answer ≡ refused c InvalidTask → ActsFrom old space o c answer old []
 gone_from old space None c answer gone is = (is, refl, refl)
 gone_from old space (Some names) c answer gone is = absurd (cc gone)
 
-pub step_gone : (old : State) (space : ℕ) (c : Call) (answer : Reply) → is_some (finmap.get old.spaces space) ≡ false → answer ≡ refused c InvalidTask → Step old space c answer old
+pub step_gone : (old : State) (space : ℕ) (c : Call) (answer : Reply) → is_some (finmap.get old.spaces space) ≡ false
+    → answer ≡ refused c InvalidTask → Step old space c answer old
 unfolding Step
-step_gone old space c answer gone is = (old, [], gone_from old space (finmap.get old.spaces space) c answer gone is, settled)
+step_gone old space c answer gone is =
+    (old, [], gone_from old space (finmap.get old.spaces space) c answer gone is, settled)
 
 -- Preferred replies.
 
-pub prefers_step : (old : State) (space : ℕ) (c : Call) (shown : Shown) (answer : Reply) → IsSome (finmap.get old.spaces space) → Prefers old space c shown answer → PrefersStep old space c shown answer
+pub prefers_step : (old : State) (space : ℕ) (c : Call) (shown : Shown) (answer : Reply)
+    → IsSome (finmap.get old.spaces space) → Prefers old space c shown answer → PrefersStep old space c shown answer
 unfolding Step
 prefers_step old space c shown answer there prefers = record {
-  takes = λ other new is step. prefers.takes other step.0 step.1 is (there_from old space (finmap.get old.spaces space) c other step.0 step.1 refl there step.2);
+  takes =
+      λ other new is step. prefers.takes other step.0 step.1 is
+      (there_from old space (finmap.get old.spaces space) c other step.0 step.1 refl there step.2);
 }
 
-from_gone : (old : State) (space : ℕ) (o : Option Names) (c : Call) (answer : Reply) (new : State) (effects : List Effect) → is_some o ≡ false → ActsFrom old space o c answer new effects → answer ≡ refused c InvalidTask
+from_gone : (old : State) (space : ℕ) (o : Option Names) (c : Call) (answer : Reply) (new : State)
+    (effects : List Effect) → is_some o ≡ false → ActsFrom old space o c answer new effects
+    → answer ≡ refused c InvalidTask
 from_gone old space None c answer new effects gone acts = acts.0
 from_gone old space (Some names) c answer new effects gone acts = absurd (cc gone)
 
-pub prefers_gone : (old : State) (space : ℕ) (c : Call) (shown : Shown) (answer : Reply) → is_some (finmap.get old.spaces space) ≡ false → answer ≡ refused c InvalidTask → PrefersStep old space c shown answer
+pub prefers_gone : (old : State) (space : ℕ) (c : Call) (shown : Shown) (answer : Reply)
+    → is_some (finmap.get old.spaces space) ≡ false → answer ≡ refused c InvalidTask
+    → PrefersStep old space c shown answer
 unfolding Step
-prefers_gone old space c shown answer gone is = record { takes = λ other new _ step. is ∙ sym (from_gone old space (finmap.get old.spaces space) c other step.0 step.1 gone step.2) }
+prefers_gone old space c shown answer gone is =
+    record {
+      takes = λ other new _ step. is
+          ∙ sym (from_gone old space (finmap.get old.spaces space) c other step.0 step.1 gone step.2);
+    }
 
 -- Calls that were tried on a copy.
 
-pub step_tried : (old : State) (space : ℕ) (c : Call) (answer : Reply) (mid new : State) (effects : List Effect) → IsSome (finmap.get old.spaces space)
-    → is_refusal answer ≡ false → Tries old space c answer mid effects → Settles mid effects new → Step old space c answer new
-step_tried old space c answer mid new effects there done tries ends = step_settled old space c answer mid new effects there (done_acting old space c answer mid effects done tries) ends
+pub step_tried : (old : State) (space : ℕ) (c : Call) (answer : Reply) (mid new : State) (effects : List Effect)
+    → IsSome (finmap.get old.spaces space)
+    → is_refusal answer ≡ false → Tries old space c answer mid effects → Settles mid effects new
+    → Step old space c answer new
+step_tried old space c answer mid new effects there done tries ends =
+    step_settled old space c answer mid new effects there (done_acting old space c answer mid effects done tries) ends
 
-pub step_refused : (old : State) (space : ℕ) (c : Call) (answer : Reply) (mid : State) (effects : List Effect) → IsSome (finmap.get old.spaces space)
+pub step_refused : (old : State) (space : ℕ) (c : Call) (answer : Reply) (mid : State) (effects : List Effect)
+    → IsSome (finmap.get old.spaces space)
     → is_refusal answer ≡ true → Tries old space c answer mid effects → Step old space c answer old
-step_refused old space c answer mid effects there refused tries = step_alone old space c answer old there (refused_acting old space c answer mid effects refused tries)
+step_refused old space c answer mid effects there refused tries =
+    step_alone old space c answer old there (refused_acting old space c answer mid effects refused tries)
 
 -- what a clause says of the value of an option
 pub of_some : {X : Type 0} (P : X → Type 0) (o : Option X) (x : X) → o ≡ Some x → IfSome o P → P x

@@ -16,14 +16,18 @@ use Rattle.ipc_laws.specs.PortCallLaws.{as_called, answers_done, is_port_call}
 use Rattle.port_calls.specs.Trying.{Tries, is_refusal}
 
 abbrev Tried : Bool → State → ℕ → Call → Reply → State → List Effect → Type 0
-Tried refused old space c answer new effects = MatchBool refused (ActsIn old space (names_in old space) c answer old []) (ActsIn old space (names_in old space) c answer new effects)
+Tried refused old space c answer new effects =
+    MatchBool refused (ActsIn old space (names_in old space) c answer old [])
+    (ActsIn old space (names_in old space) c answer new effects)
 
 -- a call that was tried acted, on the state from before or on the copy
-pub acted : (old : State) (space : ℕ) (c : Call) (answer : Reply) (new : State) (effects : List Effect) → Tries old space c answer new effects
+pub acted : (old : State) (space : ℕ) (c : Call) (answer : Reply) (new : State) (effects : List Effect)
+    → Tries old space c answer new effects
     → (last : State) × (others : List Effect) × ActsIn old space (names_in old space) c answer last others
 acted old space c answer new effects tries = by_case (is_refusal answer) tries
   where
-    by_case : (refused : Bool) → Tried refused old space c answer new effects → (last : State) × (others : List Effect) × ActsIn old space (names_in old space) c answer last others
+    by_case : (refused : Bool) → Tried refused old space c answer new effects → (last : State) × (others : List Effect)
+        × ActsIn old space (names_in old space) c answer last others
     by_case true tried = (old, [], tried)
     by_case false tried = (new, effects, tried)
 
@@ -32,23 +36,38 @@ not_refused (reply.Refused number code) success = absurd (cc (success call.Names
 not_refused answer success = refl
 
 -- A call that acts like this changes nothing where it is refused.
-pub tries_acting : (old : State) (space : ℕ) (c : Call) (answer : Reply) (new : State) (effects : List Effect) → is_port_call c ≡ true → ActsIn old space (names_in old space) c answer new effects → Tries old space c answer new effects
+pub tries_acting : (old : State) (space : ℕ) (c : Call) (answer : Reply) (new : State) (effects : List Effect)
+    → is_port_call c ≡ true → ActsIn old space (names_in old space) c answer new effects
+    → Tries old space c answer new effects
 tries_acting old space c answer new effects port acts =
-    by_refusal (first_failing (tests_of old space (names_in old space) c)) (as_called c old space (names_in old space) answer new effects port acts)
+    by_refusal (first_failing (tests_of old space (names_in old space) c))
+    (as_called c old space (names_in old space) answer new effects port acts)
   where
-    both : (refused : Bool) → ActsIn old space (names_in old space) c answer old [] → ActsIn old space (names_in old space) c answer new effects → Tried refused old space c answer new effects
+    both : (refused : Bool) → ActsIn old space (names_in old space) c answer old []
+        → ActsIn old space (names_in old space) c answer new effects → Tried refused old space c answer new effects
     both true was is = was
     both false was is = is
 
-    by_refusal : (refusal : Option KernReturn) → Called refusal old space (names_in old space) c answer new effects → Tries old space c answer new effects
+    by_refusal : (refusal : Option KernReturn) → Called refusal old space (names_in old space) c answer new effects
+        → Tries old space c answer new effects
     by_refusal None called =
-        subst (λ (refused : Bool). Tried refused old space c answer new effects) (sym (not_refused answer (answers_done old space (names_in old space) c answer new effects called).success)) acts
+        subst (λ (refused : Bool). Tried refused old space c answer new effects)
+        (sym (not_refused answer (answers_done old space (names_in old space) c answer new effects called).success))
+        acts
     by_refusal (Some code) called =
-        both (is_refusal answer) (subst (λ (s : State). ActsIn old space (names_in old space) c answer s []) called.1 (subst (λ (l : List Effect). ActsIn old space (names_in old space) c answer new l) called.2 acts)) acts
+        both (is_refusal answer) (subst
+        (λ (s : State). ActsIn old space (names_in old space) c answer s []) called.1
+        (subst (λ (l : List Effect). ActsIn old space (names_in old space) c answer new l) called.2 acts)) acts
 
 -- a refused call left the state as it was
-pub refused_acting : (old : State) (space : ℕ) (c : Call) (answer : Reply) (new : State) (effects : List Effect) → is_refusal answer ≡ true → Tries old space c answer new effects → ActsIn old space (names_in old space) c answer old []
-refused_acting old space c answer new effects is tries = subst (λ (refused : Bool). Tried refused old space c answer new effects) is tries
+pub refused_acting : (old : State) (space : ℕ) (c : Call) (answer : Reply) (new : State) (effects : List Effect)
+    → is_refusal answer ≡ true → Tries old space c answer new effects
+    → ActsIn old space (names_in old space) c answer old []
+refused_acting old space c answer new effects is tries =
+    subst (λ (refused : Bool). Tried refused old space c answer new effects) is tries
 
-pub done_acting : (old : State) (space : ℕ) (c : Call) (answer : Reply) (new : State) (effects : List Effect) → is_refusal answer ≡ false → Tries old space c answer new effects → ActsIn old space (names_in old space) c answer new effects
-done_acting old space c answer new effects is tries = subst (λ (refused : Bool). Tried refused old space c answer new effects) is tries
+pub done_acting : (old : State) (space : ℕ) (c : Call) (answer : Reply) (new : State) (effects : List Effect)
+    → is_refusal answer ≡ false → Tries old space c answer new effects
+    → ActsIn old space (names_in old space) c answer new effects
+done_acting old space c answer new effects is tries =
+    subst (λ (refused : Bool). Tried refused old space c answer new effects) is tries

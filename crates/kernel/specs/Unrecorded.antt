@@ -31,71 +31,115 @@ pub record IsWithout (old : State) (answer : Reply) (new : State) (effects : Lis
   pub same : new ≡ old
   pub none : effects ≡ []
 
-refused_without : (code : KernReturn) (old : State) (answer : Reply) (new : State) (effects : List Effect) → IsRefusedWith (without_message code 0 MACH_PORT_NULL) old answer new effects → IsWithout old answer new effects
-refused_without code old answer new effects acts = record { code = code; size = 0; member = MACH_PORT_NULL; answer_is = acts.0; same = acts.1; none = acts.2 }
+refused_without : (code : KernReturn) (old : State) (answer : Reply) (new : State) (effects : List Effect)
+    → IsRefusedWith (without_message code 0 MACH_PORT_NULL) old answer new effects → IsWithout old answer new effects
+refused_without code old answer new effects acts =
+    record { code = code; size = 0; member = MACH_PORT_NULL; answer_is = acts.0; same = acts.1; none = acts.2 }
 
 -- a call with this answer has a record
-recorded_as : {X : Type 0} (c : Call) (given answer : Reply) → has_record c given ≡ true → answer ≡ given → has_record c answer ≡ false → X
+recorded_as : {X : Type 0} (c : Call) (given answer : Reply) → has_record c given ≡ true → answer ≡ given
+    → has_record c answer ≡ false → X
 recorded_as c given answer recorded is none = absurd (cc (none, ap (has_record c) is ∙ recorded))
 
 -- Sends.
 
-sent_without : (ready : Result Ready KernReturn) (message : List ℕ) (old : State) (answer : Reply) (new : State) (effects : List Effect) → has_record (call.Send message) answer ≡ false
+sent_without : (ready : Result Ready KernReturn) (message : List ℕ) (old : State) (answer : Reply) (new : State)
+    (effects : List Effect) → has_record (call.Send message) answer ≡ false
     → SentAs ready old answer new effects → IsWithout old answer new effects
-sent_without (Ok ready) message old answer new effects none acts = recorded_as (call.Send message) (without_message Success 0 MACH_PORT_NULL) answer refl acts.0 none
+sent_without (Ok ready) message old answer new effects none acts =
+    recorded_as (call.Send message) (without_message Success 0 MACH_PORT_NULL) answer refl acts.0 none
 sent_without (Err code) message old answer new effects none acts = refused_without code old answer new effects acts
 
 -- Receives.
 
-large_without : (old : State) (member serial : ℕ) (message : Message) (limit : ℕ) (large : Bool) (name : ℕ) (waited : Bool) (answer : Reply) (new : State) (effects : List Effect)
-    → has_record (call.Receive limit large name waited) answer ≡ false → TooLarge old member serial message large answer new effects → IsWithout old answer new effects
+large_without : (old : State) (member serial : ℕ) (message : Message) (limit : ℕ) (large : Bool) (name : ℕ)
+    (waited : Bool) (answer : Reply) (new : State) (effects : List Effect)
+    → has_record (call.Receive limit large name waited) answer ≡ false
+    → TooLarge old member serial message large answer new effects → IsWithout old answer new effects
 large_without old member serial message limit true name waited answer new effects none acts =
-    record { code = RcvTooLarge; size = message_size message; member = member; answer_is = acts.0; same = acts.1; none = acts.2 }
+    record {
+      code = RcvTooLarge;
+      size = message_size message;
+      member = member;
+      answer_is = acts.0;
+      same = acts.1;
+      none = acts.2;
+    }
 large_without old member serial message limit false name waited answer new effects none acts =
-    recorded_as (call.Receive limit false name waited) (without_message RcvTooLarge (message_size message) member) answer refl acts.0 none
+    recorded_as (call.Receive limit false name waited)
+    (without_message RcvTooLarge (message_size message) member) answer refl acts.0 none
 
-taken_without : (old : State) (space : ℕ) (names : Names) (receipt : Receipt) (member serial : ℕ) (port : PortState) (message : Message) (answer : Reply) (new : State) (effects : List Effect)
-    → has_record (call_of receipt) answer ≡ false → Outcomes old space names receipt member serial port message answer new effects → IsWithout old answer new effects
+taken_without : (old : State) (space : ℕ) (names : Names) (receipt : Receipt) (member serial : ℕ) (port : PortState)
+    (message : Message) (answer : Reply) (new : State) (effects : List Effect)
+    → has_record (call_of receipt) answer ≡ false
+    → Outcomes old space names receipt member serial port message answer new effects → IsWithout old answer new effects
 taken_without old space names receipt member serial port message answer new effects none outcome = elim outcome [
-  | was_large acts ↦ large_without old member serial message receipt.limit receipt.large receipt.name receipt.waited answer new effects none acts
-  | was_lacking is same unset ↦ record { code = RcvHeaderErrorSpace; size = 0; member = MACH_PORT_NULL; answer_is = is; same = same; none = unset }
+  | was_large acts ↦ large_without old member serial message receipt.limit receipt.large receipt.name receipt.waited
+      answer new effects none acts
+  | was_lacking is same unset ↦ record {
+    code = RcvHeaderErrorSpace;
+    size = 0;
+    member = MACH_PORT_NULL;
+    answer_is = is;
+    same = same;
+    none = unset;
+  }
   | was_received acts ↦ recorded_as (call_of receipt) _ answer refl acts.3 none
 ]
 
-received_without : (refusal : Option KernReturn) (old : State) (space : ℕ) (names : Names) (receipt : Receipt) (answer : Reply) (new : State) (effects : List Effect) → has_record (call_of receipt) answer ≡ false
-    → MatchOption refusal (Takes old space names receipt answer new effects) (λ code. IsRefusedWith (without_message code 0 MACH_PORT_NULL) old answer new effects) → IsWithout old answer new effects
-received_without (Some code) old space names receipt answer new effects none acts = refused_without code old answer new effects acts
+received_without : (refusal : Option KernReturn) (old : State) (space : ℕ) (names : Names) (receipt : Receipt)
+    (answer : Reply) (new : State) (effects : List Effect) → has_record (call_of receipt) answer ≡ false
+    → MatchOption refusal (Takes old space names receipt answer new effects)
+    (λ code. IsRefusedWith (without_message code 0 MACH_PORT_NULL) old answer new effects)
+    → IsWithout old answer new effects
+received_without (Some code) old space names receipt answer new effects none acts =
+    refused_without code old answer new effects acts
 received_without None old space names receipt answer new effects none acts =
     let taking = taking_of old space names receipt answer new effects acts in
     taken_without old space names receipt taking.member taking.serial taking.port taking.message answer new effects none
-    (outcome_of old space names receipt taking.member taking.serial taking.port taking.message answer new effects taking.takes)
+    (outcome_of old space names receipt taking.member taking.serial taking.port taking.message answer new effects
+    taking.takes)
 
-pub send_without : (old : State) (space : ℕ) (names : Names) (message : List ℕ) (answer : Reply) (new : State) (effects : List Effect) → has_record (call.Send message) answer ≡ false
+pub send_without : (old : State) (space : ℕ) (names : Names) (message : List ℕ) (answer : Reply) (new : State)
+    (effects : List Effect) → has_record (call.Send message) answer ≡ false
     → ActsIn old space names (call.Send message) answer new effects → IsWithout old answer new effects
-send_without old space names message answer new effects none acts = sent_without (ready_to_send old space message) message old answer new effects none acts
+send_without old space names message answer new effects none acts =
+    sent_without (ready_to_send old space message) message old answer new effects none acts
 
-pub receive_without : (old : State) (space : ℕ) (names : Names) (limit : ℕ) (large : Bool) (name : ℕ) (waited : Bool) (answer : Reply) (new : State) (effects : List Effect) → has_record (call.Receive limit large name waited) answer ≡ false
-    → ActsIn old space names (call.Receive limit large name waited) answer new effects → IsWithout old answer new effects
+pub receive_without : (old : State) (space : ℕ) (names : Names) (limit : ℕ) (large : Bool) (name : ℕ) (waited : Bool)
+    (answer : Reply) (new : State) (effects : List Effect)
+    → has_record (call.Receive limit large name waited) answer ≡ false
+    → ActsIn old space names (call.Receive limit large name waited) answer new effects
+    → IsWithout old answer new effects
 receive_without old space names limit large name waited answer new effects none acts =
     let receipt : Receipt = record { limit = limit; large = large; name = name; waited = waited } in
     received_without (receive_refusal old names receipt) old space names receipt answer new effects none acts
 
 -- All calls.
 
-acts_unrecorded : (c : Call) (old : State) (space : ℕ) (names : Names) (answer : Reply) (new : State) (effects : List Effect) → has_record c answer ≡ false → ActsIn old space names c answer new effects → (new ≡ old) × (effects ≡ [])
+acts_unrecorded : (c : Call) (old : State) (space : ℕ) (names : Names) (answer : Reply) (new : State)
+    (effects : List Effect) → has_record c answer ≡ false → ActsIn old space names c answer new effects → (new ≡ old)
+    × (effects ≡ [])
 acts_unrecorded (call.Send message) old space names answer new effects none acts =
     let without = send_without old space names message answer new effects none acts in (without.same, without.none)
 acts_unrecorded (call.Receive limit large name waited) old space names answer new effects none acts =
-    let without = receive_without old space names limit large name waited answer new effects none acts in (without.same, without.none)
-acts_unrecorded c old space names answer new effects none acts = unrecorded_act old space names c answer new effects refl none acts
+    let without =
+    receive_without old space names limit large name waited answer new effects none acts in
+    (without.same, without.none)
+acts_unrecorded c old space names answer new effects none acts =
+    unrecorded_act old space names c answer new effects refl none acts
 
-from_unrecorded : (o : Option Names) (old : State) (space : ℕ) (c : Call) (answer : Reply) (new : State) (effects : List Effect) → has_record c answer ≡ false
+from_unrecorded : (o : Option Names) (old : State) (space : ℕ) (c : Call) (answer : Reply) (new : State)
+    (effects : List Effect) → has_record c answer ≡ false
     → ActsFrom old space o c answer new effects → (new ≡ old) × (effects ≡ [])
 from_unrecorded None old space c answer new effects none acts = (acts.1, acts.2)
-from_unrecorded (Some names) old space c answer new effects none acts = acts_unrecorded c old space names answer new effects none acts
+from_unrecorded (Some names) old space c answer new effects none acts =
+    acts_unrecorded c old space names answer new effects none acts
 
 abbrev pub UnrecordedStepsChangeNothing : Type 0
-UnrecordedStepsChangeNothing = (old : State) (space : ℕ) (c : Call) (answer : Reply) (new : State) → Step old space c answer new → has_record c answer ≡ false → new ≡ old
+UnrecordedStepsChangeNothing =
+    (old : State) (space : ℕ) (c : Call) (answer : Reply) (new : State) → Step old space c answer new
+    → has_record c answer ≡ false → new ≡ old
 
 pub unrecorded_step : UnrecordedStepsChangeNothing
 unfolding Step

@@ -81,7 +81,8 @@ fn push_port(
     serial: u64,
     ports: &mut Vec<LivePort>,
 ) -> Result<(), AllocError>
-    ensures { OnOk result (ports.new.items ≡ ports.old.items ++ port_rows serial (map.get state.now.current.ports serial)) }
+    ensures { OnOk result (ports.new.items ≡ ports.old.items
+        ++ port_rows serial (map.get state.now.current.ports serial)) }
 {
     let Some(port) = state.port(alloc, serial)? else {
         return Ok(());

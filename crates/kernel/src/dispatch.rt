@@ -23,7 +23,9 @@ pub fn read(
     space: u32,
     call: &Call,
 ) -> Result<Option<Reply>, AllocError>
-    ensures acts { IfOk result (λ done. IfSome done (λ reply. ActsIn state.now.current space (names_in state.now.current space) call.now reply state.now.current [])) }
+    ensures acts { IfOk result (λ done. IfSome done
+        (λ reply. ActsIn state.now.current space (names_in state.now.current space) call.now reply state.now.current
+        [])) }
     ensures reads { IfOk result (λ done. IfSome done (λ reply. only_reads call.now ≡ true)) }
     ensures none { IfOk result (λ done. IfNone done (only_reads call.now ≡ false)) }
 {
@@ -59,9 +61,12 @@ pub fn change(
 ) -> Result<Option<Reply>, AllocError>
     requires there { IsSome (map.get state.old.current.spaces space) }
     requires fresh { map.get state.old.current.ports state.old.current.next ≡ None }
-    ensures acts { IfOk result (λ done. IfSome done (λ reply. ActsIn state.old.current space (names_in state.old.current space) call.now reply state.new.current [])) }
+    ensures acts { IfOk result (λ done. IfSome done
+        (λ reply. ActsIn state.old.current space (names_in state.old.current space) call.now reply state.new.current
+        [])) }
     ensures changes { IfOk result (λ done. IfSome done (λ reply. sets_nothing_off call.now ≡ true)) }
-    ensures shown { IfOk result (λ done. IfSome done (λ reply. Prefers state.old.current space call.now shown.now reply)) }
+    ensures shown { IfOk result (λ done. IfSome done
+        (λ reply. Prefers state.old.current space call.now shown.now reply)) }
     ensures none { IfOk result (λ done. IfNone done (sets_nothing_off call.now ≡ false)) }
     ensures same { IfOk result (λ done. IfNone done (state.new ≡ state.old)) }
     ensures before { state.new.before ≡ state.old.before }
@@ -110,9 +115,11 @@ pub fn give_rights_up(
 ) -> Result<Option<Reply>, AllocError>
     requires none { effects.old ≡ [] }
     requires there { IsSome (map.get state.old.current.spaces space) }
-    ensures tries { IfOk result (λ done. IfSome done (λ reply. Tries state.old.current space call.now reply state.new.current effects.new)) }
+    ensures tries { IfOk result (λ done. IfSome done
+        (λ reply. Tries state.old.current space call.now reply state.new.current effects.new)) }
     ensures gives { IfOk result (λ done. IfSome done (λ reply. gives_up call.now ≡ true)) }
-    ensures none { IfOk result (λ done. IfNone done ((gives_up call.now ≡ false) × (state.new ≡ state.old) × (effects.new ≡ effects.old))) }
+    ensures none { IfOk result
+        (λ done. IfNone done ((gives_up call.now ≡ false) × (state.new ≡ state.old) × (effects.new ≡ effects.old))) }
     ensures before { state.new.before ≡ state.old.before }
 {
     match call {
@@ -148,9 +155,11 @@ pub fn hand_over(
 ) -> Result<Option<Reply>, AllocError>
     requires none { effects.old ≡ [] }
     requires there { IsSome (map.get state.old.current.spaces space) }
-    ensures tries { IfOk result (λ done. IfSome done (λ reply. Tries state.old.current space call.now reply state.new.current effects.new)) }
+    ensures tries { IfOk result (λ done. IfSome done
+        (λ reply. Tries state.old.current space call.now reply state.new.current effects.new)) }
     ensures hands { IfOk result (λ done. IfSome done (λ reply. hands_over call.now ≡ true)) }
-    ensures shown { IfOk result (λ done. IfSome done (λ reply. Prefers state.old.current space call.now shown.now reply)) }
+    ensures shown { IfOk result (λ done. IfSome done
+        (λ reply. Prefers state.old.current space call.now shown.now reply)) }
     ensures none { IfOk result (λ done. IfNone done ((hands_over call.now ≡ false) × (state.new ≡ state.old))) }
     ensures before { state.new.before ≡ state.old.before }
 {
@@ -228,9 +237,13 @@ pub fn exchange(
     requires rest { state.old.before ≡ state.old.current }
     requires lawful { Lawful state.old.current }
     requires acyclic { Acyclic state.old.current }
-    ensures acts { IfOk result (λ done. IfSome done (λ reply. ActsIn state.old.current space (names_in state.old.current space) call.now reply state.new.current effects.new)) }
-    ensures shown { IfOk result (λ done. IfSome done (λ reply. Prefers state.old.current space call.now shown.now reply)) }
-    ensures none { IfOk result (λ done. IfNone done ((is_port_call call.now ≡ true) × (state.new ≡ state.old) × (effects.new ≡ effects.old))) }
+    ensures acts { IfOk result (λ done. IfSome done
+        (λ reply. ActsIn state.old.current space
+        (names_in state.old.current space) call.now reply state.new.current effects.new)) }
+    ensures shown { IfOk result (λ done. IfSome done
+        (λ reply. Prefers state.old.current space call.now shown.now reply)) }
+    ensures none { IfOk result
+        (λ done. IfNone done ((is_port_call call.now ≡ true) × (state.new ≡ state.old) × (effects.new ≡ effects.old))) }
     ensures before { state.new.before ≡ state.old.before }
 {
     match call {

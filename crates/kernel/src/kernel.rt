@@ -71,7 +71,8 @@ impl Model for Kernel {
 
     // Each live port has one receive right, each right names a live port, no ports carry one another in a cycle, and no
     // queue is too long for an image. Between calls there is no change to commit or to roll back.
-    ghost invariant = { λ k. Lawful k.state.current × Acyclic k.state.current × ShortQueues k.state.current × (k.state.before ≡ k.state.current) };
+    ghost invariant = { λ k. Lawful k.state.current × Acyclic k.state.current × ShortQueues k.state.current
+        × (k.state.before ≡ k.state.current) };
 }
 
 impl Kernel {
@@ -129,7 +130,8 @@ impl Kernel {
         requires { R.has_room recorder.old }
         ensures step { IfOk result (λ reply. Step self.old space call.now reply self.new) }
         ensures number { IfOk result (λ reply. number_of_reply reply ≡ number_of_call call.now) }
-        ensures written { IfOk result (λ reply. has_record call.now reply ≡ true → R.wrote recorder.old space call.now reply recorder.new) }
+        ensures written { IfOk result (λ reply. has_record call.now reply ≡ true
+            → R.wrote recorder.old space call.now reply recorder.new) }
         ensures unwritten { IfOk result (λ reply. has_record call.now reply ≡ false → recorder.new ≡ recorder.old) }
         ensures fits { IfOk result (λ reply. length (reply_encoding reply) ≤ MAX_FRAME_CONTENT) }
         ensures err { OnErr result ((self.new ≡ self.old) × (recorder.new ≡ recorder.old)) }
@@ -161,7 +163,8 @@ impl Kernel {
         ensures step { IfOk result (λ reply. Step self.old space call.now reply self.new) }
         ensures wakes { IfOk result (λ reply. Wakes self.old self.new (names places.new)) }
         ensures number { IfOk result (λ reply. number_of_reply reply ≡ number_of_call call.now) }
-        ensures written { IfOk result (λ reply. has_record call.now reply ≡ true → R.wrote recorder.old space call.now reply recorder.new) }
+        ensures written { IfOk result (λ reply. has_record call.now reply ≡ true
+            → R.wrote recorder.old space call.now reply recorder.new) }
         ensures unwritten { IfOk result (λ reply. has_record call.now reply ≡ false → recorder.new ≡ recorder.old) }
         ensures fits { IfOk result (λ reply. length (reply_encoding reply) ≤ MAX_FRAME_CONTENT) }
         ensures err { OnErr result ((self.new ≡ self.old) × (recorder.new ≡ recorder.old)) }
@@ -187,7 +190,8 @@ impl Kernel {
             (λ reply. Step self.now space call.now reply self.now × (has_record call.now reply ≡ false))) }
         ensures none { IfOk result (λ answer. IfNone answer ((reply : Reply) × (new : State)
             × Step self.now space call.now reply new × (has_record call.now reply ≡ true))) }
-        ensures fits { IfOk result (λ answer. IfSome answer (λ reply. length (reply_encoding reply) ≤ MAX_FRAME_CONTENT)) }
+        ensures fits { IfOk result (λ answer. IfSome answer
+            (λ reply. length (reply_encoding reply) ≤ MAX_FRAME_CONTENT)) }
     {
         let mut other = self.again()?;
         let answer = other.answer_in_place(space, call);
@@ -213,7 +217,8 @@ impl Kernel {
             (λ reply. Step self.old space call.now reply self.old × (has_record call.now reply ≡ false))) }
         ensures none { IfOk result (λ answer. IfNone answer ((reply : Reply) × (new : State)
             × Step self.old space call.now reply new × (has_record call.now reply ≡ true))) }
-        ensures fits { IfOk result (λ answer. IfSome answer (λ reply. length (reply_encoding reply) ≤ MAX_FRAME_CONTENT)) }
+        ensures fits { IfOk result (λ answer. IfSome answer
+            (λ reply. length (reply_encoding reply) ≤ MAX_FRAME_CONTENT)) }
         ensures same { self.new ≡ self.old }
     {
         let answer = try_answer(self.alloc, &mut self.state, space, call);
@@ -256,7 +261,8 @@ impl Kernel {
     /// kernel is gone.
     pub fn replay(self, record: &Record) -> Result<Kernel, ReplayFault>
         ensures step { IfOk result (λ new. Step self record.now.space record.now.call record.now.reply new) }
-        ensures only { IfOk result (λ new. (other : State) → Step self record.now.space record.now.call record.now.reply other → other ≡ new) }
+        ensures only { IfOk result (λ new. (other : State)
+            → Step self record.now.space record.now.call record.now.reply other → other ≡ new) }
         ensures mismatch { IsErrOf result ReplayFault.Mismatch → (new : State)
             → Step self record.now.space record.now.call record.now.reply new → ⊥ }
     {
@@ -282,7 +288,8 @@ fn step_again(alloc: Global, state: &mut IpcState, record: &Record) -> Result<()
     requires rest { state.old.before ≡ state.old.current }
     requires lawful { Lawful state.old.current }
     requires acyclic { Acyclic state.old.current }
-    ensures step { OnOk result (Step state.old.current record.now.space record.now.call record.now.reply state.new.current) }
+    ensures step { OnOk result (Step state.old.current record.now.space record.now.call record.now.reply
+        state.new.current) }
     ensures mismatch { IsErrOf result ReplayFault.Mismatch → (new : State)
         → Step state.old.current record.now.space record.now.call record.now.reply new → ⊥ }
 {

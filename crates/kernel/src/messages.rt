@@ -25,7 +25,9 @@ pub fn send(
     requires rest { state.old.before ≡ state.old.current }
     requires lawful { Lawful state.old.current }
     requires acyclic { Acyclic state.old.current }
-    ensures acts { IfOk result (λ reply. ActsIn state.old.current space (names_in state.old.current space) (Call.Send message.now) reply state.new.current effects.new) }
+    ensures acts { IfOk result
+        (λ reply. ActsIn state.old.current space (names_in state.old.current space)
+        (Call.Send message.now) reply state.new.current effects.new) }
     ensures before { state.new.before ≡ state.old.before }
 {
     match sending::send(alloc, state, space, message, effects) {

@@ -46,7 +46,8 @@ pub(crate) fn step_recorded<R: Recorder>(
     requires acyclic { Acyclic state.old.current }
     requires room { R.has_room recorder.old }
     ensures step { IfOk result (λ reply. Step state.old.current space call.now reply state.new.current) }
-    ensures written { IfOk result (λ reply. has_record call.now reply ≡ true → R.wrote recorder.old space call.now reply recorder.new) }
+    ensures written { IfOk result (λ reply. has_record call.now reply ≡ true
+        → R.wrote recorder.old space call.now reply recorder.new) }
     ensures unwritten { IfOk result (λ reply. has_record call.now reply ≡ false → recorder.new ≡ recorder.old) }
     ensures before { state.new.before ≡ state.old.before }
     ensures err { OnErr result (recorder.new ≡ recorder.old) }

@@ -64,7 +64,8 @@ pub fn try_answer(
     requires lawful { Lawful state.old.current }
     requires acyclic { Acyclic state.old.current }
     ensures answered { IfOk result (λ answer. IfSome answer
-        (λ reply. Step state.old.current space call.now reply state.old.current × (has_record call.now reply ≡ false))) }
+        (λ reply. Step state.old.current space call.now reply state.old.current
+        × (has_record call.now reply ≡ false))) }
     ensures none { IfOk result (λ answer. IfNone answer ((reply : Reply) × (new : State)
         × Step state.old.current space call.now reply new × (has_record call.now reply ≡ true))) }
     ensures fits { IfOk result (λ answer. IfSome answer (λ reply. length (reply_encoding reply) ≤ MAX_FRAME_CONTENT)) }

@@ -14,7 +14,8 @@ use Rattle.system.proofs.Lists.{drop_long, take_end, take_long}
 use Rattle.system.proofs.Blocks.{drop_past, holds_as, holds_none}
 use Rattle.system.specs.Halves.{Cuts, KernelValue, next_log}
 
-module _ (base : State) (half new : KernelValue) (entries : List Entry) (opened earlier taken older : ℕ) (cut : CutValue) (core : IsKernelCore base half entries opened earlier taken older) (cuts : Cuts half cut new) where
+module _ (base : State) (half new : KernelValue) (entries : List Entry) (opened earlier taken older : ℕ)
+    (cut : CutValue) (core : IsKernelCore base half entries opened earlier taken older) (cuts : Cuts half cut new) where
   abbrev records : List Record
   records = records_of entries
 
@@ -23,12 +24,21 @@ module _ (base : State) (half new : KernelValue) (entries : List Entry) (opened 
 
   -- all records of the epoch before were taken
   within : earlier ≤ taken
-  within = omega (arith, core.waits.before_is.counted, cuts.can.none_older, drop_long taken (take earlier records), take_long earlier records core.counts.earlier_within)
+  within =
+      omega (
+        arith,
+        core.waits.before_is.counted,
+        cuts.can.none_older,
+        drop_long taken (take earlier records),
+        take_long earlier records core.counts.earlier_within,
+      )
 
   last : max taken earlier ≡ taken
   last = omega (arith, within)
 
-  after : IsKernelCore base (record half { epoch = half.epoch + 1; older = half.log.waiting; log = next_log half.log; is_cut = true }) entries 0 all taken half.log.length
+  after : IsKernelCore base (record half
+      { epoch = half.epoch + 1; older = half.log.waiting; log = next_log half.log; is_cut = true }) entries 0 all taken
+      half.log.length
   after = record {
     applied = core.applied;
     counts = record {
@@ -40,9 +50,14 @@ module _ (base : State) (half new : KernelValue) (entries : List Entry) (opened 
       older_room = λ less. core.counts.room (omega (arith, less, within));
     };
     waits = record {
-      before_is = holds_as (opened + (max taken earlier - earlier)) (half.log.length + taken - all) (drop (max taken earlier) records) (drop taken (take all records)) half.log.waiting
-          (omega (arith, core.counts.log_is, within, core.counts.earlier_within, core.counts.taken_within)) (λ i. drop (last i) (sym (take_end records) i)) core.waits.log_is;
-      log_is = holds_none (0 + (max taken all - all)) (drop (max taken all) records) (drop_past (max taken all) records (omega arith));
+      before_is =
+          holds_as (opened + (max taken earlier - earlier)) (half.log.length + taken - all)
+          (drop (max taken earlier) records) (drop taken (take all records)) half.log.waiting
+          (omega (arith, core.counts.log_is, within, core.counts.earlier_within, core.counts.taken_within))
+          (λ i. drop (last i) (sym (take_end records) i)) core.waits.log_is;
+      log_is =
+          holds_none (0 + (max taken all - all)) (drop (max taken all) records)
+          (drop_past (max taken all) records (omega arith));
     };
   }
 

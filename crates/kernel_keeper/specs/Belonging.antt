@@ -30,16 +30,19 @@ pub record CanBelong (past : PastValue) (stored last : ℕ) (session : SessionVa
 -- Each of these sessions does, and their numbers ascend.
 abbrev pub AllBelong : State → List Entry → ℕ → ℕ → List SessionValue → Type 0
 AllBelong base entries stored last [] = Unit {0}
-AllBelong base entries stored last (session ∷ sessions) = Belongs base entries stored last session × AllBelong base entries stored session.number sessions
+AllBelong base entries stored last (session ∷ sessions) =
+    Belongs base entries stored last session × AllBelong base entries stored session.number sessions
 
 abbrev pub AllCanBelong : PastValue → ℕ → ℕ → List SessionValue → Type 0
 AllCanBelong past stored last [] = Unit {0}
-AllCanBelong past stored last (session ∷ sessions) = CanBelong past stored last session × AllCanBelong past stored session.number sessions
+AllCanBelong past stored last (session ∷ sessions) =
+    CanBelong past stored last session × AllCanBelong past stored session.number sessions
 
 -- What both halves and the sessions that are handed in have in common: one history, which begins with what the store's
 -- half knows, and to which all of these sessions belong. If they are all that were made, it has as many records as they
 -- have places.
-pub record Match (base : State) (known entries : List Entry) (stored made : ℕ) (sessions : List SessionValue) : Type 0 where
+pub record Match (base : State) (known entries : List Entry) (stored made : ℕ)
+    (sessions : List SessionValue) : Type 0 where
   pub history : IsHistory base entries
   pub begins : Begins known entries
   pub belong : AllBelong base entries stored 0 sessions

@@ -26,19 +26,38 @@ pub record KernelCoreValue : Type 0 where
 
 abbrev pub kernel_core_code : Coded KernelCoreValue
 kernel_core_code =
-    code_by (KernelValue × (Option PastValue × (ℕ × (ℕ × (ℕ × ℕ))))) (coded× kernel_code (coded× (coded_option past_code) (coded× coded_ℕ (coded× coded_ℕ (coded× coded_ℕ coded_ℕ)))))
-    (λ c. (c.half, (c.past, (c.opened, (c.earlier, (c.taken, c.older)))))) (λ p. record { half = p.0; past = p.1.0; opened = p.1.1.0; earlier = p.1.1.1.0; taken = p.1.1.1.1.0; older = p.1.1.1.1.1 }) (λ _. refl)
+    code_by (KernelValue × (Option PastValue × (ℕ × (ℕ × (ℕ × ℕ)))))
+    (coded× kernel_code (coded× (coded_option past_code)
+    (coded× coded_ℕ (coded× coded_ℕ (coded× coded_ℕ coded_ℕ)))))
+    (λ c. (c.half, (c.past, (c.opened, (c.earlier, (c.taken, c.older))))))
+    (λ p. record {
+      half = p.0;
+      past = p.1.0;
+      opened = p.1.1.0;
+      earlier = p.1.1.1.0;
+      taken = p.1.1.1.1.0;
+      older = p.1.1.1.1.1;
+    }) (λ _. refl)
 
 -- The history is what was applied: it runs from the base to the kernel's state, and those of its records that weren't
 -- taken wait.
-pub record IsKernelCore (base : State) (half : KernelValue) (entries : List Entry) (opened earlier taken older : ℕ) : Type 0 where
+pub record IsKernelCore (base : State) (half : KernelValue) (entries : List Entry)
+    (opened earlier taken older : ℕ) : Type 0 where
   pub applied : IsApplied base (records_of entries) half.kernel half.log.made
   pub counts : Counts opened earlier taken taken (length (records_of entries)) older half.log.length
   pub waits : Wait opened earlier taken (records_of entries) older half.older half.log.waiting
 
 -- what continues from a state in an epoch, whose log has this many records, with a history that begins there
 abbrev pub first_core : State → ℕ → ℕ → PastValue → KernelCoreValue
-first_core kernel epoch records past = record { half = first_half kernel epoch records; past = Some past; opened = records; earlier = 0; taken = 0; older = 0 }
+first_core kernel epoch records past =
+    record {
+      half = first_half kernel epoch records;
+      past = Some past;
+      opened = records;
+      earlier = 0;
+      taken = 0;
+      older = 0;
+    }
 
 -- What lies under the lock of the kernel: this, and how many sessions were made.
 pub record KernelKeeperValue : Type 0 where
@@ -46,7 +65,9 @@ pub record KernelKeeperValue : Type 0 where
   pub given : ℕ
 
 abbrev pub keeper_code : Coded KernelKeeperValue
-keeper_code = code_by (KernelCoreValue × ℕ) (coded× kernel_core_code coded_ℕ) (λ k. (k.core, k.given)) (λ p. record { core = p.0; given = p.1 }) (λ _. refl)
+keeper_code =
+    code_by (KernelCoreValue × ℕ) (coded× kernel_core_code coded_ℕ) (λ k. (k.core, k.given))
+    (λ p. record { core = p.0; given = p.1 }) (λ _. refl)
 
 -- the entries of the history that is kept
 abbrev pub entries_in : KernelCoreValue → Option (List Entry)
@@ -54,7 +75,8 @@ entries_in core = option_map (λ p. p.entries) core.past
 
 -- The number, in its epoch, of the first record that wasn't taken: in the epoch before, or in this one.
 abbrev pub first_number : ℕ → ℕ → ℕ → ℕ → Bool → ℕ
-first_number opened earlier older taken is_older = if is_older then older - (earlier - taken) else opened + (taken - earlier)
+first_number opened earlier older taken is_older =
+    if is_older then older - (earlier - taken) else opened + (taken - earlier)
 
 -- The two that learn of a record: the history that is kept, and the one that a session of this number has seen.
 pub record BothPastsValue : Type 0 where
@@ -63,7 +85,9 @@ pub record BothPastsValue : Type 0 where
   pub mine : PastValue
 
 abbrev pub both_pasts_code : Coded BothPastsValue
-both_pasts_code = code_by (ℕ × (PastValue × PastValue)) (coded× coded_ℕ (coded× past_code past_code)) (λ b. (b.number, (b.kept, b.mine))) (λ p. record { number = p.0; kept = p.1.0; mine = p.1.1 }) (λ _. refl)
+both_pasts_code =
+    code_by (ℕ × (PastValue × PastValue)) (coded× coded_ℕ (coded× past_code past_code))
+    (λ b. (b.number, (b.kept, b.mine))) (λ p. record { number = p.0; kept = p.1.0; mine = p.1.1 }) (λ _. refl)
 
 abbrev pub both_learned : BothPastsValue → ℕ → Call → Reply → BothPastsValue
 both_learned old space c answer = record {
@@ -74,11 +98,13 @@ both_learned old space c answer = record {
 
 -- what a call adds to the history
 abbrev pub entries_of_call : ℕ → ℕ → Call → TicketValue → List Entry
-entries_of_call number space c ticket = if has_record c ticket.answer then entry_by number space c ticket.answer ∷ [] else []
+entries_of_call number space c ticket =
+    if has_record c ticket.answer then entry_by number space c ticket.answer ∷ [] else []
 
 -- A call was made in the state after all of the history, of which its session had seen a prefix. The session has then
 -- seen all of it, with the call's record, if there is one.
-pub record Applies (base : State) (number space : ℕ) (seen : List Entry) (c : Call) (ticket : TicketValue) (after : List Entry) (old_made new_made : ℕ) : Type 0 where
+pub record Applies (base : State) (number space : ℕ) (seen : List Entry) (c : Call) (ticket : TicketValue)
+    (after : List Entry) (old_made new_made : ℕ) : Type 0 where
   pub before : List Entry
   pub begins : Begins seen before
   pub after_is : after ≡ before ++ entries_of_call number space c ticket
@@ -103,7 +129,8 @@ IsApart None seen = ⊥
 IsApart (Some kept) seen = (seen.blocks ≢ kept.blocks) ⊎ (length kept.entries < length seen.entries)
 
 -- A call was made and is kept: a ticket was given, and the history has the call's entry, if it has one.
-pub record Makes (old : KernelCoreValue) (number space : ℕ) (c : Call) (ticket : TicketValue) (new : KernelCoreValue) : Type 0 where
+pub record Makes (old : KernelCoreValue) (number space : ℕ) (c : Call) (ticket : TicketValue)
+    (new : KernelCoreValue) : Type 0 where
   pub gives : Gives old.half space c ticket new.half
   pub entries : entries_in new ≡ option_map (λ l. l ++ entries_of_call number space c ticket) (entries_in old)
   pub rest : new ≡ record old { half = new.half; past = new.past }
@@ -127,4 +154,10 @@ pub record Ends (old : KernelCoreValue) (end : EndValue) (new : KernelCoreValue)
   pub entries : entries_in old ≡ Some end.entries
   pub all : end.earlier ≡ length end.entries
   pub same : entries_in new ≡ entries_in old
-  pub rest : new ≡ record old { half = new.half; past = new.past; opened = 0; earlier = end.earlier; older = old.half.log.length }
+  pub rest : new ≡ record old {
+    half = new.half;
+    past = new.past;
+    opened = 0;
+    earlier = end.earlier;
+    older = old.half.log.length;
+  }

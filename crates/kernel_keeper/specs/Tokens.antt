@@ -12,7 +12,8 @@ use Rattle.ipc_model.specs.state.State.{State}
 
 -- the entry of a session's call with this reply
 abbrev pub entry_by : ℕ → ℕ → Call → Reply → Entry
-entry_by number space c answer = record { session = number; «record» = record { space = space; call = c; reply = answer } }
+entry_by number space c answer =
+    record { session = number; «record» = record { space = space; call = c; reply = answer } }
 
 -- a past with one more entry
 abbrev pub with_entry : PastValue → Entry → PastValue
@@ -26,17 +27,42 @@ pub record SessionValue : Type 0 where
   pub task : Session
 
 abbrev pub task_code : Coded Session
-task_code = code_by (ℕ × (ℕ × (ℕ × (List ℕ × List ℕ)))) (coded× coded_ℕ (coded× coded_ℕ (coded× coded_ℕ (coded× (coded_list coded_ℕ) (coded_list coded_ℕ))))) (λ s. (s.space, (s.seen, (s.acknowledged, (s.tickets, s.places))))) (λ p. record { space = p.0; seen = p.1.0; acknowledged = p.1.1.0; tickets = p.1.1.1.0; places = p.1.1.1.1 }) (λ _. refl)
+task_code =
+    code_by (ℕ × (ℕ × (ℕ × (List ℕ × List ℕ))))
+    (coded× coded_ℕ (coded× coded_ℕ (coded× coded_ℕ (coded× (coded_list coded_ℕ) (coded_list coded_ℕ)))))
+    (λ s. (s.space, (s.seen, (s.acknowledged, (s.tickets, s.places)))))
+    (λ p. record {
+      space = p.0;
+      seen = p.1.0;
+      acknowledged = p.1.1.0;
+      tickets = p.1.1.1.0;
+      places = p.1.1.1.1;
+    }) (λ _. refl)
 
 abbrev pub session_code : Coded SessionValue
-session_code = code_by (ℕ × (PastValue × Session)) (coded× coded_ℕ (coded× past_code task_code)) (λ s. (s.number, (s.past, s.task))) (λ p. record { number = p.0; past = p.1.0; task = p.1.1 }) (λ _. refl)
+session_code =
+    code_by (ℕ × (PastValue × Session)) (coded× coded_ℕ (coded× past_code task_code))
+    (λ s. (s.number, (s.past, s.task))) (λ p. record { number = p.0; past = p.1.0; task = p.1.1 }) (λ _. refl)
 
 abbrev pub session_of : ℕ → ℕ → ℕ → List ℕ → List ℕ → PastValue → SessionValue
-session_of number space acknowledged tickets places past = record { number = number; past = past; task = record { space = space; seen = length past.entries; acknowledged = acknowledged; tickets = tickets; places = places } }
+session_of number space acknowledged tickets places past =
+    record {
+      number = number;
+      past = past;
+      task = record {
+        space = space;
+        seen = length past.entries;
+        acknowledged = acknowledged;
+        tickets = tickets;
+        places = places;
+      };
+    }
 
 -- at these places stand entries of the session
 abbrev pub AreOwn : List Entry → ℕ → List ℕ → Type 0
-AreOwn entries number places = (i place : ℕ) → slice_get places i ≡ Some place → option_map (λ e. e.session) (slice_get entries place) ≡ Some number
+AreOwn entries number places =
+    (i place : ℕ) → slice_get places i ≡ Some place
+    → option_map (λ e. e.session) (slice_get entries place) ≡ Some number
 
 -- A history that the machine can have made from a state.
 pub record IsHistory (base : State) (entries : List Entry) : Type 0 where
@@ -75,4 +101,5 @@ pub record Meets (one other one_after other_after : SessionValue) : Type 0 where
 
 -- A past is behind another: in an earlier entry block, or in the same one with no more entries.
 abbrev pub IsAfter : PastValue → PastValue → Type 0
-IsAfter past other = (past.blocks < other.blocks) ⊎ ((past.blocks ≡ other.blocks) × (length past.entries ≤ length other.entries))
+IsAfter past other =
+    (past.blocks < other.blocks) ⊎ ((past.blocks ≡ other.blocks) × (length past.entries ≤ length other.entries))

@@ -23,9 +23,12 @@ impl<L: Founding> KernelKeeper<L> {
         stored: u64,
         sessions: Vec<Session<L>>,
     ) -> Option<(Past<L>, u32)>
-        ensures matched { IfSome result (λ matched. Match L.base known.entries matched.0.entries stored matched.1 sessions.items) }
+        ensures matched { IfSome result
+            (λ matched. Match L.base known.entries matched.0.entries stored matched.1 sessions.items) }
         ensures own { IfSome result (λ matched. (self.core.past ≡ Some matched.0) × (matched.1 ≡ self.given)) }
-        ensures seen { (past : PastValue) → self.core.past ≡ Some past → known.blocks ≡ past.blocks → length known.entries ≤ length past.entries → AllCanBelong past stored 0 sessions.items → is_some result ≡ true }
+        ensures seen { (past : PastValue) → self.core.past ≡ Some past → known.blocks ≡ past.blocks
+            → length known.entries ≤ length past.entries → AllCanBelong past stored 0 sessions.items
+            → is_some result ≡ true }
     {
         match_all(self.into_tally(), known, stored, sessions)
     }
@@ -52,9 +55,11 @@ fn match_all<L: Founding>(
     requires counted { tally.book.total ≡ length tally.past.entries }
     requires parts { tally.made + tally.share.parts ≡ L.parts }
     requires amount { tally.share.amount ≡ 0 }
-    ensures matched { IfSome result (λ matched. Match L.base known.entries matched.0.entries stored matched.1 sessions.items) }
+    ensures matched { IfSome result
+        (λ matched. Match L.base known.entries matched.0.entries stored matched.1 sessions.items) }
     ensures own { IfSome result (λ matched. (matched.0 ≡ tally.past) × (matched.1 ≡ tally.made)) }
-    ensures seen { known.blocks ≡ tally.past.blocks → length known.entries ≤ length tally.past.entries → AllCanBelong tally.past stored 0 sessions.items → is_some result ≡ true }
+    ensures seen { known.blocks ≡ tally.past.blocks → length known.entries ≤ length tally.past.entries
+        → AllCanBelong tally.past stored 0 sessions.items → is_some result ≡ true }
 {
     let Tally {
         past,
@@ -91,7 +96,8 @@ fn audit<L: Founding>(book: ledger::Book<L>, share: Share<L>)
 fn begins<L: Founding>(short: &mut Past<L>, long: &mut Past<L>) -> bool
     ensures same { (short.new ≡ short.old) × (long.new ≡ long.old) }
     ensures begins { result ≡ true → Begins short.old.entries long.old.entries }
-    ensures seen { short.old.blocks ≡ long.old.blocks → length short.old.entries ≤ length long.old.entries → result ≡ true }
+    ensures seen { short.old.blocks ≡ long.old.blocks → length short.old.entries ≤ length long.old.entries
+        → result ≡ true }
 {
     if long.len() < short.len() {
         return false;
@@ -109,7 +115,8 @@ fn count_all<L: Founding>(
     ensures same { past.new ≡ past.old }
     ensures belong { result ≡ true → AllBelong L.base past.old.entries stored 0 sessions.items }
     ensures parts { result ≡ true → share.old.parts + length sessions.items ≤ share.new.parts }
-    ensures amount { result ≡ true → share.new.amount ≡ share.old.amount + length (places_of (tasks_of sessions.items)) }
+    ensures amount { result ≡ true
+        → share.new.amount ≡ share.old.amount + length (places_of (tasks_of sessions.items)) }
     ensures seen { AllCanBelong past.old stored 0 sessions.items → result ≡ true }
 {
     let mut last = 0;

@@ -104,10 +104,15 @@ impl<L: Founding> KernelKeeper<L> {
         call: &Call,
         places: &mut Places,
     ) -> (Session<L>, Result<Ticket, SubmitFault>)
-        ensures wakes { IfOk result.1 (λ ticket. Wakes self.old.core.half.kernel self.new.core.half.kernel (names places.new)) }
-        ensures given { IfOk result.1 (λ ticket. Did L.base session (called call.now ticket.answer) result.0 × (ticket.seen ≡ result.0.task.seen)) }
-        ensures makes { IfOk result.1 (λ ticket. Makes self.old.core session.number session.task.space call.now ticket self.new.core × (self.new.given ≡ self.old.given)) }
-        ensures full { IsErrOf result.1 SubmitFault.EpochFull → IsFullFor self.old.core.half session.task.space call.now ⊎ IsApart self.old.core.past session.past }
+        ensures wakes { IfOk result.1
+            (λ ticket. Wakes self.old.core.half.kernel self.new.core.half.kernel (names places.new)) }
+        ensures given { IfOk result.1 (λ ticket. Did L.base session (called call.now ticket.answer) result.0
+            × (ticket.seen ≡ result.0.task.seen)) }
+        ensures makes { IfOk result.1
+            (λ ticket. Makes self.old.core session.number session.task.space call.now ticket self.new.core
+            × (self.new.given ≡ self.old.given)) }
+        ensures full { IsErrOf result.1 SubmitFault.EpochFull → IsFullFor self.old.core.half session.task.space call.now
+            ⊎ IsApart self.old.core.past session.past }
         ensures err { OnErr result.1 (Did L.base session looked result.0 × (self.new ≡ self.old)) }
     {
         let Session { own_state, past } = session;
@@ -137,7 +142,8 @@ impl<L: Founding> KernelKeeper<L> {
     /// The places where a call of a session waits if it finds nothing to do. `None`: an allocation failed, or it is a
     /// send that is refused whatever its names stand for.
     pub fn places_of_call(&self, session: &Session<L>, call: &Call) -> Option<Vec<u128>>
-        ensures { IfSome result (λ places. places.items ≡ places_of_call self.now.core.half.kernel session.now.task.space call.now) }
+        ensures { IfSome result (λ places. places.items
+            ≡ places_of_call self.now.core.half.kernel session.now.task.space call.now) }
     {
         self.core
             .kernel()
@@ -147,8 +153,11 @@ impl<L: Founding> KernelKeeper<L> {
     /// A new session, of a task that is attached to space 1. It has seen all of the history. `NoMemory`: an allocation
     /// failed. `Spent`: no number is left.
     pub fn session(&mut self) -> Result<Session<L>, SessionFault>
-        ensures new { IfOk result (λ session. (session.task.space ≡ FIRST_SPACE) × (session.task.acknowledged ≡ 0) × (session.task.tickets ≡ []) × (session.task.places ≡ [])) }
-        ensures next { IfOk result (λ session. (session.number ≡ self.old.given + 1) × (entries_in self.old.core ≡ Some session.past.entries) × (self.new ≡ record self.old { given = self.old.given + 1 })) }
+        ensures new { IfOk result (λ session. (session.task.space ≡ FIRST_SPACE) × (session.task.acknowledged ≡ 0)
+            × (session.task.tickets ≡ []) × (session.task.places ≡ [])) }
+        ensures next { IfOk result (λ session. (session.number ≡ self.old.given + 1)
+            × (entries_in self.old.core ≡ Some session.past.entries)
+            × (self.new ≡ record self.old { given = self.old.given + 1 })) }
         ensures spent { IsErrOf result SessionFault.Spent → self.old.given ≡ MOST_SESSIONS }
         ensures err { OnErr result (self.new ≡ self.old) }
     {
@@ -170,7 +179,8 @@ impl<L: Founding> KernelKeeper<L> {
 
     /// The reply of a ticket of this session, once all that its call saw is stored; else the ticket comes back.
     pub fn redeem(&self, session: Session<L>, ticket: Ticket) -> (Session<L>, Result<Reply, Ticket>)
-        ensures redeemed { IfOk result.1 (λ reply. (reply ≡ ticket.answer) × Did L.base session (redemption session.task ticket.seen) result.0) }
+        ensures redeemed { IfOk result.1
+            (λ reply. (reply ≡ ticket.answer) × Did L.base session (redemption session.task ticket.seen) result.0) }
         ensures stored { IfOk result.1 (λ reply. ticket.seen ≤ self.now.core.half.handed) }
         ensures fits { IfOk result.1 (λ reply. length (reply_encoding reply) ≤ MAX_FRAME_CONTENT) }
         ensures back { IfErr result.1 (λ kept. (kept ≡ ticket) × (result.0 ≡ session)) }
@@ -206,7 +216,8 @@ impl<L: Founding> KernelKeeper<L> {
     /// Takes records that wait to be stored, with the history up to them. `None` while a load is out, or if no record
     /// waits. If an allocation fails, nothing changed.
     pub fn take(&mut self) -> Result<Option<Load<L>>, AllocError>
-        ensures taken { IfOk result (λ load. IfSome load (λ load. Loads self.old.core load self.new.core × (self.new.given ≡ self.old.given))) }
+        ensures taken { IfOk result (λ load. IfSome load
+            (λ load. Loads self.old.core load self.new.core × (self.new.given ≡ self.old.given))) }
         ensures none { IfOk result (λ load. IfNone load (CannotTake self.old.core.half × (self.new ≡ self.old))) }
         ensures err { OnErr result (self.new ≡ self.old) }
     {
@@ -215,7 +226,11 @@ impl<L: Founding> KernelKeeper<L> {
 
     /// Learns that the load that was out is stored. A receipt of more records than were taken changes nothing.
     pub fn durable(&mut self, receipt: Receipt)
-        ensures known { receipt + self.old.core.half.handed ≤ self.old.core.taken → self.new ≡ record self.old { core = record self.old.core { half = with_receipt self.old.core.half receipt } } }
+        ensures known { receipt + self.old.core.half.handed ≤ self.old.core.taken
+            → self.new ≡ record self.old {
+              core = record self.old.core
+                  { half = with_receipt self.old.core.half receipt };
+            } }
         ensures unknown { self.old.core.taken < receipt + self.old.core.half.handed → self.new ≡ self.old }
     {
         self.core.durable(receipt);
@@ -226,7 +241,8 @@ impl<L: Founding> KernelKeeper<L> {
     /// fails, no call is undone and none is lost, but the history may go on in the block.
     pub fn cut(&mut self, block: Arc<EntryBlock, Global>) -> Result<Option<End<L>>, AllocError>
         ensures cut { IfOk result (λ end. IfSome end (λ end. Ends self.old.core end self.new.core)) }
-        ensures not_now { IfOk result (λ end. IfNone end ((CanCut self.old.core.half → ⊥) × IsSame self.old.core self.new.core)) }
+        ensures not_now { IfOk result
+            (λ end. IfNone end ((CanCut self.old.core.half → ⊥) × IsSame self.old.core self.new.core)) }
         ensures err { OnErr result (IsSame self.old.core self.new.core) }
         ensures given { self.new.given ≡ self.old.given }
     {
@@ -235,7 +251,8 @@ impl<L: Founding> KernelKeeper<L> {
 
     /// Learns that a checkpoint is over.
     pub fn finished(&mut self, receipt: Finished)
-        ensures { self.new ≡ record self.old { core = record self.old.core { half = record self.old.core.half { is_cut = false } } } }
+        ensures { self.new ≡ record self.old
+            { core = record self.old.core { half = record self.old.core.half { is_cut = false } } } }
     {
         self.core.finished(receipt);
     }
@@ -256,7 +273,8 @@ impl<L: Founding> KernelKeeper<L> {
 
     /// Whether records wait to be taken.
     pub fn is_waiting(&self) -> bool
-        ensures { MatchBool result (self.now.core.taken < self.now.core.half.log.made) (self.now.core.half.log.made ≤ self.now.core.taken) }
+        ensures { MatchBool result (self.now.core.taken < self.now.core.half.log.made)
+            (self.now.core.half.log.made ≤ self.now.core.taken) }
     {
         self.core.is_waiting()
     }
@@ -281,10 +299,15 @@ fn note_call<L: Founding>(
 )
     requires { 0 < own_state.old.share.parts }
     ensures given { own_state.new.tickets.numbers ≡ own_state.old.tickets.numbers ++ after ∷ [] }
-    ensures same { (own_state.new.number ≡ own_state.old.number) × (own_state.new.acknowledged ≡ own_state.old.acknowledged) × (own_state.new.share.parts ≡ own_state.old.share.parts) }
-    ensures recorded { before < after → (own_state.new.space ≡ own_state.old.space) × (own_state.new.places.numbers ≡ own_state.old.places.numbers ++ before ∷ [])
+    ensures same { (own_state.new.number ≡ own_state.old.number)
+        × (own_state.new.acknowledged ≡ own_state.old.acknowledged)
+        × (own_state.new.share.parts ≡ own_state.old.share.parts) }
+    ensures recorded { before < after → (own_state.new.space ≡ own_state.old.space)
+        × (own_state.new.places.numbers ≡ own_state.old.places.numbers ++ before ∷ [])
         × (own_state.new.share.amount ≡ own_state.old.share.amount + 1) × (book.new.total ≡ book.old.total + 1) }
-    ensures answered { after ≤ before → (own_state.new.space ≡ space_after own_state.old.space call.now ticket.now.answer) × (own_state.new.places.numbers ≡ own_state.old.places.numbers)
+    ensures answered { after ≤ before
+        → (own_state.new.space ≡ space_after own_state.old.space call.now ticket.now.answer)
+        × (own_state.new.places.numbers ≡ own_state.old.places.numbers)
         × (own_state.new.share.amount ≡ own_state.old.share.amount) × (book.new.total ≡ book.old.total) }
 {
     let tickets = std::mem::replace(&mut own_state.tickets, Tag::empty());

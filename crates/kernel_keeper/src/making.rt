@@ -45,7 +45,14 @@ impl<L: Founding> Model for KernelCore<L> {
 
     ghost coded = { kernel_core_code };
 
-    ghost view = { λ c. record { half = c.half; past = c.past; opened = c.opened; earlier = c.earlier; taken = c.taken; older = c.older } };
+    ghost view = { λ c. record {
+      half = c.half;
+      past = c.past;
+      opened = c.opened;
+      earlier = c.earlier;
+      taken = c.taken;
+      older = c.older;
+    } };
 
     ghost invariant = { λ c. (c.half.handed ≡ c.handed) × (c.handed ≤ c.taken)
         × MatchOption c.past ⊥ (λ past. IsKernelCore L.base c.half past.entries c.opened c.earlier c.taken c.older) };
@@ -102,9 +109,12 @@ impl<L: Founding> KernelCore<L> {
     ) -> (Past<L>, Result<Ticket, SubmitFault>)
         requires { IsHistory L.base seen.entries }
         ensures wakes { IfOk result.1 (λ ticket. Wakes self.old.half.kernel self.new.half.kernel (names places.new)) }
-        ensures given { IfOk result.1 (λ ticket. Applies L.base number space seen.entries call.now ticket result.0.entries self.old.half.log.made self.new.half.log.made) }
+        ensures given { IfOk result.1
+            (λ ticket. Applies L.base number space seen.entries call.now ticket result.0.entries self.old.half.log.made
+            self.new.half.log.made) }
         ensures makes { IfOk result.1 (λ ticket. Makes self.old number space call.now ticket self.new) }
-        ensures full { IsErrOf result.1 SubmitFault.EpochFull → IsFullFor self.old.half space call.now ⊎ IsApart self.old.past seen }
+        ensures full { IsErrOf result.1 SubmitFault.EpochFull → IsFullFor self.old.half space call.now
+            ⊎ IsApart self.old.past seen }
         ensures err { OnErr result.1 (Learns L.base seen.entries result.0.entries × (self.new ≡ self.old)) }
     {
         let Some(kept) = self.past.take() else {
@@ -159,7 +169,8 @@ impl<L: Founding> KernelCore<L> {
 
     /// Learns that the load that was out is stored.
     pub(crate) fn durable(&mut self, receipt: Receipt)
-        ensures known { receipt + self.old.half.handed ≤ self.old.taken → self.new ≡ record self.old { half = with_receipt self.old.half receipt } }
+        ensures known { receipt + self.old.half.handed ≤ self.old.taken
+            → self.new ≡ record self.old { half = with_receipt self.old.half receipt } }
         ensures unknown { self.old.taken < receipt + self.old.half.handed → self.new ≡ self.old }
     {
         let count = u64::from(receipt.count());
@@ -295,12 +306,15 @@ fn apply_with_witness<L: Founding>(
 ) -> (Past<L>, Past<L>, Result<Ticket, SubmitFault>)
     ensures wakes { IfOk result.2 (λ ticket. Wakes half.old.kernel half.new.kernel (names places.new)) }
     ensures given { IfOk result.2 (λ ticket. Gives half.old space call.now ticket half.new) }
-    ensures kept { IfOk result.2 (λ ticket. result.0.entries ≡ kept.entries ++ entries_of_call number space call.now ticket) }
+    ensures kept { IfOk result.2 (λ ticket. result.0.entries ≡ kept.entries
+        ++ entries_of_call number space call.now ticket) }
     ensures seen { OnOk result.2 (result.1.entries ≡ result.0.entries) }
     ensures begins { Begins seen.entries result.1.entries }
     ensures more { OnOk result.2 (Begins seen.entries kept.entries) }
-    ensures full { IsErrOf result.2 SubmitFault.EpochFull → IsFullFor half.old space call.now ⊎ IsApart (Some kept) seen }
-    ensures err { OnErr result.2 ((half.new ≡ half.old) × (result.0 ≡ kept) × ((result.1.entries ≡ seen.entries) ⊎ (result.1.entries ≡ kept.entries))) }
+    ensures full { IsErrOf result.2 SubmitFault.EpochFull → IsFullFor half.old space call.now
+        ⊎ IsApart (Some kept) seen }
+    ensures err { OnErr result.2 ((half.new ≡ half.old) × (result.0 ≡ kept)
+        × ((result.1.entries ≡ seen.entries) ⊎ (result.1.entries ≡ kept.entries))) }
 {
     let mut mine = seen;
     let mut kept = kept;
@@ -326,7 +340,8 @@ fn apply_with_witness<L: Founding>(
 /// The number in its epoch of the first record that wasn't taken, after `taken` that were: in the previous epoch, or in
 /// this one.
 fn first_number(opened: u64, earlier: u64, older: u64, taken: u64, is_older: bool) -> u64
-    requires { MatchBool is_older ((taken ≤ earlier) × (earlier - taken ≤ older)) ((earlier ≤ taken) × (opened + (taken - earlier) < 2 ^ 64)) }
+    requires { MatchBool is_older ((taken ≤ earlier) × (earlier - taken ≤ older))
+        ((earlier ≤ taken) × (opened + (taken - earlier) < 2 ^ 64)) }
     ensures { result ≡ first_number opened earlier older taken is_older }
 {
     if is_older {

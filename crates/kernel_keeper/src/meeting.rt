@@ -60,7 +60,8 @@ impl<L: Founding> Session<L> {
     fn learn(&mut self, other: &mut Session<L>) -> bool
         requires behind { IsAfter self.old.past other.old.past }
         requires differ { self.old.number ≡ other.old.number → ⊥ }
-        ensures met { result ≡ true → Meets self.old other.old self.new other.new × Meets other.old self.old other.new self.new }
+        ensures met { result ≡ true → Meets self.old other.old self.new other.new
+            × Meets other.old self.old other.new self.new }
         ensures unmet { result ≡ false → (self.new ≡ self.old) × (other.new ≡ other.old) }
     {
         self.past.catch_up(&mut other.past).is_ok()

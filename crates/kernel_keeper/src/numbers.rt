@@ -23,7 +23,8 @@ impl<L: Founding> Model for Numbers<L> {
 
     ghost view = { λ n. n.given };
 
-    ghost invariant = { λ n. (n.given + n.left ≡ L.parts) × (L.parts ≡ MOST_SESSIONS) × (n.rest.parts ≡ n.left) × (n.rest.amount ≡ 0) };
+    ghost invariant = { λ n. (n.given + n.left ≡ L.parts) × (L.parts ≡ MOST_SESSIONS) × (n.rest.parts ≡ n.left)
+        × (n.rest.amount ≡ 0) };
 }
 
 impl<L: Founding> Numbers<L> {
@@ -42,7 +43,8 @@ impl<L: Founding> Numbers<L> {
 
     /// The next number and its part of the ledger, if one is left.
     pub(crate) fn next(&mut self) -> Option<(u32, Share<L>)>
-        ensures next { IfSome result (λ next. (next.0 ≡ self.old + 1) × (next.1.parts ≡ 1) × (next.1.amount ≡ 0) × (self.new ≡ self.old + 1)) }
+        ensures next { IfSome result (λ next. (next.0 ≡ self.old + 1) × (next.1.parts ≡ 1) × (next.1.amount ≡ 0)
+            × (self.new ≡ self.old + 1)) }
         ensures spent { IfNone result ((self.old ≡ MOST_SESSIONS) × (self.new ≡ self.old)) }
     {
         if self.left == 0 {

@@ -42,9 +42,12 @@ impl<L: Founding> Model for Session<L> {
 
     ghost coded = { session_code };
 
-    ghost view = { λ s. session_of s.own_state.number s.own_state.space s.own_state.acknowledged s.own_state.tickets.numbers s.own_state.places.numbers s.past };
+    ghost view = { λ s. session_of s.own_state.number s.own_state.space s.own_state.acknowledged s.own_state.tickets.numbers
+        s.own_state.places.numbers s.past };
 
-    ghost invariant = { λ s. IsSession L.base (session_of s.own_state.number s.own_state.space s.own_state.acknowledged s.own_state.tickets.numbers s.own_state.places.numbers s.past) s.own_state.share.amount × (0 < s.own_state.share.parts) };
+    ghost invariant = { λ s. IsSession L.base (session_of s.own_state.number s.own_state.space s.own_state.acknowledged
+        s.own_state.tickets.numbers s.own_state.places.numbers s.past) s.own_state.share.amount
+        × (0 < s.own_state.share.parts) };
 }
 
 impl<L: Founding> Session<L> {
@@ -79,7 +82,8 @@ impl<L: Founding> Session<L> {
     /// The reply of a ticket of this session, if its call saw only the first `stored` records of the history; else the
     /// ticket comes back.
     pub fn redeem(self, ticket: Ticket, stored: u64) -> (Self, Result<Reply, Ticket>)
-        ensures redeemed { IfOk result.1 (λ reply. (reply ≡ ticket.answer) × Did L.base self (redemption self.task ticket.seen) result.0) }
+        ensures redeemed { IfOk result.1
+            (λ reply. (reply ≡ ticket.answer) × Did L.base self (redemption self.task ticket.seen) result.0) }
         ensures stored { IfOk result.1 (λ reply. ticket.seen ≤ stored) }
         ensures fits { IfOk result.1 (λ reply. length (reply_encoding reply) ≤ MAX_FRAME_CONTENT) }
         ensures back { IfErr result.1 (λ kept. (kept ≡ ticket) × (result.0 ≡ self)) }
@@ -110,7 +114,8 @@ impl<L: Founding> Session<L> {
     /// stays.
     pub fn read(&mut self) -> Result<(), AllocError>
         ensures ok { OnOk result (HasRead self.old (length self.old.past.entries - self.old.past.start) self.new) }
-        ensures err { OnErr result (HasRead self.old self.new.past.read self.new × (self.old.past.read ≤ self.new.past.read)) }
+        ensures err { OnErr result (HasRead self.old self.new.past.read self.new
+            × (self.old.past.read ≤ self.new.past.read)) }
     {
         self.past.read()
     }
@@ -118,7 +123,9 @@ impl<L: Founding> Session<L> {
     /// The record at a place of the entry block that it saw last, if it was read. It takes neither lock nor memory.
     pub fn record(&self, at: usize) -> Option<&Record>
         ensures { MatchOption result (self.now.past.read ≤ at)
-            (λ r. (at < self.now.past.read) × (option_map (λ e. e.record) (slice_get self.now.past.entries (self.now.past.start + at)) ≡ Some r.now)) }
+            (λ r. (at < self.now.past.read)
+            × (option_map (λ e. e.record) (slice_get self.now.past.entries (self.now.past.start + at))
+            ≡ Some r.now)) }
     {
         self.past.record(at)
     }

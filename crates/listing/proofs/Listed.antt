@@ -21,11 +21,13 @@ use Rattle.listing.proofs.Counted.{gathered_is, tallied, tally_of_all, send_tall
 pub both : {a b c d : List ℕ} → a ≡ b → c ≡ d → a ++ c ≡ b ++ d
 both {a} {b} {c} {d} first second = ap (λ x. x ++ c) first ∙ ap (λ y. b ++ y) second
 
-names_are : (es : List (ℕ × Entry)) → names_rows (map (λ e. record { name = e.0; entry = e.1 }) es) ≡ flat_map (λ e. name_line e.0 e.1) es
+names_are : (es : List (ℕ × Entry))
+    → names_rows (map (λ e. record { name = e.0; entry = e.1 }) es) ≡ flat_map (λ e. name_line e.0 e.1) es
 names_are [] = refl
 names_are (e ∷ es) = ap (λ text. name_line e.0 e.1 ++ text) (names_are es)
 
-spaces_are : (es : List (ℕ × Names)) → spaces_rows (map (λ e. record { number = e.0; names = names_of e.1 }) es) ≡ flat_map (λ e. space_lines e.0 e.1) es
+spaces_are : (es : List (ℕ × Names))
+    → spaces_rows (map (λ e. record { number = e.0; names = names_of e.1 }) es) ≡ flat_map (λ e. space_lines e.0 e.1) es
 spaces_are [] = refl
 spaces_are (e ∷ es) = both (ap (λ text. space_line e.0 ++ text) (names_are (finmap.entries e.1))) (spaces_are es)
 
@@ -39,39 +41,56 @@ place_is (no_senders_request port) = refl
 place_is (port_destroyed_request port) = refl
 place_is waiting = refl
 
-receive_is : (right : Option Right) → standing_text (option_map (λ (r : Right). standing_of r.place) right) ≡ receive_text right
+receive_is : (right : Option Right)
+    → standing_text (option_map (λ (r : Right). standing_of r.place) right) ≡ receive_text right
 receive_is None = refl
 receive_is (Some right) = place_is right.place
 
 -- what is recorded of a port of a state
-tally_is : (state : State) (serial : ℕ) → tally_of (gathered (snapshot_of state)) serial ≡ tallied serial (placed state) no_rights
+tally_is : (state : State) (serial : ℕ)
+    → tally_of (gathered (snapshot_of state)) serial ≡ tallied serial (placed state) no_rights
 tally_is state serial =
     ap (λ notes. tally_of notes serial) (gathered_is state) ∙ tally_of_all serial (placed state) finmap.empty
     ∙ ap (λ (o : Option Tally). tallied serial (placed state) (unwrap_or o no_rights)) (get-empty nat_cmp serial)
 
-receive_at : (state : State) (serial : ℕ) → standing_text (tally_of (gathered (snapshot_of state)) serial).receive ≡ receive_text (receive_right state serial)
+receive_at : (state : State) (serial : ℕ)
+    → standing_text (tally_of (gathered (snapshot_of state)) serial).receive ≡ receive_text (receive_right state serial)
 receive_at state serial =
-    ap (λ (t : Tally). standing_text t.receive) (tally_is state serial) ∙ ap standing_text (receive_tallied serial (placed state) no_rights) ∙ receive_is (receive_right state serial)
+    ap (λ (t : Tally). standing_text t.receive) (tally_is state serial)
+    ∙ ap standing_text (receive_tallied serial (placed state) no_rights) ∙ receive_is (receive_right state serial)
 
-pub send_at : (state : State) (serial : ℕ) → (tally_of (gathered (snapshot_of state)) serial).send ≡ send_count state serial
-send_at state serial = ap (λ (t : Tally). t.send) (tally_is state serial) ∙ send_tallied serial (placed state) no_rights ∙ omega arith
+pub send_at : (state : State) (serial : ℕ)
+    → (tally_of (gathered (snapshot_of state)) serial).send ≡ send_count state serial
+send_at state serial =
+    ap (λ (t : Tally). t.send) (tally_is state serial) ∙ send_tallied serial (placed state) no_rights ∙ omega arith
 
-pub send_once_at : (state : State) (serial : ℕ) → (tally_of (gathered (snapshot_of state)) serial).send_once ≡ send_once_count state serial
-send_once_at state serial = ap (λ (t : Tally). t.send_once) (tally_is state serial) ∙ send_once_tallied serial (placed state) no_rights ∙ omega arith
+pub send_once_at : (state : State) (serial : ℕ)
+    → (tally_of (gathered (snapshot_of state)) serial).send_once ≡ send_once_count state serial
+send_once_at state serial =
+    ap (λ (t : Tally). t.send_once) (tally_is state serial) ∙ send_once_tallied serial (placed state) no_rights
+    ∙ omega arith
 
-port_is : (state : State) (serial : ℕ) (port : PortState) → port_row (gathered (snapshot_of state)) (record { serial = serial; state = port }) ≡ port_line state serial port
+port_is : (state : State) (serial : ℕ) (port : PortState)
+    → port_row (gathered (snapshot_of state)) (record { serial = serial; state = port }) ≡ port_line state serial port
 port_is state serial port = rw (receive_at state serial, send_at state serial, send_once_at state serial)
 
-ports_are : (state : State) (es : List (ℕ × PortState)) → ports_rows (gathered (snapshot_of state)) (map (λ e. record { serial = e.0; state = e.1 }) es) ≡ flat_map (λ e. port_line state e.0 e.1) es
+ports_are : (state : State) (es : List (ℕ × PortState))
+    → ports_rows (gathered (snapshot_of state)) (map (λ e. record { serial = e.0; state = e.1 }) es) ≡ flat_map
+    (λ e. port_line state e.0 e.1) es
 ports_are state [] = refl
 ports_are state (e ∷ es) = both (port_is state e.0 e.1) (ports_are state es)
 
-pub rows_are : (epoch records : ℕ) (state : State) → snapshot_rows epoch records (snapshot_of state) ≡ listing epoch records state
+pub rows_are : (epoch records : ℕ) (state : State)
+    → snapshot_rows epoch records (snapshot_of state) ≡ listing epoch records state
 unfolding snapshot_rows listing snapshot_of
 rows_are epoch records state =
-    ap (λ text. store_line epoch records ++ text) (both (spaces_are (finmap.entries state.spaces)) (ports_are state (finmap.entries state.ports)))
+    ap (λ text. store_line epoch records ++ text)
+    (both (spaces_are (finmap.entries state.spaces)) (ports_are state (finmap.entries state.ports)))
 
-pub list_from_rows : {A B : Type 0} (result : Result A B) (new old : List ℕ) (epoch records : ℕ) (snapshot : Snapshot) (state : State) → snapshot ≡ snapshot_of state
-    → OnOk result (new ≡ old ++ snapshot_rows epoch records snapshot) → OnOk result (new ≡ old ++ listing epoch records state)
-list_from_rows (Ok x) new old epoch records snapshot state is added = added ∙ ap (λ text. old ++ text) (ap (snapshot_rows epoch records) is ∙ rows_are epoch records state)
+pub list_from_rows : {A B : Type 0} (result : Result A B) (new old : List ℕ) (epoch records : ℕ) (snapshot : Snapshot)
+    (state : State) → snapshot ≡ snapshot_of state
+    → OnOk result (new ≡ old ++ snapshot_rows epoch records snapshot)
+    → OnOk result (new ≡ old ++ listing epoch records state)
+list_from_rows (Ok x) new old epoch records snapshot state is added =
+    added ∙ ap (λ text. old ++ text) (ap (snapshot_rows epoch records) is ∙ rows_are epoch records state)
 list_from_rows (Err e) new old epoch records snapshot state is added = tt

@@ -29,7 +29,8 @@ placed-append : (first second : List Right) → ArePlaced first → ArePlaced se
 placed-append [] second are others = others
 placed-append (right ∷ rest) second are others = (are.0, placed-append rest second are.1 others)
 
-placed-flat_map : {A : Type 0} (f : A → List Right) → ((a : A) → ArePlaced (f a)) → (xs : List A) → ArePlaced (flat_map f xs)
+placed-flat_map : {A : Type 0} (f : A → List Right) → ((a : A) → ArePlaced (f a)) → (xs : List A)
+    → ArePlaced (flat_map f xs)
 placed-flat_map f are [] = tt
 placed-flat_map f are (x ∷ xs) = placed-append (f x) (flat_map f xs) (are x) (placed-flat_map f are xs)
 
@@ -38,20 +39,26 @@ no_receive_right place None = tt
 no_receive_right place (Some serial) = ((λ (e : _). absurd cc), tt)
 
 held_are : (space name serial : ℕ) (receive none : Bool) (target : Option ℕ)
-    → ArePlaced ((if receive then record { kind = kind.Receive; port = serial; place = held space name } ∷ [] else []) ++ ((if none then [] else record { kind = kind.Send; port = serial; place = held space name } ∷ []) ++ right_of_target (dead_name_request space name) target))
+    → ArePlaced ((if receive then record { kind = kind.Receive; port = serial; place = held space name } ∷ [] else [])
+    ++ ((if none then [] else record { kind = kind.Send; port = serial; place = held space name } ∷ [])
+    ++ right_of_target (dead_name_request space name) target))
 held_are space name serial true true target = ((λ (e : _). tt), no_receive_right (dead_name_request space name) target)
-held_are space name serial true false target = ((λ (e : _). tt), ((λ (e : _). tt), no_receive_right (dead_name_request space name) target))
+held_are space name serial true false target =
+    ((λ (e : _). tt), ((λ (e : _). tt), no_receive_right (dead_name_request space name) target))
 held_are space name serial false true target = no_receive_right (dead_name_request space name) target
-held_are space name serial false false target = ((λ (e : _). tt), no_receive_right (dead_name_request space name) target)
+held_are space name serial false false target =
+    ((λ (e : _). tt), no_receive_right (dead_name_request space name) target)
 
 entry_is : (space name : ℕ) (entry : Entry) → ArePlaced (rights_of_entry space name entry)
-entry_is space name (Port rights) = held_are space name rights.port rights.receive (rights.send == 0) rights.dead_name_target
+entry_is space name (Port rights) =
+    held_are space name rights.port rights.receive (rights.send == 0) rights.dead_name_target
 entry_is space name (SendOnce port target) = ((λ (e : _). tt), no_receive_right (dead_name_request space name) target)
 entry_is space name Set = tt
 entry_is space name (Dead references) = tt
 
 space_is : (space : ℕ) (names : Names) → ArePlaced (rights_of_space space names)
-space_is space names = placed-flat_map (λ e. rights_of_entry space e.0 e.1) (λ e. entry_is space e.0 e.1) (finmap.entries names)
+space_is space names =
+    placed-flat_map (λ e. rights_of_entry space e.0 e.1) (λ e. entry_is space e.0 e.1) (finmap.entries names)
 
 carried_is : (queue : ℕ) (k : RightKind) (port : PortInMessage) → ArePlaced (right_to (body queue) k port)
 carried_is queue k in_message.Null = tt
@@ -70,14 +77,19 @@ reply_is queue (Some carried) = reply_to_is queue carried.kind carried.port
 message_is : (queue : ℕ) (message : Message) → ArePlaced (rights_of_message queue message)
 message_is queue message = (
   (λ (e : _). tt),
-  placed-append (right_of_reply queue message.reply) (flat_map (right_of_carried (body queue)) message.rights) (reply_is queue message.reply)
-      (placed-flat_map (right_of_carried (body queue)) (λ carried. carried_is queue carried.kind carried.port) message.rights),
+  placed-append (right_of_reply queue message.reply) (flat_map (right_of_carried (body queue)) message.rights)
+      (reply_is queue message.reply)
+      (placed-flat_map (right_of_carried (body queue))
+      (λ carried. carried_is queue carried.kind carried.port) message.rights),
 )
 
 port_is : (serial : ℕ) (port : PortState) → ArePlaced (rights_of_port serial port)
 port_is serial port =
-    placed-append (flat_map (rights_of_message serial) port.messages) _ (placed-flat_map (rights_of_message serial) (message_is serial) port.messages)
-    (placed-append (right_of_target (no_senders_request serial) port.no_senders_target) _ (no_receive_right (no_senders_request serial) port.no_senders_target) (no_receive_right (port_destroyed_request serial) port.port_destroyed_target))
+    placed-append (flat_map (rights_of_message serial) port.messages) _
+    (placed-flat_map (rights_of_message serial) (message_is serial) port.messages)
+    (placed-append (right_of_target (no_senders_request serial) port.no_senders_target) _
+    (no_receive_right (no_senders_request serial) port.no_senders_target)
+    (no_receive_right (port_destroyed_request serial) port.port_destroyed_target))
 
 all_are : (state : State) → ArePlaced (placed state)
 unfolding placed
@@ -91,13 +103,17 @@ both_hold true b e = refl
 both_hold false b e = e
 
 -- one that is counted is found
-found : (serial : ℕ) (rights : List Right) → ArePlaced rights → count_by (is_receive_right serial) rights ≡ 1 → IsListed (find (is_receive_right serial) rights)
+found : (serial : ℕ) (rights : List Right) → ArePlaced rights → count_by (is_receive_right serial) rights ≡ 1
+    → IsListed (find (is_receive_right serial) rights)
 found serial [] are one = absurd (omega (arith, one))
 found serial (right ∷ rest) are one =
-    elim (is_receive_right serial right) as (λ (b : Bool). is_receive_right serial right ≡ b → cond b 1 0 + count_by (is_receive_right serial) rest ≡ 1 → IsListed (cond b (Some right) (find (is_receive_right serial) rest))) [
+    elim (is_receive_right serial right)
+    as (λ (b : Bool). is_receive_right serial right ≡ b → cond b 1 0 + count_by (is_receive_right serial) rest ≡ 1
+    → IsListed (cond b (Some right) (find (is_receive_right serial) rest))) [
       | true ↦ λ (own : _) (count : _). are.0 (both_hold (same_kind right.kind kind.Receive) (right.port == serial) own)
       | false ↦ λ (other : _) (count : _). found serial rest are.1 (omega (arith, count))
     ] refl (sym (sum_by-cons (λ r. cond (is_receive_right serial r) 1 0) right rest) ∙ one)
 
 pub holders_are_listed : HoldersAreListed
-holders_are_listed state serial lawful live = found serial (placed state) (all_are state) (lawful.one_receive serial live)
+holders_are_listed state serial lawful live =
+    found serial (placed state) (all_are state) (lawful.one_receive serial live)

@@ -30,7 +30,8 @@ cluster_end = codes "  }\n"
 
 -- a space with its names
 abbrev pub cluster : ℕ → Names → List ℕ
-cluster space names = cluster_head space ++ (flat_map (λ e. name_node_line space e.0 e.1) (finmap.entries names) ++ cluster_end)
+cluster space names =
+    cluster_head space ++ (flat_map (λ e. name_node_line space e.0 e.1) (finmap.entries names) ++ cluster_end)
 
 unfoldable pub queue_label : PortState → List ℕ
 queue_label port =
@@ -87,7 +88,8 @@ edge_line references right = edge_text (source right.place) right.port (label re
 
 -- the rights of a space's names, and of their requests
 abbrev pub space_edges : ℕ → Names → List ℕ
-space_edges space names = flat_map (λ e. flat_map (edge_line (references_of e.1)) (rights_of_entry space e.0 e.1)) (finmap.entries names)
+space_edges space names =
+    flat_map (λ e. flat_map (edge_line (references_of e.1)) (rights_of_entry space e.0 e.1)) (finmap.entries names)
 
 -- the rights of a port's messages and requests
 abbrev pub port_edges : ℕ → PortState → List ℕ

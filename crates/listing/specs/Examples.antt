@@ -23,7 +23,9 @@ no_length [] e = refl
 no_length (x ∷ es) e = absurd (omega arith)
 
 none : {X : Type 0} → finmap.entries (finmap.empty {X = X} {R = nat_cmp}) ≡ []
-none {X} = no_length (finmap.entries (finmap.empty {X = X} {R = nat_cmp})) (sym (len-entries finmap.empty) ∙ len-empty nat_cmp X)
+none {X} =
+    no_length (finmap.entries (finmap.empty {X = X} {R = nat_cmp}))
+    (sym (len-entries finmap.empty) ∙ len-empty nat_cmp X)
 
 opened_spaces : finmap.entries opening_state.spaces ≡ (1, finmap.empty) ∷ []
 opened_spaces = entries-insert nat_cmp_total finmap.empty 1 finmap.empty ∙ ap (finmap.put nat_cmp 1 finmap.empty) none
@@ -60,7 +62,8 @@ unfolding listing placed hexadecimal name_line space_line queue_text port_encodi
 made-lines = simp (made_spaces, made_ports) (simp made_names)
 
 pub made-drawn : drawing made ≡ codes "digraph ports {\n  rankdir=LR;\n  node [shape=box];\n  subgraph cluster_1 {\n    label=\"space 1\";\n    n1_00000100 [label=\"00000100 00030000 refs 1\"];\n  }\n  p1 [shape=ellipse, label=\"port 1\\nsend 1 once 0\\nqueue 0 of 5\\nseqno 1 mscount 1\"];\n  n1_00000100 -> p1 [label=\"receive\"];\n  n1_00000100 -> p1 [label=\"send x1\"];\n}\n"
-unfolding drawing placed hexadecimal name_node port_node name_node_line cluster_head queue_label port_node_text edge_text encode_with digits
+unfolding drawing placed hexadecimal name_node port_node name_node_line cluster_head queue_label port_node_text
+    edge_text encode_with digits
 made-drawn = simp (made_spaces, made_ports) (simp made_names)
 
 -- Every kind of name, right and request. Port 2's receive right is in a message of port 1's queue, alongside a send
@@ -84,7 +87,10 @@ with_rights = record {
   reply = Some (record { kind = kind.SendOnce; port = in_message.Live 4 });
   id = 7;
   complex = true;
-  rights = (record { kind = kind.Receive; port = in_message.Live 2 }) ∷ (record { kind = kind.Send; port = in_message.Live 1 }) ∷ (record { kind = kind.Send; port = in_message.Dead }) ∷ [];
+  rights =
+      (record { kind = kind.Receive; port = in_message.Live 2 }) ∷
+      (record { kind = kind.Send; port = in_message.Live 1 }) ∷
+      (record { kind = kind.Send; port = in_message.Dead }) ∷ [];
   body = 0x10 ∷ 0x20 ∷ 0x01 ∷ 0x10 ∷ 0 ∷ 0 ∷ 0 ∷ 0 ∷ 0x11 ∷ 0x20 ∷ 0x02 ∷ 0x10 ∷ 0 ∷ 0 ∷ 0 ∷ 0 ∷ 0 ∷ 0 ∷ 0 ∷ 0 ∷ [];
 }
 
@@ -94,7 +100,15 @@ by_send_once = record { destination = kind.SendOnce; reply = None; id = 70; comp
 abbrev ports_mixed : List (ℕ × PortState)
 ports_mixed =
     (1, record new_port { make_send_count = 4; messages = with_rights ∷ []; no_senders_target = Some 4 })
-    ∷ (2, record new_port { limit = 16; sequence_number = 3; messages = by_send_once ∷ []; port_destroyed_target = Some 1 })
+    ∷ (
+      2,
+      record new_port {
+        limit = 16;
+        sequence_number = 3;
+        messages = by_send_once ∷ [];
+        port_destroyed_target = Some 1;
+      },
+    )
     ∷ (4, record new_port { set = Some 0x103 })
     ∷ []
 
@@ -122,5 +136,6 @@ unfolding listing placed hexadecimal name_line space_line queue_text port_encodi
 mixed-lines = simp (mixed_spaces, mixed_ports) (simp (mixed_names_1, mixed_names_2))
 
 pub mixed-drawn : drawing mixed ≡ codes "digraph ports {\n  rankdir=LR;\n  node [shape=box];\n  subgraph cluster_1 {\n    label=\"space 1\";\n    n1_00000100 [label=\"00000100 00030000 refs 2\"];\n    n1_00000101 [label=\"00000101 80010000 refs 3\"];\n    n1_00000102 [label=\"00000102 00040000 refs 1\"];\n    n1_00000103 [label=\"00000103 00080000 refs 1\"];\n    n1_00000104 [label=\"00000104 00100000 refs 2\"];\n    n1_00000105 [label=\"00000105 00020000 refs 0\"];\n  }\n  subgraph cluster_2 {\n    label=\"space 2\";\n    n2_00000200 [label=\"00000200 80040000 refs 1\"];\n  }\n  p1 [shape=ellipse, label=\"port 1\\nsend 3 once 3\\nqueue 1 of 5\\nseqno 0 mscount 4\"];\n  p2 [shape=ellipse, label=\"port 2\\nsend 1 once 2\\nqueue 1 of 16\\nseqno 3 mscount 0\"];\n  p4 [shape=ellipse, label=\"port 4\\nsend 0 once 3\\nqueue 0 of 5\\nseqno 0 mscount 0\"];\n  n1_00000100 -> p1 [label=\"receive\"];\n  n1_00000100 -> p1 [label=\"send x2\"];\n  n1_00000101 -> p2 [label=\"send x3\"];\n  n1_00000101 -> p1 [label=\"dead-name request\"];\n  n1_00000102 -> p1 [label=\"send-once\"];\n  n1_00000105 -> p4 [label=\"receive\"];\n  n2_00000200 -> p2 [label=\"send-once\"];\n  n2_00000200 -> p4 [label=\"dead-name request\"];\n  p1 -> p1 [label=\"carried send\"];\n  p1 -> p4 [label=\"carried send-once\"];\n  p1 -> p2 [label=\"carried receive\"];\n  p1 -> p1 [label=\"carried send\"];\n  p1 -> p4 [label=\"no-senders request\"];\n  p2 -> p2 [label=\"carried send-once\"];\n  p2 -> p1 [label=\"port-destroyed request\"];\n}\n"
-unfolding drawing placed hexadecimal name_node port_node name_node_line cluster_head queue_label port_node_text edge_text encode_with digits
+unfolding drawing placed hexadecimal name_node port_node name_node_line cluster_head queue_label port_node_text
+    edge_text encode_with digits
 mixed-drawn = simp (mixed_spaces, mixed_ports) (simp (mixed_names_1, mixed_names_2))

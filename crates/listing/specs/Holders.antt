@@ -22,4 +22,5 @@ IsListed (Some right) = IsHeldOrCarried right.place
 
 -- The line of each live port says where its receive right is.
 abbrev pub HoldersAreListed : Type 0
-HoldersAreListed = (state : State) (serial : ℕ) → Lawful state → lives state serial ≡ true → IsListed (receive_right state serial)
+HoldersAreListed =
+    (state : State) (serial : ℕ) → Lawful state → lives state serial ≡ true → IsListed (receive_right state serial)

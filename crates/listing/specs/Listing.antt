@@ -75,7 +75,8 @@ port_encoding serial receive send send_once port =
 -- a live port, where its receive right is, and how many send and send-once rights it has
 abbrev pub port_line : State → ℕ → PortState → List ℕ
 port_line state serial port =
-    port_encoding serial (receive_text (receive_right state serial)) (send_count state serial) (send_once_count state serial) port
+    port_encoding serial (receive_text (receive_right state serial)) (send_count state serial)
+    (send_once_count state serial) port
 
 -- the epoch of a store, and how many records its segments hold
 unfoldable pub store_line : ℕ → ℕ → List ℕ
@@ -84,4 +85,5 @@ store_line epoch records = codes "epoch " ++ (decimal epoch ++ (codes " records 
 unfoldable pub listing : ℕ → ℕ → State → List ℕ
 listing epoch records state =
     store_line epoch records
-    ++ (flat_map (λ e. space_lines e.0 e.1) (finmap.entries state.spaces) ++ flat_map (λ e. port_line state e.0 e.1) (finmap.entries state.ports))
+    ++ (flat_map (λ e. space_lines e.0 e.1) (finmap.entries state.spaces) ++ flat_map
+    (λ e. port_line state e.0 e.1) (finmap.entries state.ports))

@@ -22,7 +22,8 @@ abbrev pub spaces_drawn : List Space → List ℕ
 spaces_drawn spaces = flat_map space_drawn spaces
 
 abbrev pub port_drawn : Notes → LivePort → List ℕ
-port_drawn notes port = let tally = tally_of notes port.serial in port_node_text port.serial tally.send tally.send_once port.state
+port_drawn notes port =
+    let tally = tally_of notes port.serial in port_node_text port.serial tally.send tally.send_once port.state
 
 abbrev pub ports_drawn : Notes → List LivePort → List ℕ
 ports_drawn notes ports = flat_map (port_drawn notes) ports
@@ -54,4 +55,5 @@ edges_drawn snapshot text = snapshot_seen edge_drawn snapshot text
 -- a text followed by a whole drawing
 unfoldable pub drawn : Snapshot → List ℕ → List ℕ
 drawn snapshot text =
-    edges_drawn snapshot (((text ++ drawing_head) ++ spaces_drawn snapshot.spaces) ++ ports_drawn (gathered snapshot) snapshot.ports) ++ drawing_end
+    edges_drawn snapshot (((text ++ drawing_head) ++ spaces_drawn snapshot.spaces)
+    ++ ports_drawn (gathered snapshot) snapshot.ports) ++ drawing_end

@@ -18,7 +18,8 @@ use Rattle.listing.specs.declared.standing.Standing.TheVariants.{Held, Queued, D
 use Rattle.listing.specs.declared.standing.StandingRight.{StandingRight}
 
 abbrev pub right : RightKind → ℕ → Standing → ℕ → StandingRight
-right of_kind serial standing references = record { kind = of_kind; port = serial; standing = standing; references = references }
+right of_kind serial standing references =
+    record { kind = of_kind; port = serial; standing = standing; references = references }
 
 -- the target of a name's dead-name request
 abbrev pub request_target : Entry → Option ℕ
@@ -33,17 +34,21 @@ module _ {S : Type 0} (see : StandingRight → S → S) where
   target_seen standing (Some serial) s = see (right kind.SendOnce serial standing 0) s
 
   abbrev pub receive_seen : ℕ → ℕ → Entry → S → S
-  receive_seen space name (Port rights) s = if rights.receive then see (right kind.Receive rights.port (Held space name) rights.send) s else s
+  receive_seen space name (Port rights) s =
+      if rights.receive then see (right kind.Receive rights.port (Held space name) rights.send) s else s
   receive_seen space name _ s = s
 
   abbrev pub send_seen : ℕ → ℕ → Entry → S → S
-  send_seen space name (Port rights) s = if rights.send == 0 then s else see (right kind.Send rights.port (Held space name) rights.send) s
+  send_seen space name (Port rights) s =
+      if rights.send == 0 then s else see (right kind.Send rights.port (Held space name) rights.send) s
   send_seen space name (SendOnce port target) s = see (right kind.SendOnce port (Held space name) 1) s
   send_seen space name _ s = s
 
   -- what a name of a space stands for
   unfoldable pub entry_seen : ℕ → ℕ → Entry → S → S
-  entry_seen space name entry s = target_seen (DeadNameRequest space name) (request_target entry) (send_seen space name entry (receive_seen space name entry s))
+  entry_seen space name entry s =
+      target_seen (DeadNameRequest space name) (request_target entry)
+      (send_seen space name entry (receive_seen space name entry s))
 
   abbrev pub names_seen : ℕ → List NamedEntry → S → S
   names_seen space [] s = s
@@ -71,7 +76,9 @@ module _ {S : Type 0} (see : StandingRight → S → S) where
   rights_seen queue (carried ∷ rest) s = rights_seen queue rest (carried_seen queue carried s)
 
   unfoldable pub message_seen : ℕ → Message → S → S
-  message_seen queue message s = rights_seen queue message.rights (reply_seen queue message.reply (see (right message.destination queue (Queued queue) 0) s))
+  message_seen queue message s =
+      rights_seen queue message.rights
+      (reply_seen queue message.reply (see (right message.destination queue (Queued queue) 0) s))
 
   abbrev pub messages_seen : ℕ → List Message → S → S
   messages_seen queue [] s = s
@@ -80,7 +87,8 @@ module _ {S : Type 0} (see : StandingRight → S → S) where
   -- what a live port keeps
   unfoldable pub state_seen : ℕ → PortState → S → S
   state_seen serial port s =
-      target_seen (PortDestroyedRequest serial) port.port_destroyed_target (target_seen (NoSendersRequest serial) port.no_senders_target (messages_seen serial port.messages s))
+      target_seen (PortDestroyedRequest serial) port.port_destroyed_target
+      (target_seen (NoSendersRequest serial) port.no_senders_target (messages_seen serial port.messages s))
 
   abbrev pub ports_seen : List LivePort → S → S
   ports_seen [] s = s

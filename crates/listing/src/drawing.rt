@@ -116,7 +116,8 @@ fn push_drawing(alloc: Global, snapshot: &Snapshot, out: &mut Vec<u8>) -> Result
 /// ports, and an edge for each right from where it stands to its port. It fails if memory runs out, and some of the
 /// drawing may have been added then.
 pub fn draw(alloc: Global, snapshot: &Snapshot, out: &mut Vec<u8>) -> Result<(), AllocError>
-    ensures { (state : State) → snapshot.now ≡ snapshot_of state → OnOk result (out.new.items ≡ out.old.items ++ drawing state) }
+    ensures { (state : State) → snapshot.now ≡ snapshot_of state
+        → OnOk result (out.new.items ≡ out.old.items ++ drawing state) }
 {
     push_drawing(alloc, snapshot, out)
 }

@@ -100,7 +100,8 @@ pub(crate) fn port_line(
     tally: Tally,
     port: &PortState,
 ) -> Result<String, AllocError>
-    ensures { IfOk result (λ line. string_bytes line ≡ port_encoding serial (standing_text tally.receive) tally.send tally.send_once port.now) }
+    ensures { IfOk result (λ line. string_bytes line
+        ≡ port_encoding serial (standing_text tally.receive) tally.send tally.send_once port.now) }
 {
     let receive = standing_text(alloc, tally.receive)?;
     let queue = queue_text(alloc, port)?;

@@ -80,7 +80,8 @@ pub fn list(
     snapshot: &Snapshot,
     out: &mut Vec<u8>,
 ) -> Result<(), AllocError>
-    ensures { (state : State) → snapshot.now ≡ snapshot_of state → OnOk result (out.new.items ≡ out.old.items ++ listing epoch records state) }
+    ensures { (state : State) → snapshot.now ≡ snapshot_of state
+        → OnOk result (out.new.items ≡ out.old.items ++ listing epoch records state) }
 {
     push_rows(alloc, epoch, records, snapshot, out)
 }

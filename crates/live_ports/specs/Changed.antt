@@ -58,4 +58,6 @@ messages_at ports serial = messages_in (finmap.get ports serial)
 
 -- what is found is the message of the index, where there is one
 abbrev pub IsMessageAt : List Message → ℕ → Option (Bor Message) → Type 0
-IsMessageAt messages index found = MatchOption found (length messages ≤ index) (λ message. (index < length messages) × (message.now ≡ slice_index_or messages index message.now))
+IsMessageAt messages index found =
+    MatchOption found (length messages ≤ index)
+    (λ message. (index < length messages) × (message.now ≡ slice_index_or messages index message.now))

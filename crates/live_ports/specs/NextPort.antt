@@ -11,12 +11,15 @@ use Rattle.tracked_map.specs.Slots.{get_picked}
 -- the least serial, from a given one on, under which a port lives
 abbrev pub IsNextPort : Ports → ℕ → Option ℕ → Type 0
 IsNextPort ports from found = MatchOption found ((serial : ℕ) → from ≤ serial → get ports serial ≡ None)
-    (λ next. (from ≤ next) × (is_some (get ports next) ≡ true) × ((serial : ℕ) → from ≤ serial → serial < next → get ports serial ≡ None))
+    (λ next. (from ≤ next) × (is_some (get ports next) ≡ true)
+    × ((serial : ℕ) → from ≤ serial → serial < next → get ports serial ≡ None))
 
 -- the same among the serials of 64 bits
 abbrev pub IsNextWord : Ports → ℕ → Option ℕ → Type 0
-IsNextWord ports from found = MatchOption found ((serial : ℕ) → from ≤ serial → serial < 2 ^ 64 → get ports serial ≡ None)
-    (λ next. (from ≤ next) × (is_some (get ports next) ≡ true) × ((serial : ℕ) → from ≤ serial → serial < next → get ports serial ≡ None))
+IsNextWord ports from found =
+    MatchOption found ((serial : ℕ) → from ≤ serial → serial < 2 ^ 64 → get ports serial ≡ None)
+    (λ next. (from ≤ next) × (is_some (get ports next) ≡ true)
+    × ((serial : ℕ) → from ≤ serial → serial < next → get ports serial ≡ None))
 
 -- no port has a serial from `from` on that is below `at`
 abbrev pub ArePassed : Ports → ℕ → ℕ → Type 0
@@ -27,11 +30,14 @@ nothing None none = refl
 nothing (Some x) none = absurd (cc none)
 
 below_or_not : (a b : ℕ) (P : Type 0) → (a < b → P) → (b ≤ a → P) → P
-below_or_not a b P first second = elim (nat_lt a b) as (λ (t : Bool). nat_lt a b ≡ t → P) [ true ↦ λ (e : _). first (ltb-true a b e) | false ↦ λ (e : _). second (ltb-false a b e) ] refl
+below_or_not a b P first second =
+    elim (nat_lt a b) as (λ (t : Bool). nat_lt a b ≡ t → P)
+    [ true ↦ λ (e : _). first (ltb-true a b e) | false ↦ λ (e : _). second (ltb-false a b e) ] refl
 
 module _ (slots : Slots) (from at : ℕ) (passed : ArePassed (present_ports slots) from at) where
   -- where there are no slots there are no ports
-  pub passed_on : (next : ℕ) → ((serial : ℕ) → at ≤ serial → serial < next → get slots serial ≡ None) → ArePassed (present_ports slots) from next
+  pub passed_on : (next : ℕ) → ((serial : ℕ) → at ≤ serial → serial < next → get slots serial ≡ None)
+      → ArePassed (present_ports slots) from next
   passed_on next none = λ serial le below. below_or_not serial at (get (present_ports slots) serial ≡ None)
       (λ less. passed serial le less)
       (λ more. get_picked current_of slots serial ∙ ap (option_and_then current_of) (none serial more below))
@@ -40,10 +46,12 @@ module _ (slots : Slots) (from at : ℕ) (passed : ArePassed (present_ports slot
   pub passed_dead : is_some (get (present_ports slots) at) ≡ false → ArePassed (present_ports slots) from (at + 1)
   passed_dead gone = λ serial le below. below_or_not serial at (get (present_ports slots) serial ≡ None)
       (λ less. passed serial le less)
-      (λ more. ap (get (present_ports slots)) (omega (arith, more, below)) ∙ nothing (get (present_ports slots) at) gone)
+      (λ more. ap (get (present_ports slots)) (omega (arith, more, below))
+      ∙ nothing (get (present_ports slots) at) gone)
 
 -- the next port among those that are seen
-module _ (raw : Ports) (from : ℕ) (small : (serial : ℕ) (port : PortState) → get raw serial ≡ Some port → serial < 2 ^ 64) where
+module _ (raw : Ports) (from : ℕ)
+    (small : (serial : ℕ) (port : PortState) → get raw serial ≡ Some port → serial < 2 ^ 64) where
   unseen : (serial : ℕ) → get raw serial ≡ None → get (as_seen raw) serial ≡ None
   unseen serial none = nothing (get (as_seen raw) serial) (lives_seen raw serial ∙ ap is_some none)
 
@@ -56,7 +64,9 @@ module _ (raw : Ports) (from : ℕ) (small : (serial : ℕ) (port : PortState) �
   next_seen (Some next) is = (is.0, lives_seen raw next ∙ is.1, λ serial le below. unseen serial (is.2 serial le below))
 
 -- the serial that was found is below a number that all of them are below
-pub next_below : (raw : Ports) (from limit : ℕ) → ((serial : ℕ) (port : PortState) → get raw serial ≡ Some port → serial < limit) → (found : Option ℕ) → IsNextWord raw from found → IfSome found (λ next. next < limit)
+pub next_below : (raw : Ports) (from limit : ℕ)
+    → ((serial : ℕ) (port : PortState) → get raw serial ≡ Some port → serial < limit) → (found : Option ℕ)
+    → IsNextWord raw from found → IfSome found (λ next. next < limit)
 next_below raw from limit small None none = tt
 next_below raw from limit small (Some next) is = by (get raw next) refl
   where

@@ -16,27 +16,36 @@ use Rattle.waiting.specs.Waiting.{occupancy}
 -- each port whose serial isn't among these lives if it lived, holds as many messages as before, with the same limit,
 -- and is in the same set
 abbrev pub AreNoted : Ports → Ports → List ℕ → Type 0
-AreNoted before current serials = (serial : ℕ) → is_touched serial serials ≡ false → option_map occupancy (finmap.get current serial) ≡ option_map occupancy (finmap.get before serial)
+AreNoted before current serials =
+    (serial : ℕ) → is_touched serial serials ≡ false
+    → option_map occupancy (finmap.get current serial) ≡ option_map occupancy (finmap.get before serial)
 
 listed_touched : (key : ℕ) (keys : List ℕ) → is_listed key keys ≡ is_touched key keys
 listed_touched key [] = refl
 listed_touched key (k ∷ ks) = ap (λ (b : Bool). eq_by_cmp nat_cmp key k || b) (listed_touched key ks)
 
 -- how messages are seen doesn't change how full a queue is
-seen_occupancy : (raw : Ports) (serial : ℕ) → option_map occupancy (finmap.get (as_seen raw) serial) ≡ option_map occupancy (finmap.get raw serial)
+seen_occupancy : (raw : Ports) (serial : ℕ)
+    → option_map occupancy (finmap.get (as_seen raw) serial) ≡ option_map occupancy (finmap.get raw serial)
 unfolding as_seen
-seen_occupancy raw serial = ap (option_map occupancy) (get-map_values (seen (lives_in raw)) raw serial) ∙ go (finmap.get raw serial)
+seen_occupancy raw serial =
+    ap (option_map occupancy) (get-map_values (seen (lives_in raw)) raw serial) ∙ go (finmap.get raw serial)
   where
     go : (o : Option PortState) → option_map occupancy (option_map (seen (lives_in raw)) o) ≡ option_map occupancy o
     go None = refl
-    go (Some port) = ap (λ (n : ℕ). Some (record { limit = port.limit; held = n; set = port.set })) (length-map port.messages (seen_message (lives_in raw)))
+    go (Some port) =
+        ap (λ (n : ℕ). Some (record { limit = port.limit; held = n; set = port.set }))
+        (length-map port.messages (seen_message (lives_in raw)))
 
-pub marked_noted : (slots : Slots) (touched : List ℕ) → AreMarked slots touched → AreNoted (as_seen (former_ports slots)) (as_seen (present_ports slots)) touched
+pub marked_noted : (slots : Slots) (touched : List ℕ) → AreMarked slots touched
+    → AreNoted (as_seen (former_ports slots)) (as_seen (present_ports slots)) touched
 marked_noted slots touched marked serial off =
     seen_occupancy (present_ports slots) serial
-    ∙ ap (option_map occupancy) (get_picked current_of slots serial ∙ same (finmap.get slots serial) refl ∙ sym (get_picked before_of slots serial))
+    ∙ ap (option_map occupancy) (get_picked current_of slots serial ∙ same (finmap.get slots serial) refl
+    ∙ sym (get_picked before_of slots serial))
     ∙ sym (seen_occupancy (former_ports slots) serial)
   where
-    same : (o : Option PortSlot) → finmap.get slots serial ≡ o → option_and_then current_of o ≡ option_and_then before_of o
+    same : (o : Option PortSlot) → finmap.get slots serial ≡ o
+        → option_and_then current_of o ≡ option_and_then before_of o
     same None at = refl
     same (Some slot) at = sym (marked serial slot at (listed_touched serial touched ∙ off)).0

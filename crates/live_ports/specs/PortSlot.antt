@@ -8,7 +8,9 @@ pub record PortSlot : Type 0 where
   pub current : Option PortState
 
 abbrev pub slot_code : Coded PortState → Coded PortSlot
-slot_code c = code_by (Option PortState × Option PortState) (coded× (coded_option c) (coded_option c)) (λ t. (t.before, t.current)) (λ p. record { before = p.0; current = p.1 }) (λ _. refl)
+slot_code c =
+    code_by (Option PortState × Option PortState) (coded× (coded_option c) (coded_option c))
+    (λ t. (t.before, t.current)) (λ p. record { before = p.0; current = p.1 }) (λ _. refl)
 
 -- a port without changes to commit or roll back
 abbrev pub slot_at_rest : Option PortState → PortSlot

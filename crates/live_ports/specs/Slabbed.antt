@@ -18,7 +18,8 @@ module _ {Y : Type 0} where
   -- each serial has a key of its own, under which something stands, and nothing else stands in the slab
   pub record AreKeyed (values : Slab Y) (keys : Keys) : Type 0 where
     pub there : (serial key : ℕ) → finmap.get keys serial ≡ Some key → is_some (slab.get values key) ≡ true
-    pub apart : (serial other key : ℕ) → finmap.get keys serial ≡ Some key → finmap.get keys other ≡ Some key → serial ≡ other
+    pub apart : (serial other key : ℕ) → finmap.get keys serial ≡ Some key → finmap.get keys other ≡ Some key
+        → serial ≡ other
     pub found : (key : ℕ) → is_some (slab.get values key) ≡ true → (serial : ℕ) × (finmap.get keys serial ≡ Some key)
 
   -- what stands under one key changed

@@ -28,7 +28,9 @@ present_ports slots = picked current_of slots
 
 -- one slot changed, if it is there
 abbrev pub slot_changed : Slots → ℕ → (PortSlot → PortSlot) → Slots
-slot_changed slots serial change = elim (finmap.get slots serial) as (λ _. Slots) [ None ↦ slots | Some slot ↦ finmap.insert slots serial (change slot) ]
+slot_changed slots serial change =
+    elim (finmap.get slots serial) as (λ _. Slots)
+    [ None ↦ slots | Some slot ↦ finmap.insert slots serial (change slot) ]
 
 -- what stands in a slot changed
 abbrev pub present_changed : (PortState → PortState) → PortSlot → PortSlot

@@ -14,7 +14,10 @@ is_listed key (k ∷ ks) = eq_by_cmp nat_cmp key k || is_listed key ks
 
 pub listed_append : (key : ℕ) (ks ls : List ℕ) → is_listed key (ks ++ ls) ≡ (is_listed key ks || is_listed key ls)
 listed_append key [] ls = refl
-listed_append key (k ∷ ks) ls = elim (eq_by_cmp nat_cmp key k) as (λ (b : Bool). (b || is_listed key (ks ++ ls)) ≡ ((b || is_listed key ks) || is_listed key ls)) [ true ↦ refl | false ↦ listed_append key ks ls ]
+listed_append key (k ∷ ks) ls =
+    elim (eq_by_cmp nat_cmp key k)
+    as (λ (b : Bool). (b || is_listed key (ks ++ ls)) ≡ ((b || is_listed key ks) || is_listed key ls))
+    [ true ↦ refl | false ↦ listed_append key ks ls ]
 
 or_false : (a b : Bool) → (a || b) ≡ false → (a ≡ false) × (b ≡ false)
 or_false true b e = absurd (cc e)
@@ -26,20 +29,29 @@ both_false false true p q = absurd (cc q)
 both_false false false p q = refl
 
 -- a key that isn't listed with the last one isn't listed before it, and isn't the last one
-pub not_listed : (key last : ℕ) (ks : List ℕ) → is_listed key (ks ++ last ∷ []) ≡ false → (is_listed key ks ≡ false) × (eq_by_cmp nat_cmp key last ≡ false)
+pub not_listed : (key last : ℕ) (ks : List ℕ) → is_listed key (ks ++ last ∷ []) ≡ false → (is_listed key ks ≡ false)
+    × (eq_by_cmp nat_cmp key last ≡ false)
 not_listed key last ks none =
-    let parts = or_false (is_listed key ks) (eq_by_cmp nat_cmp key last || false) (sym (listed_append key ks (last ∷ [])) ∙ none) in (parts.0, (or_false (eq_by_cmp nat_cmp key last) false parts.1).0)
+    let parts =
+    or_false (is_listed key ks) (eq_by_cmp nat_cmp key last || false)
+    (sym (listed_append key ks (last ∷ [])) ∙ none) in
+    (parts.0, (or_false (eq_by_cmp nat_cmp key last) false parts.1).0)
 
-pub listed_not : (key last : ℕ) (ks : List ℕ) → is_listed key ks ≡ false → eq_by_cmp nat_cmp key last ≡ false → is_listed key (ks ++ last ∷ []) ≡ false
-listed_not key last ks none other = listed_append key ks (last ∷ []) ∙ both_false (is_listed key ks) (eq_by_cmp nat_cmp key last) none other
+pub listed_not : (key last : ℕ) (ks : List ℕ) → is_listed key ks ≡ false → eq_by_cmp nat_cmp key last ≡ false
+    → is_listed key (ks ++ last ∷ []) ≡ false
+listed_not key last ks none other =
+    listed_append key ks (last ∷ []) ∙ both_false (is_listed key ks) (eq_by_cmp nat_cmp key last) none other
 
 same : {X : Type 0} (m n : FinMap {K = ℕ} nat_cmp X) → ((q : ℕ) → get m q ≡ get n q) → m ≡ n
 same m n alike = same_map nat_cmp_total nat_cmp-IsAntisymmetric m n alike
 
-get_settled : {Y : Type 0} (slots : FinMap {K = ℕ} nat_cmp Y) (key q : ℕ) (value : Y) (b : Bool) → eq_by_cmp nat_cmp q key ≡ b → get (insert slots key value) q ≡ cond b (Some value) (get slots q)
-get_settled slots key q value b is = get-insert nat_cmp_total slots key value q ∙ ap (λ (c : Bool). cond c (Some value) (get slots q)) is
+get_settled : {Y : Type 0} (slots : FinMap {K = ℕ} nat_cmp Y) (key q : ℕ) (value : Y) (b : Bool)
+    → eq_by_cmp nat_cmp q key ≡ b → get (insert slots key value) q ≡ cond b (Some value) (get slots q)
+get_settled slots key q value b is =
+    get-insert nat_cmp_total slots key value q ∙ ap (λ (c : Bool). cond c (Some value) (get slots q)) is
 
-get_gone : {Y : Type 0} (slots : FinMap {K = ℕ} nat_cmp Y) (key q : ℕ) (b : Bool) → eq_by_cmp nat_cmp q key ≡ b → get (remove slots key) q ≡ cond b None (get slots q)
+get_gone : {Y : Type 0} (slots : FinMap {K = ℕ} nat_cmp Y) (key q : ℕ) (b : Bool) → eq_by_cmp nat_cmp q key ≡ b
+    → get (remove slots key) q ≡ cond b None (get slots q)
 get_gone slots key q b is = get-remove nat_cmp_total slots key q ∙ ap (λ (c : Bool). cond c None (get slots q)) is
 
 gone_or : {X : Type 0} (o p : Option X) → is_some o ≡ false → p ≡ o → None ≡ p
@@ -53,7 +65,8 @@ module _ {X Y : Type 0} where
 
   -- each slot whose key isn't among these wasn't touched
   abbrev pub AreTouched : (Y → Option X) → (Y → Option X) → FinMap {K = ℕ} nat_cmp Y → List ℕ → Type 0
-  AreTouched before current slots touched = (key : ℕ) (slot : Y) → get slots key ≡ Some slot → is_listed key touched ≡ false → IsStill before current slot
+  AreTouched before current slots touched =
+      (key : ℕ) (slot : Y) → get slots key ≡ Some slot → is_listed key touched ≡ false → IsStill before current slot
 
   -- a slot that is done: settled, or removed if nothing is to stand there
   abbrev pub drained : (Y → Option X) → (Y → Y) → FinMap {K = ℕ} nat_cmp Y → ℕ → FinMap {K = ℕ} nat_cmp Y
@@ -69,70 +82,107 @@ module _ {X Y : Type 0} where
     pub seen : (slot : Y) → look (settle slot) ≡ look slot
 
   -- one more key among the touched ones
-  pub touched_more : (before current : Y → Option X) (slots : FinMap {K = ℕ} nat_cmp Y) (touched : List ℕ) (key : ℕ) → AreTouched before current slots touched → AreTouched before current slots (touched ++ key ∷ [])
-  touched_more before current slots touched key still = λ q slot is none. still q slot is (not_listed q key touched none).0
+  pub touched_more : (before current : Y → Option X) (slots : FinMap {K = ℕ} nat_cmp Y) (touched : List ℕ) (key : ℕ)
+      → AreTouched before current slots touched → AreTouched before current slots (touched ++ key ∷ [])
+  touched_more before current slots touched key still =
+      λ q slot is none. still q slot is (not_listed q key touched none).0
 
   -- a slot put under a touched key
-  pub touched_put : (before current : Y → Option X) (slots : FinMap {K = ℕ} nat_cmp Y) (touched : List ℕ) (key : ℕ) (value : Y) → AreTouched before current slots touched → AreTouched before current (insert slots key value) (touched ++ key ∷ [])
+  pub touched_put : (before current : Y → Option X) (slots : FinMap {K = ℕ} nat_cmp Y) (touched : List ℕ) (key : ℕ)
+      (value : Y) → AreTouched before current slots touched
+      → AreTouched before current (insert slots key value) (touched ++ key ∷ [])
   touched_put before current slots touched key value still = λ q slot is none.
       let apart = not_listed q key touched none in
-      still q slot (sym (get-insert nat_cmp_total slots key value q ∙ ap (λ (b : Bool). cond b (Some value) (get slots q)) apart.1) ∙ is) apart.0
+      still q slot (sym (get-insert nat_cmp_total slots key value q ∙ ap
+      (λ (b : Bool). cond b (Some value) (get slots q)) apart.1) ∙ is) apart.0
 
   -- nothing is there, and nothing is touched
-  pub touched_none : (before current : Y → Option X) (slots : FinMap {K = ℕ} nat_cmp Y) (touched : List ℕ) → ((q : ℕ) → get slots q ≡ None) → AreTouched before current slots touched
+  pub touched_none : (before current : Y → Option X) (slots : FinMap {K = ℕ} nat_cmp Y) (touched : List ℕ)
+      → ((q : ℕ) → get slots q ≡ None) → AreTouched before current slots touched
   touched_none before current slots touched none = λ q slot is _. absurd (cc (sym is ∙ none q))
 
   -- where nothing is touched, what stands there is what stood there
-  pub untouched_alike : (before current : Y → Option X) (slots : FinMap {K = ℕ} nat_cmp Y) → AreTouched before current slots [] → picked before slots ≡ picked current slots
-  untouched_alike before current slots still = picked_alike before current slots (λ key slot is. (still key slot is refl).0)
+  pub untouched_alike : (before current : Y → Option X) (slots : FinMap {K = ℕ} nat_cmp Y)
+      → AreTouched before current slots [] → picked before slots ≡ picked current slots
+  untouched_alike before current slots still =
+      picked_alike before current slots (λ key slot is. (still key slot is refl).0)
 
-  pub record IsDrained (before current look : Y → Option X) (slots next : FinMap {K = ℕ} nat_cmp Y) (rest : List ℕ) : Type 0 where
+  pub record IsDrained (before current look : Y → Option X) (slots next : FinMap {K = ℕ} nat_cmp Y)
+      (rest : List ℕ) : Type 0 where
     pub seen : picked look next ≡ picked look slots
     pub touched : AreTouched before current next rest
 
   -- the last touched key is done
-  pub is_drained : (before current look : Y → Option X) (settle : Y → Y) (slots next : FinMap {K = ℕ} nat_cmp Y) (touched rest : List ℕ) (key : ℕ) → IsSettling before current look settle → next ≡ drained look settle slots key → touched ≡ rest ++ key ∷ []
+  pub is_drained : (before current look : Y → Option X) (settle : Y → Y) (slots next : FinMap {K = ℕ} nat_cmp Y)
+      (touched rest : List ℕ) (key : ℕ) → IsSettling before current look settle → next ≡ drained look settle slots key
+      → touched ≡ rest ++ key ∷ []
       → AreTouched before current slots touched → IsDrained before current look slots next rest
   is_drained before current look settle slots next touched rest key settles at last still =
-      subst (λ (m : FinMap {K = ℕ} nat_cmp Y). IsDrained before current look slots m rest) (sym at) (by_slot (get slots key) refl)
+      subst (λ (m : FinMap {K = ℕ} nat_cmp Y). IsDrained before current look slots m rest) (sym at)
+      (by_slot (get slots key) refl)
     where
-      left : (q : ℕ) (slot : Y) → get slots q ≡ Some slot → eq_by_cmp nat_cmp q key ≡ false → is_listed q rest ≡ false → IsStill before current slot
+      left : (q : ℕ) (slot : Y) → get slots q ≡ Some slot → eq_by_cmp nat_cmp q key ≡ false → is_listed q rest ≡ false
+          → IsStill before current slot
       left q slot is other none = still q slot is (ap (is_listed q) last ∙ listed_not q key rest none other)
 
-      by_look : (slot : Y) → get slots key ≡ Some slot → (b : Bool) → is_some (look slot) ≡ b → IsDrained before current look slots (cond b (insert slots key (settle slot)) (remove slots key)) rest
+      by_look : (slot : Y) → get slots key ≡ Some slot → (b : Bool) → is_some (look slot) ≡ b
+          → IsDrained before current look slots (cond b (insert slots key (settle slot)) (remove slots key)) rest
       by_look slot here true some = record {
-        seen = same _ _ (λ q. get_picked look (insert slots key (settle slot)) q ∙ seen_at q (eq_by_cmp nat_cmp q key) refl ∙ sym (get_picked look slots q));
+        seen =
+            same _ _ (λ q. get_picked look (insert slots key (settle slot)) q ∙ seen_at q (eq_by_cmp nat_cmp q key) refl
+            ∙ sym (get_picked look slots q));
         touched = λ q found is none. at_key q found none (eq_by_cmp nat_cmp q key) refl is;
       }
         where
-          seen_at : (q : ℕ) (b : Bool) → eq_by_cmp nat_cmp q key ≡ b → option_and_then look (get (insert slots key (settle slot)) q) ≡ option_and_then look (get slots q)
-          seen_at q true is = ap (option_and_then look) (get_settled slots key q (settle slot) true is) ∙ settles.seen slot ∙ sym (ap (option_and_then look) (ap (get slots) (key_is q key is) ∙ here))
+          seen_at : (q : ℕ) (b : Bool) → eq_by_cmp nat_cmp q key ≡ b
+              → option_and_then look (get (insert slots key (settle slot)) q) ≡ option_and_then look (get slots q)
+          seen_at q true is =
+              ap (option_and_then look) (get_settled slots key q (settle slot) true is) ∙ settles.seen slot
+              ∙ sym (ap (option_and_then look) (ap (get slots) (key_is q key is) ∙ here))
           seen_at q false is = ap (option_and_then look) (get_settled slots key q (settle slot) false is)
 
-          at_key : (q : ℕ) (found : Y) → is_listed q rest ≡ false → (b : Bool) → eq_by_cmp nat_cmp q key ≡ b → get (insert slots key (settle slot)) q ≡ Some found → IsStill before current found
-          at_key q found none true same is = subst (IsStill before current) (some_same (settle slot) found (sym (get_settled slots key q (settle slot) true same) ∙ is)) (settles.was slot ∙ sym (settles.is slot), ap is_some (settles.is slot) ∙ some)
-          at_key q found none false same is = left q found (sym (get_settled slots key q (settle slot) false same) ∙ is) same none
+          at_key : (q : ℕ) (found : Y) → is_listed q rest ≡ false → (b : Bool) → eq_by_cmp nat_cmp q key ≡ b
+              → get (insert slots key (settle slot)) q ≡ Some found → IsStill before current found
+          at_key q found none true same is =
+              subst (IsStill before current)
+              (some_same (settle slot) found (sym (get_settled slots key q (settle slot) true same) ∙ is))
+              (settles.was slot ∙ sym (settles.is slot), ap is_some (settles.is slot) ∙ some)
+          at_key q found none false same is =
+              left q found (sym (get_settled slots key q (settle slot) false same) ∙ is) same none
       by_look slot here false gone = record {
-        seen = same _ _ (λ q. get_picked look (remove slots key) q ∙ seen_at q (eq_by_cmp nat_cmp q key) refl ∙ sym (get_picked look slots q));
+        seen =
+            same _ _ (λ q. get_picked look (remove slots key) q ∙ seen_at q (eq_by_cmp nat_cmp q key) refl
+            ∙ sym (get_picked look slots q));
         touched = λ q found is none. at_key q found none (eq_by_cmp nat_cmp q key) refl is;
       }
         where
-          seen_at : (q : ℕ) (b : Bool) → eq_by_cmp nat_cmp q key ≡ b → option_and_then look (get (remove slots key) q) ≡ option_and_then look (get slots q)
-          seen_at q true is = ap (option_and_then look) (get_gone slots key q true is) ∙ gone_or (look slot) (option_and_then look (get slots q)) gone (ap (option_and_then look) (ap (get slots) (key_is q key is) ∙ here))
+          seen_at : (q : ℕ) (b : Bool) → eq_by_cmp nat_cmp q key ≡ b
+              → option_and_then look (get (remove slots key) q) ≡ option_and_then look (get slots q)
+          seen_at q true is =
+              ap (option_and_then look) (get_gone slots key q true is)
+              ∙ gone_or (look slot) (option_and_then look (get slots q)) gone
+              (ap (option_and_then look) (ap (get slots) (key_is q key is) ∙ here))
           seen_at q false is = ap (option_and_then look) (get_gone slots key q false is)
 
-          at_key : (q : ℕ) (found : Y) → is_listed q rest ≡ false → (b : Bool) → eq_by_cmp nat_cmp q key ≡ b → get (remove slots key) q ≡ Some found → IsStill before current found
+          at_key : (q : ℕ) (found : Y) → is_listed q rest ≡ false → (b : Bool) → eq_by_cmp nat_cmp q key ≡ b
+              → get (remove slots key) q ≡ Some found → IsStill before current found
           at_key q found none true same is = absurd (cc (sym (get_gone slots key q true same) ∙ is))
           at_key q found none false same is = left q found (sym (get_gone slots key q false same) ∙ is) same none
 
       by_slot : (o : Option Y) → get slots key ≡ o
-          → IsDrained before current look slots (elim o as (λ _. FinMap {K = ℕ} nat_cmp Y) [ None ↦ slots | Some slot ↦ cond (is_some (look slot)) (insert slots key (settle slot)) (remove slots key) ]) rest
+          → IsDrained before current look slots
+          (elim o as (λ _. FinMap {K = ℕ} nat_cmp Y) [
+            | None ↦ slots
+            | Some slot ↦ cond (is_some (look slot)) (insert slots key (settle slot))
+                (remove slots key)
+          ]) rest
       by_slot None nothing = record {
         seen = refl;
         touched = λ q slot is none. left q slot is (elsewhere q slot is (eq_by_cmp nat_cmp q key) refl) none;
       }
         where
-          elsewhere : (q : ℕ) (slot : Y) → get slots q ≡ Some slot → (b : Bool) → eq_by_cmp nat_cmp q key ≡ b → eq_by_cmp nat_cmp q key ≡ false
+          elsewhere : (q : ℕ) (slot : Y) → get slots q ≡ Some slot → (b : Bool) → eq_by_cmp nat_cmp q key ≡ b
+              → eq_by_cmp nat_cmp q key ≡ false
           elsewhere q slot is true same = absurd (cc (sym is ∙ ap (get slots) (key_is q key same) ∙ nothing))
           elsewhere q slot is false same = same
       by_slot (Some slot) here = by_look slot here (is_some (look slot)) refl

@@ -79,7 +79,8 @@ impl SerialKeys {
     /// The least serial from `from` on that has a key, with it.
     pub(crate) fn next_from(&self, from: u128) -> Option<(u128, &usize)>
         ensures { MatchOption result ((serial : ℕ) → from ≤ serial → map.get self.now serial ≡ None)
-            (λ e. (from ≤ e.0) × (map.get self.now e.0 ≡ Some e.1.now) × ((serial : ℕ) → from ≤ serial → serial < e.0 → map.get self.now serial ≡ None)) }
+            (λ e. (from ≤ e.0) × (map.get self.now e.0 ≡ Some e.1.now)
+            × ((serial : ℕ) → from ≤ serial → serial < e.0 → map.get self.now serial ≡ None)) }
     {
         self.keys.next_from(from)
     }

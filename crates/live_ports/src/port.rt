@@ -133,7 +133,8 @@ impl Port {
     /// Puts a message at the queue's end, whatever the limit, if the port lives. If memory runs out, nothing changed; a
     /// queue of `u32::MAX` messages counts as out of memory.
     pub(crate) fn push_forced(&mut self, message: Message) -> Result<(), AllocError>
-        ensures ok { OnOk result (self.new ≡ record self.old { current = option_map (with_message message) self.old.current }) }
+        ensures ok { OnOk result (self.new
+            ≡ record self.old { current = option_map (with_message message) self.old.current }) }
         ensures room { OnOk result (IfSome self.old.current (λ port. length port.messages < 2 ^ 32 - 1)) }
         ensures err { OnErr result (self.new ≡ self.old) }
     {

@@ -100,7 +100,10 @@ impl LivePorts {
     /// what its rights are now.
     pub fn message_as_sent(&self, serial: u64, index: u32) -> Option<&Message>
         ensures { MatchOption result (length (messages_at self.now.current.ports serial) ≤ index)
-            (λ message. (index < length (messages_at self.now.current.ports serial)) × (seen_message (lives_in self.now.current.ports) message.now ≡ slice_index_or (messages_at self.now.current.ports serial) index (seen_message (lives_in self.now.current.ports) message.now))) }
+            (λ message. (index < length (messages_at self.now.current.ports serial))
+            × (seen_message (lives_in self.now.current.ports) message.now
+            ≡ slice_index_or (messages_at self.now.current.ports serial) index
+            (seen_message (lives_in self.now.current.ports) message.now))) }
     {
         self.tables.message(serial, index)
     }

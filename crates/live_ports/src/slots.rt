@@ -106,7 +106,8 @@ impl PortSlots {
     /// Puts a message at the end of a port's queue, if it lives. If an allocation fails, nothing changed.
     pub(crate) fn push(&mut self, serial: u128, message: Message) -> Result<(), AllocError>
         ensures ok { OnOk result (self.new ≡ slot_changed self.old serial (present_changed (with_message message))) }
-        ensures room { OnOk result (IfSome (option_and_then current_of (map.get self.old serial)) (λ port. length port.messages < 2 ^ 32 - 1)) }
+        ensures room { OnOk result (IfSome (option_and_then current_of (map.get self.old serial))
+            (λ port. length port.messages < 2 ^ 32 - 1)) }
         ensures err { OnErr result (self.new ≡ self.old) }
     {
         match self.keys.get(serial) {
@@ -196,7 +197,8 @@ fn set_numbers_at(ports: &mut Slab<Port>, key: usize, numbers: PortNumbers)
 
 fn push_at(ports: &mut Slab<Port>, key: usize, message: Message) -> Result<(), AllocError>
     ensures ok { OnOk result (IsChangedAt (present_changed (with_message message)) ports.old ports.new key) }
-    ensures room { OnOk result (IfSome (option_and_then current_of (slab.get ports.old key)) (λ port. length port.messages < 2 ^ 32 - 1)) }
+    ensures room { OnOk result (IfSome (option_and_then current_of (slab.get ports.old key))
+        (λ port. length port.messages < 2 ^ 32 - 1)) }
     ensures err { OnErr result (IsChangedAt (λ (port : PortSlot). port) ports.old ports.new key) }
 {
     let Some(port) = ports.get_mut(key) else {

@@ -89,7 +89,8 @@ impl Tables {
         numbers: PortNumbers,
     ) -> Result<(), AllocError>
         requires { AreMarked self.old.slots self.old.touched.items }
-        ensures ok { OnOk result (AreNow self.new (changed (present_ports self.old.slots) serial (with_numbers numbers)) self.old.count self.old.next) }
+        ensures ok { OnOk result (AreNow self.new
+            (changed (present_ports self.old.slots) serial (with_numbers numbers)) self.old.count self.old.next) }
         ensures before { SameBefore self.old self.new }
     {
         touch(&mut self.touched, serial)?;
@@ -101,8 +102,10 @@ impl Tables {
     /// changes must be rolled back.
     pub(crate) fn push(&mut self, serial: u64, message: Message) -> Result<(), AllocError>
         requires { AreMarked self.old.slots self.old.touched.items }
-        ensures ok { OnOk result (AreNow self.new (changed (present_ports self.old.slots) serial (with_message message)) self.old.count self.old.next) }
-        ensures room { OnOk result (IfSome (map.get (present_ports self.old.slots) serial) (λ port. length port.messages < 2 ^ 32 - 1)) }
+        ensures ok { OnOk result (AreNow self.new
+            (changed (present_ports self.old.slots) serial (with_message message)) self.old.count self.old.next) }
+        ensures room { OnOk result (IfSome (map.get (present_ports self.old.slots) serial)
+            (λ port. length port.messages < 2 ^ 32 - 1)) }
         ensures before { SameBefore self.old self.new }
     {
         touch(&mut self.touched, serial)?;
@@ -113,7 +116,8 @@ impl Tables {
     /// must be rolled back.
     pub(crate) fn take(&mut self, serial: u64) -> Result<(), AllocError>
         requires { AreMarked self.old.slots self.old.touched.items }
-        ensures ok { OnOk result (AreNow self.new (changed (present_ports self.old.slots) serial without_first) self.old.count self.old.next) }
+        ensures ok { OnOk result (AreNow self.new
+            (changed (present_ports self.old.slots) serial without_first) self.old.count self.old.next) }
         ensures before { SameBefore self.old self.new }
     {
         touch(&mut self.touched, serial)?;
@@ -127,7 +131,8 @@ impl Tables {
         requires unborn { map.get (former_ports self.old.slots) self.old.next ≡ None }
         requires room { self.old.count < MAX_PORTS }
         requires serials { self.old.next < 2 ^ 64 - 1 }
-        ensures ok { OnOk result (AreNow self.new (map.insert (present_ports self.old.slots) self.old.next new_port) (self.old.count + 1) (self.old.next + 1)) }
+        ensures ok { OnOk result (AreNow self.new (map.insert (present_ports self.old.slots) self.old.next new_port)
+            (self.old.count + 1) (self.old.next + 1)) }
         ensures before { SameBefore self.old self.new }
     {
         touch(&mut self.touched, self.next)?;
@@ -151,7 +156,8 @@ impl Tables {
     pub(crate) fn bury(&mut self, serial: u64) -> Result<(), AllocError>
         requires marked { AreMarked self.old.slots self.old.touched.items }
         requires some { 0 < self.old.count }
-        ensures ok { OnOk result (AreNow self.new (map.remove (present_ports self.old.slots) serial) (self.old.count - 1) self.old.next) }
+        ensures ok { OnOk result (AreNow self.new (map.remove (present_ports self.old.slots) serial)
+            (self.old.count - 1) self.old.next) }
         ensures before { SameBefore self.old self.new }
     {
         touch(&mut self.touched, serial)?;

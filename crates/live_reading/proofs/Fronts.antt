@@ -7,20 +7,25 @@ use Rattle.ipc_model.specs.store.Recovery.{IsOfEpoch, IsOpen, image_header, segm
 use Rattle.ipc_model.specs.store.Store.{open_gate, segment_header}
 use Rattle.store_layout.specs.Standing.{IsPassedImage, IsPassedSegment}
 
-open_alike : (header : ℕ) (x y : List ℕ) → 1 ≤ header → take header x ≡ take header y → IsOpen header x → IsOpen header y
+open_alike : (header : ℕ) (x y : List ℕ) → 1 ≤ header → take header x ≡ take header y → IsOpen header x
+    → IsOpen header y
 open_alike header x y some same is_open = (
   omega (arith, length-take header x, length-take header y, ap length same, is_open.0),
   sym (take-take 1 header y some) ∙ ap (take 1) (sym same) ∙ take-take 1 header x some ∙ is_open.1,
 )
 
-epoch_alike : (header number epoch : ℕ) (x y : List ℕ) → 16 ≤ header → take header x ≡ take header y → IsOfEpoch number epoch x → IsOfEpoch number epoch y
+epoch_alike : (header number epoch : ℕ) (x y : List ℕ) → 16 ≤ header → take header x ≡ take header y
+    → IsOfEpoch number epoch x → IsOfEpoch number epoch y
 epoch_alike header number epoch x y whole same is =
     let apart : header ≡ 16 + (header - 16) = omega (arith, whole) in
     let front : take header x ≡ segment_header open_gate epoch ++ take (header - 16) is.rest =
-    ap (take header) is.encoding ∙ ap (λ k. take k (segment_header open_gate epoch ++ is.rest)) apart ∙ take-append-add (segment_header open_gate epoch) is.rest (header - 16) in
+    ap (take header) is.encoding ∙ ap (λ k. take k (segment_header open_gate epoch ++ is.rest)) apart
+    ∙ take-append-add (segment_header open_gate epoch) is.rest (header - 16) in
     record {
       rest = take (header - 16) is.rest ++ drop header y;
-      encoding = sym (take-append-drop header y) ∙ ap (λ l. l ++ drop header y) (sym same ∙ front) ∙ append_assoc (segment_header open_gate epoch) (take (header - 16) is.rest) (drop header y);
+      encoding =
+          sym (take-append-drop header y) ∙ ap (λ l. l ++ drop header y) (sym same ∙ front)
+          ∙ append_assoc (segment_header open_gate epoch) (take (header - 16) is.rest) (drop header y);
       fits = is.fits;
       of_number = is.of_number;
     }
@@ -29,20 +34,27 @@ epoch_alike header number epoch x y whole same is =
 pub open_image_alike : (x y : List ℕ) → take 24 x ≡ take 24 y → IsOpen image_header x → IsOpen image_header y
 open_image_alike x y = open_alike 24 x y (omega arith)
 
-pub open_segment_alike : (x y : List ℕ) → take 16 x ≡ take 16 y → IsOpen segment_header_length x → IsOpen segment_header_length y
+pub open_segment_alike : (x y : List ℕ) → take 16 x ≡ take 16 y → IsOpen segment_header_length x
+    → IsOpen segment_header_length y
 open_segment_alike x y = open_alike 16 x y (omega arith)
 
-pub image_epoch_alike : (number epoch : ℕ) (x y : List ℕ) → take 24 x ≡ take 24 y → IsOfEpoch number epoch x → IsOfEpoch number epoch y
+pub image_epoch_alike : (number epoch : ℕ) (x y : List ℕ) → take 24 x ≡ take 24 y → IsOfEpoch number epoch x
+    → IsOfEpoch number epoch y
 image_epoch_alike number epoch x y = epoch_alike 24 number epoch x y (omega arith)
 
-pub segment_epoch_alike : (number epoch : ℕ) (x y : List ℕ) → take 16 x ≡ take 16 y → IsOfEpoch number epoch x → IsOfEpoch number epoch y
+pub segment_epoch_alike : (number epoch : ℕ) (x y : List ℕ) → take 16 x ≡ take 16 y → IsOfEpoch number epoch x
+    → IsOfEpoch number epoch y
 segment_epoch_alike number epoch x y = epoch_alike 16 number epoch x y (omega arith)
 
 -- and passed over alike
-pub passed_image_alike : (epoch : ℕ) (x y : List ℕ) → take 24 x ≡ take 24 y → IsPassedImage epoch x → IsPassedImage epoch y
+pub passed_image_alike : (epoch : ℕ) (x y : List ℕ) → take 24 x ≡ take 24 y → IsPassedImage epoch x
+    → IsPassedImage epoch y
 passed_image_alike epoch x y same (inl shut) = inl (λ is_open. shut (open_image_alike y x (sym same) is_open))
-passed_image_alike epoch x y same (inr before) = inr (before.0, before.1, image_epoch_alike ((epoch + 1) % 2) before.0 x y same before.2)
+passed_image_alike epoch x y same (inr before) =
+    inr (before.0, before.1, image_epoch_alike ((epoch + 1) % 2) before.0 x y same before.2)
 
-pub passed_segment_alike : (epoch : ℕ) (x y : List ℕ) → take 16 x ≡ take 16 y → IsPassedSegment epoch x → IsPassedSegment epoch y
+pub passed_segment_alike : (epoch : ℕ) (x y : List ℕ) → take 16 x ≡ take 16 y → IsPassedSegment epoch x
+    → IsPassedSegment epoch y
 passed_segment_alike epoch x y same (inl shut) = inl (λ is_open. shut (open_segment_alike y x (sym same) is_open))
-passed_segment_alike epoch x y same (inr before) = inr (before.0, before.1, segment_epoch_alike (before.0 % 2) before.0 x y same before.2)
+passed_segment_alike epoch x y same (inr before) =
+    inr (before.0, before.1, segment_epoch_alike (before.0 % 2) before.0 x y same before.2)

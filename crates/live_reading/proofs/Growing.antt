@@ -22,8 +22,10 @@ nothing : (xs : List ℕ) → length xs ≡ 0 → xs ≡ []
 nothing [] none = refl
 nothing (x ∷ xs) none = absurd (omega (arith, none))
 
-module _ {Moment : Type 0} (Later : Moment → Moment → Type 0) (stays : (m : Moment) → Later m m) (joins : (a b c : Moment) → Later a b → Later b c → Later a c)
-    (slot front : Moment → List ℕ) (begun : Moment) (holds : (m : Moment) → Later begun m → (behind : List ℕ) × (slot m ≡ front m ++ behind) × IsClosed behind)
+module _ {Moment : Type 0} (Later : Moment → Moment → Type 0) (stays : (m : Moment) → Later m m)
+    (joins : (a b c : Moment) → Later a b → Later b c → Later a c)
+    (slot front : Moment → List ℕ) (begun : Moment)
+    (holds : (m : Moment) → Later begun m → (behind : List ℕ) × (slot m ≡ front m ++ behind) × IsClosed behind)
     (grows : (a b : Moment) → Later begun a → Later a b → (more : List ℕ) × (front b ≡ front a ++ more)) where
   -- what was copied so far is within the front,
   abbrev Within : Moment → List ℕ → Type 0
@@ -48,46 +50,62 @@ module _ {Moment : Type 0} (Later : Moment → Moment → Type 0) (stays : (m : 
       (within.0 ++ more.0, more.1 ∙ ap (λ l. l ++ more.0) within.1 ∙ append_assoc copy within.0 more.0)
 
   -- one more piece of what stands after the front
-  piece_past : (now : Moment) (copy rest behind : List ℕ) (far : ℕ) → Later begun now → 0 < far → front now ≡ copy ++ rest → IsClosed behind → Reads now (copy ++ (rest ++ take far behind))
+  piece_past : (now : Moment) (copy rest behind : List ℕ) (far : ℕ) → Later begun now → 0 < far
+      → front now ≡ copy ++ rest → IsClosed behind → Reads now (copy ++ (rest ++ take far behind))
   piece_past now copy rest [] far since some within shut =
-      inl ([], within ∙ sym (append-nil (copy ++ rest)) ∙ ap (λ l. l ++ []) (ap (λ l. copy ++ l) (sym (append-nil rest) ∙ ap (λ l. rest ++ l) (sym (take_all far [] (omega arith))))))
+      inl (
+        [],
+        within ∙ sym (append-nil (copy ++ rest)) ∙ ap
+            (λ l. l ++ []) (ap (λ l. copy ++ l)
+            (sym (append-nil rest) ∙ ap (λ l. rest ++ l) (sym (take_all far [] (omega arith))))),
+      )
   piece_past now copy rest (gate ∷ behind) far since some within shut = inr (
     record {
       at = now;
       since = since;
       until = stays now;
       rest = take far (gate ∷ behind);
-      encoding = sym (append_assoc copy rest (take far (gate ∷ behind))) ∙ ap (λ l. l ++ take far (gate ∷ behind)) (sym within);
+      encoding =
+          sym (append_assoc copy rest (take far (gate ∷ behind))) ∙ ap
+          (λ l. l ++ take far (gate ∷ behind)) (sym within);
       shut = closed_front far (gate ∷ behind) shut;
     },
     omega (arith, some, length-take far (gate ∷ behind)),
   )
 
   -- One more piece of a slot whose front the copy is within: it ends within the front, or after it.
-  piece_within : (now : Moment) (copy : List ℕ) (count : ℕ) → Later begun now → Within now copy → Reads now (copy ++ take count (drop (length copy) (slot now)))
+  piece_within : (now : Moment) (copy : List ℕ) (count : ℕ) → Later begun now → Within now copy
+      → Reads now (copy ++ take count (drop (length copy) (slot now)))
   piece_within now copy count since within =
       let rest = within.0 in
       let held = holds now since in
       let behind = held.0 in
-      let whole : slot now ≡ copy ++ (rest ++ behind) = held.1 ∙ ap (λ l. l ++ behind) within.1 ∙ append_assoc copy rest behind in
-      let next : drop (length copy) (slot now) ≡ rest ++ behind = ap (drop (length copy)) whole ∙ drop_at copy (rest ++ behind) (length copy) refl in
+      let whole : slot now ≡ copy ++ (rest ++ behind) =
+      held.1 ∙ ap (λ l. l ++ behind) within.1 ∙ append_assoc copy rest behind in
+      let next : drop (length copy) (slot now) ≡ rest ++ behind =
+      ap (drop (length copy)) whole ∙ drop_at copy (rest ++ behind) (length copy) refl in
       elim (cases_lt (length rest) count) as (λ _. Reads now (copy ++ take count (drop (length copy) (slot now)))) [
         | inl past ↦
             let far = count - length rest in
             let taken : take count (rest ++ behind) ≡ rest ++ take far behind =
             ap (λ k. take k (rest ++ behind)) (omega (arith, past)) ∙ take-append-add rest behind far in
-            subst (λ l. Reads now (copy ++ l)) (sym (ap (take count) next ∙ taken)) (piece_past now copy rest behind far since (omega (arith, past)) within.1 held.2)
+            subst (λ l. Reads now (copy ++ l)) (sym (ap (take count) next ∙ taken))
+            (piece_past now copy rest behind far since (omega (arith, past)) within.1 held.2)
         | inr short ↦
-            let taken : take count (rest ++ behind) ≡ take count rest = take-append-le count rest behind (omega (arith, short)) in
+            let taken : take count (rest ++ behind) ≡ take count rest =
+            take-append-le count rest behind (omega (arith, short)) in
             subst (λ l. Reads now (copy ++ l)) (sym (ap (take count) next ∙ taken)) (inl (
               drop count rest,
-              within.1 ∙ ap (λ l. copy ++ l) (sym (take-append-drop count rest)) ∙ sym (append_assoc copy (take count rest) (drop count rest)),
+              within.1 ∙ ap (λ l. copy ++ l) (sym (take-append-drop count rest))
+                  ∙ sym (append_assoc copy (take count rest) (drop count rest)),
             ))
       ]
 
   -- One more piece, of what stands there by then.
-  piece_more : (last now : Moment) (copy : List ℕ) (count : ℕ) → Later begun last → Later last now → Reads last copy → Reads now (copy ++ take count (drop (length copy) (slot now)))
-  piece_more last now copy count since later (inl within) = piece_within now copy count (joins begun last now since later) (within_later last now copy since later within)
+  piece_more : (last now : Moment) (copy : List ℕ) (count : ℕ) → Later begun last → Later last now → Reads last copy
+      → Reads now (copy ++ take count (drop (length copy) (slot now)))
+  piece_more last now copy count since later (inl within) =
+      piece_within now copy count (joins begun last now since later) (within_later last now copy since later within)
   piece_more last now copy count since later (inr ends) =
       let piece = take count (drop (length copy) (slot now)) in
       let old = ends.0 in
@@ -106,8 +124,10 @@ module _ {Moment : Type 0} (Later : Moment → Moment → Type 0) (stays : (m : 
   reads : (last : Moment) (copy : List ℕ) → Copied Later slot begun last copy → Later begun last × Reads last copy
   reads _ _ nothing_yet = (stays begun, inl (front begun, refl))
   reads _ _ (one_piece_more {last} {copy} now count longer copied later is) =
-      let before = reads last copy copied in
-      (joins begun last now before.0 later, subst (Reads now) (sym is) (piece_more last now copy count before.0 later before.1))
+      let before = reads last copy copied in (
+        joins begun last now before.0 later,
+        subst (Reads now) (sym is) (piece_more last now copy count before.0 later before.1),
+      )
 
   -- A whole copy is the front of some moment while it was made, followed by nothing, or by a gate that isn't open.
   pub copy_ends : (ended : Moment) (copy : List ℕ) → IsCopy Later slot begun ended copy → Ends ended copy
@@ -117,14 +137,31 @@ module _ {Moment : Type 0} (Later : Moment → Moment → Type 0) (stays : (m : 
         | inl within ↦
             let now = within_later is.last ended copy known.0 is.later within in
             let held = holds ended (joins begun is.last ended known.0 is.later) in
-            let fits : length now.0 ≡ 0 = omega (arith, is.whole, ap length held.1, length-append (front ended) held.0, ap length now.1, length-append copy now.0) in
+            let fits : length now.0 ≡ 0 =
+            omega (
+              arith,
+              is.whole,
+              ap length held.1,
+              length-append (front ended) held.0,
+              ap length now.1,
+              length-append copy now.0,
+            ) in
             record {
               at = ended;
               since = joins begun is.last ended known.0 is.later;
               until = stays ended;
               rest = [];
-              encoding = sym (append-nil copy) ∙ ap (λ l. copy ++ l) (sym (nothing now.0 fits)) ∙ sym now.1 ∙ sym (append-nil (front ended));
+              encoding =
+                  sym (append-nil copy) ∙ ap (λ l. copy ++ l) (sym (nothing now.0 fits)) ∙ sym now.1
+                  ∙ sym (append-nil (front ended));
               shut = tt;
             }
-        | inr ends ↦ record { at = ends.0.at; since = ends.0.since; until = joins ends.0.at is.last ended ends.0.until is.later; rest = ends.0.rest; encoding = ends.0.encoding; shut = ends.0.shut }
+        | inr ends ↦ record {
+          at = ends.0.at;
+          since = ends.0.since;
+          until = joins ends.0.at is.last ended ends.0.until is.later;
+          rest = ends.0.rest;
+          encoding = ends.0.encoding;
+          shut = ends.0.shut;
+        }
       ]

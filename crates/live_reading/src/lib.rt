@@ -10,5 +10,6 @@ ghost use Rattle.live_reading.specs.Standing.{StandFor};
 /// Copies of the slots that were made between two readings of their fronts which agree stand for a state that the store
 /// had meanwhile, if at most one epoch ended during that time.
 pub fn copies_stand()
-    ensures { (begun ended : Moment) (copies : Slots) → IsReading Later (λ m. m.slots) begun ended copies → ended.epoch ≤ begun.epoch + 1 → StandFor begun ended copies }
+    ensures { (begun ended : Moment) (copies : Slots) → IsReading Later (λ m. m.slots) begun ended copies
+        → ended.epoch ≤ begun.epoch + 1 → StandFor begun ended copies }
 {}

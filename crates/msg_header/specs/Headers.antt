@@ -23,7 +23,8 @@ header_bits header = header.remote_disposition + header.local_disposition * 2 ^ 
 
 -- the bytes of a header with this sequence number
 unfoldable pub header_encoding : Header → ℕ → List ℕ
-header_encoding header seqno = flat_map word (header_bits header ∷ header.size ∷ header.remote ∷ header.local ∷ seqno ∷ header.id ∷ [])
+header_encoding header seqno =
+    flat_map word (header_bits header ∷ header.size ∷ header.remote ∷ header.local ∷ seqno ∷ header.id ∷ [])
 
 -- the fields of a header fit its words
 pub record HeaderFits (header : Header) : Type 0 where

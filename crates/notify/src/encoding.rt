@@ -35,14 +35,29 @@ pub fn message(alloc: Global, notice: Notice) -> Result<Message, AllocError>
 
 /// A notice that reports one word.
 fn plain(alloc: Global, id: u32, descriptor: u32, told: u32) -> Result<Message, AllocError>
-    ensures { IfOk result (λ message. message ≡ record { destination = RightKind.SendOnce; reply = None; id = id; complex = false; rights = []; body = word descriptor ++ word told }) }
+    ensures { IfOk result (λ message. message
+        ≡ record {
+          destination = RightKind.SendOnce;
+          reply = None;
+          id = id;
+          complex = false;
+          rights = [];
+          body = word descriptor ++ word told;
+        }) }
 {
     let body = one_item(alloc, descriptor, told)?;
     Ok(without_rights(id, alloc, body))
 }
 
 fn without_rights(id: u32, alloc: Global, body: Vec<u8>) -> Message
-    ensures { result ≡ record { destination = RightKind.SendOnce; reply = None; id = id; complex = false; rights = []; body = body.items } }
+    ensures { result ≡ record {
+      destination = RightKind.SendOnce;
+      reply = None;
+      id = id;
+      complex = false;
+      rights = [];
+      body = body.items;
+    } }
 {
     Message {
         destination: RightKind::SendOnce,

@@ -15,8 +15,10 @@ pub fn replace_no_senders(
     port: u64,
     target: Option<u64>,
 ) -> Result<Option<u64>, AllocError>
-    ensures former { IfOk result (λ former. former ≡ option_and_then (λ port. port.no_senders_target) (map.get state.old.current.ports port)) }
-    ensures kept { OnOk result (state.new.current ≡ with_port state.old.current port (λ port. record port { no_senders_target = target })) }
+    ensures former { IfOk result (λ former. former ≡ option_and_then
+        (λ port. port.no_senders_target) (map.get state.old.current.ports port)) }
+    ensures kept { OnOk result (state.new.current ≡ with_port state.old.current port
+        (λ port. record port { no_senders_target = target })) }
     ensures before { state.new.before ≡ state.old.before }
 {
     let Some(numbers) = state.numbers(port) else {
@@ -38,8 +40,10 @@ pub fn replace_port_destroyed(
     port: u64,
     target: Option<u64>,
 ) -> Result<Option<u64>, AllocError>
-    ensures former { IfOk result (λ former. former ≡ option_and_then (λ port. port.port_destroyed_target) (map.get state.old.current.ports port)) }
-    ensures kept { OnOk result (state.new.current ≡ with_port state.old.current port (λ port. record port { port_destroyed_target = target })) }
+    ensures former { IfOk result (λ former. former ≡ option_and_then
+        (λ port. port.port_destroyed_target) (map.get state.old.current.ports port)) }
+    ensures kept { OnOk result (state.new.current ≡ with_port state.old.current port
+        (λ port. record port { port_destroyed_target = target })) }
     ensures before { state.new.before ≡ state.old.before }
 {
     let Some(numbers) = state.numbers(port) else {

@@ -73,7 +73,8 @@ impl<V> NumberMap<V> {
 
     /// The value of a key, to be changed in place. What is left there is the key's value afterwards.
     pub fn get_mut(&mut self, key: u128) -> Option<&mut V>
-        ensures* writes_back { sem 𝓛 (LendsIf (the_row V.row) V.row self.entry result (map.insert self.old key) self.old) }
+        ensures* writes_back { sem 𝓛 (LendsIf (the_row V.row) V.row self.entry result
+            (map.insert self.old key) self.old) }
         ensures value { option_copied_mut result ≡ map.get self.old key }
     {
         self.entries.get_mut(&key)
@@ -82,7 +83,8 @@ impl<V> NumberMap<V> {
     /// The least key from this one on that has a value, with its value.
     pub fn next_from(&self, from: u128) -> Option<(u128, &V)>
         ensures { MatchOption result ((key : ℕ) → from ≤ key → map.get self.now key ≡ None)
-            (λ e. (from ≤ e.0) × (map.get self.now e.0 ≡ Some e.1.now) × ((key : ℕ) → from ≤ key → key < e.0 → map.get self.now key ≡ None)) }
+            (λ e. (from ≤ e.0) × (map.get self.now e.0 ≡ Some e.1.now)
+            × ((key : ℕ) → from ≤ key → key < e.0 → map.get self.now key ≡ None)) }
     {
         let Some((key, value)) = self.entries.range(from..).next() else {
             return None;

@@ -54,7 +54,8 @@ impl<V> NumberTable<V> {
 
     /// The value of a number, to be changed in place. What is left there is the number's value afterwards.
     pub fn get_mut(&mut self, number: u32) -> Option<&mut V>
-        ensures* writes_back { sem 𝓛 (LendsIf (the_row V.row) V.row self.entry result (map.insert self.old number) self.old) }
+        ensures* writes_back { sem 𝓛 (LendsIf (the_row V.row) V.row self.entry result
+            (map.insert self.old number) self.old) }
         ensures value { option_copied_mut result ≡ map.get self.old number }
     {
         match self.rows.get_mut(number as usize) {
@@ -66,7 +67,8 @@ impl<V> NumberTable<V> {
     /// The least number from this one on that has a value, with its value.
     pub fn next_from(&self, from: u64) -> Option<(u64, &V)>
         ensures { MatchOption result ((number : ℕ) → from ≤ number → map.get self.now number ≡ None)
-            (λ e. (from ≤ e.0) × (map.get self.now e.0 ≡ Some e.1.now) × ((number : ℕ) → from ≤ number → number < e.0 → map.get self.now number ≡ None)) }
+            (λ e. (from ≤ e.0) × (map.get self.now e.0 ≡ Some e.1.now)
+            × ((number : ℕ) → from ≤ number → number < e.0 → map.get self.now number ≡ None)) }
     {
         let mut at = from as usize;
         while let Some(row) = self.rows.get(at) {

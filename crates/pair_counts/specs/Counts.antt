@@ -26,7 +26,8 @@ count_at counts first second = or_zero (get counts (key first second))
 
 -- the count of a pair set to this
 abbrev pub with_count : Counts → ℕ → ℕ → ℕ → Counts
-with_count counts first second n = if n == 0 then remove counts (key first second) else insert counts (key first second) n
+with_count counts first second n =
+    if n == 0 then remove counts (key first second) else insert counts (key first second) n
 
 -- no count there is 0, and none is too great for the sum of two
 abbrev pub ArePositive : Counts → Type 0
@@ -35,7 +36,8 @@ ArePositive counts = (k n : ℕ) → get counts k ≡ Some n → (0 < n) × (n <
 -- the least second number of the pairs with this first one whose count isn't 0
 abbrev pub IsLeast : Counts → ℕ → Option ℕ → Type 0
 IsLeast counts first found = MatchOption found ((q : ℕ) → q < 2 ^ 64 → count_at counts first q ≡ 0)
-    (λ least. (least < 2 ^ 64) × (0 < count_at counts first least) × ((q : ℕ) → q < least → count_at counts first q ≡ 0))
+    (λ least. (least < 2 ^ 64) × (0 < count_at counts first least)
+    × ((q : ℕ) → q < least → count_at counts first q ≡ 0))
 
 -- numbers that compare as equal are equal, by the machine's comparison
 pub eq_cmp : (x y : ℕ) → eq_by_cmp nat_cmp x y ≡ (x == y)
@@ -45,7 +47,8 @@ eq_cmp x y = go (eq_by_cmp nat_cmp x y) refl (x == y) refl
     go true first true second = refl
     go false first false second = refl
     go true first false second = absurd (cc (sym second ∙ eq-eqb x y (key_is x y first)))
-    go false first true second = absurd (cc (sym first ∙ ap (λ (q : ℕ). eq_by_cmp nat_cmp q y) (eqb-true x y second) ∙ same_key y))
+    go false first true second =
+        absurd (cc (sym first ∙ ap (λ (q : ℕ). eq_by_cmp nat_cmp q y) (eqb-true x y second) ∙ same_key y))
 
 -- two pairs are one number where their parts are equal
 pub same_pair : (a b c d : ℕ) → b < 2 ^ 64 → d < 2 ^ 64 → eq_by_cmp nat_cmp (key c d) (key a b) ≡ (c == a && d == b)
@@ -56,25 +59,36 @@ same_pair a b c d small other = eq_cmp (key c d) (key a b) ∙ go (key c d == ke
 
     go : (k : Bool) → (key c d == key a b) ≡ k → (x : Bool) → (c == a) ≡ x → (y : Bool) → (d == b) ≡ y → k ≡ (x && y)
     go true whole true first true second = refl
-    go false whole true first true second = absurd (cc (sym whole ∙ eq-eqb (key c d) (key a b) (ap (λ (n : ℕ). key n d) (eqb-true c a first) ∙ ap (key a) (eqb-true d b second))))
+    go false whole true first true second =
+        absurd (cc (sym whole ∙ eq-eqb (key c d) (key a b)
+        (ap (λ (n : ℕ). key n d) (eqb-true c a first) ∙ ap (key a) (eqb-true d b second))))
     go true whole false first y second = absurd (cc (sym first ∙ eq-eqb c a (both (eqb-true _ _ whole)).0))
     go true whole true first false second = absurd (cc (sym second ∙ eq-eqb d b (both (eqb-true _ _ whole)).1))
     go false whole false first y second = refl
     go false whole true first false second = refl
 
 -- the count of each pair once one is set
-pub count_with : (counts : Counts) (a b n c d : ℕ) → b < 2 ^ 64 → d < 2 ^ 64 → count_at (with_count counts a b n) c d ≡ cond (c == a && d == b) n (count_at counts c d)
+pub count_with : (counts : Counts) (a b n c d : ℕ) → b < 2 ^ 64 → d < 2 ^ 64
+    → count_at (with_count counts a b n) c d ≡ cond (c == a && d == b) n (count_at counts c d)
 count_with counts a b n c d small other = go (n == 0) refl
   where
-    there : (m : Counts) (o : Option ℕ) → get m (key c d) ≡ cond (eq_by_cmp nat_cmp (key c d) (key a b)) o (get counts (key c d)) → count_at m c d ≡ cond (c == a && d == b) (or_zero o) (count_at counts c d)
-    there m o at = ap or_zero (at ∙ ap (λ (t : Bool). cond t o (get counts (key c d))) (same_pair a b c d small other)) ∙ out (c == a && d == b)
+    there : (m : Counts) (o : Option ℕ)
+        → get m (key c d) ≡ cond (eq_by_cmp nat_cmp (key c d) (key a b)) o (get counts (key c d))
+        → count_at m c d ≡ cond (c == a && d == b) (or_zero o) (count_at counts c d)
+    there m o at =
+        ap or_zero (at ∙ ap (λ (t : Bool). cond t o (get counts (key c d))) (same_pair a b c d small other))
+        ∙ out (c == a && d == b)
       where
         out : (t : Bool) → or_zero (cond t o (get counts (key c d))) ≡ cond t (or_zero o) (count_at counts c d)
         out true = refl
         out false = refl
 
-    go : (z : Bool) → (n == 0) ≡ z → count_at (cond z (remove counts (key a b)) (insert counts (key a b) n)) c d ≡ cond (c == a && d == b) n (count_at counts c d)
-    go true none = there (remove counts (key a b)) None (get-remove nat_cmp_total counts (key a b) (key c d)) ∙ ap (λ (k : ℕ). cond (c == a && d == b) k (count_at counts c d)) (sym (eqb-true n 0 none))
+    go : (z : Bool) → (n == 0) ≡ z
+        → count_at (cond z (remove counts (key a b)) (insert counts (key a b) n)) c d
+        ≡ cond (c == a && d == b) n (count_at counts c d)
+    go true none =
+        there (remove counts (key a b)) None (get-remove nat_cmp_total counts (key a b) (key c d)) ∙ ap
+        (λ (k : ℕ). cond (c == a && d == b) k (count_at counts c d)) (sym (eqb-true n 0 none))
     go false some = there (insert counts (key a b) n) (Some n) (get-insert nat_cmp_total counts (key a b) n (key c d))
 
 -- counts of nothing
@@ -84,17 +98,25 @@ none_counted counts a b none = ap or_zero none
 pub none_positive : (counts : Counts) → counts ≡ empty → ArePositive counts
 none_positive counts none k n at = absurd (cc (sym at ∙ ap (λ (m : Counts). get m k) none ∙ get-empty nat_cmp k))
 
-pub with_positive : (counts : Counts) (a b n : ℕ) → n < 2 ^ 63 → ArePositive counts → ArePositive (with_count counts a b n)
+pub with_positive : (counts : Counts) (a b n : ℕ) → n < 2 ^ 63 → ArePositive counts
+    → ArePositive (with_count counts a b n)
 with_positive counts a b n few are k m = go (n == 0) refl
   where
     positive : (n : ℕ) → (n == 0) ≡ false → 0 < n
     positive zero e = absurd (cc e)
     positive (suc n) e = omega arith
 
-    left : (t : Bool) (o : Option ℕ) → ((x : ℕ) → o ≡ Some x → (0 < x) × (x < 2 ^ 63)) → cond t o (get counts k) ≡ Some m → (0 < m) × (m < 2 ^ 63)
+    left : (t : Bool) (o : Option ℕ) → ((x : ℕ) → o ≡ Some x → (0 < x) × (x < 2 ^ 63))
+        → cond t o (get counts k) ≡ Some m → (0 < m) × (m < 2 ^ 63)
     left true o is at = is m at
     left false o is at = are k m at
 
-    go : (z : Bool) → (n == 0) ≡ z → get (cond z (remove counts (key a b)) (insert counts (key a b) n)) k ≡ Some m → (0 < m) × (m < 2 ^ 63)
-    go true none at = left (eq_by_cmp nat_cmp k (key a b)) None (λ x e. absurd (cc e)) (sym (get-remove nat_cmp_total counts (key a b) k) ∙ at)
-    go false some at = left (eq_by_cmp nat_cmp k (key a b)) (Some n) (λ x e. subst (λ (y : ℕ). (0 < y) × (y < 2 ^ 63)) (some_same n x e) (positive n some, few)) (sym (get-insert nat_cmp_total counts (key a b) n k) ∙ at)
+    go : (z : Bool) → (n == 0) ≡ z → get (cond z (remove counts (key a b)) (insert counts (key a b) n)) k ≡ Some m
+        → (0 < m) × (m < 2 ^ 63)
+    go true none at =
+        left (eq_by_cmp nat_cmp k (key a b)) None
+        (λ x e. absurd (cc e)) (sym (get-remove nat_cmp_total counts (key a b) k) ∙ at)
+    go false some at =
+        left (eq_by_cmp nat_cmp k (key a b)) (Some n)
+        (λ x e. subst (λ (y : ℕ). (0 < y) × (y < 2 ^ 63)) (some_same n x e) (positive n some, few))
+        (sym (get-insert nat_cmp_total counts (key a b) n k) ∙ at)

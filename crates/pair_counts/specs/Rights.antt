@@ -35,7 +35,8 @@ pub record AreCounted (weighed : Weight → ℕ) (counts : Counts) : Type 0 wher
   pub onces : (serial : ℕ) → serial < 2 ^ 64 → count_at counts 1 serial ≡ weighed (right_weight kind.SendOnce serial)
 
 -- the same sums
-pub counted_same : (f g : Weight → ℕ) (counts : Counts) → ((w : Weight) → f w ≡ g w) → AreCounted f counts → AreCounted g counts
+pub counted_same : (f g : Weight → ℕ) (counts : Counts) → ((w : Weight) → f w ≡ g w) → AreCounted f counts
+    → AreCounted g counts
 counted_same f g counts same are = record {
   sends = λ serial small. are.sends serial small ∙ same (right_weight kind.Send serial);
   onces = λ serial small. are.onces serial small ∙ same (right_weight kind.SendOnce serial);
@@ -51,33 +52,54 @@ turned a b = go (a == b) refl (b == a) refl
     go false first true second = absurd (cc (sym first ∙ eq-eqb a b (sym (eqb-true b a second))))
 
 -- the count of each pair once one has one more, or one less
-pub count_more : (counts : Counts) (a b c d : ℕ) → b < 2 ^ 64 → d < 2 ^ 64 → count_at (one_more counts a b) c d ≡ count_at counts c d + cond (c == a && b == d) 1 0
+pub count_more : (counts : Counts) (a b c d : ℕ) → b < 2 ^ 64 → d < 2 ^ 64
+    → count_at (one_more counts a b) c d ≡ count_at counts c d + cond (c == a && b == d) 1 0
 count_more counts a b c d small other =
-    count_with counts a b (count_at counts a b + 1) c d small other ∙ go (c == a) refl (d == b) refl ∙ ap (λ (t : Bool). count_at counts c d + cond (c == a && t) 1 0) (turned d b)
+    count_with counts a b (count_at counts a b + 1) c d small other ∙ go (c == a) refl (d == b) refl ∙ ap
+    (λ (t : Bool). count_at counts c d + cond (c == a && t) 1 0) (turned d b)
   where
-    go : (x : Bool) → (c == a) ≡ x → (y : Bool) → (d == b) ≡ y → cond (x && y) (count_at counts a b + 1) (count_at counts c d) ≡ count_at counts c d + cond (x && y) 1 0
-    go true first true second = ap (λ (n : ℕ). n + 1) (sym (ap (λ (n : ℕ). count_at counts n d) (eqb-true c a first) ∙ ap (count_at counts a) (eqb-true d b second)))
+    go : (x : Bool) → (c == a) ≡ x → (y : Bool) → (d == b) ≡ y
+        → cond (x && y) (count_at counts a b + 1) (count_at counts c d) ≡ count_at counts c d + cond (x && y) 1 0
+    go true first true second =
+        ap (λ (n : ℕ). n + 1) (sym (ap (λ (n : ℕ). count_at counts n d) (eqb-true c a first)
+        ∙ ap (count_at counts a) (eqb-true d b second)))
     go true first false second = omega arith
     go false first y second = omega arith
 
-pub count_fewer : (counts : Counts) (a b c d n : ℕ) → b < 2 ^ 64 → d < 2 ^ 64 → count_at counts c d ≡ n + cond (c == a && b == d) 1 0 → count_at (one_fewer counts a b) c d ≡ n
+pub count_fewer : (counts : Counts) (a b c d n : ℕ) → b < 2 ^ 64 → d < 2 ^ 64
+    → count_at counts c d ≡ n + cond (c == a && b == d) 1 0 → count_at (one_fewer counts a b) c d ≡ n
 count_fewer counts a b c d n small other is =
-    count_with counts a b (count_at counts a b - 1) c d small other ∙ go (c == a) refl (d == b) refl (is ∙ ap (λ (t : Bool). n + cond (c == a && t) 1 0) (turned b d))
+    count_with counts a b (count_at counts a b - 1) c d small other
+    ∙ go (c == a) refl (d == b) refl (is ∙ ap (λ (t : Bool). n + cond (c == a && t) 1 0) (turned b d))
   where
-    go : (x : Bool) → (c == a) ≡ x → (y : Bool) → (d == b) ≡ y → count_at counts c d ≡ n + cond (x && y) 1 0 → cond (x && y) (count_at counts a b - 1) (count_at counts c d) ≡ n
-    go true first true second was = omega (arith, was, ap (λ (n : ℕ). count_at counts n d) (eqb-true c a first) ∙ ap (count_at counts a) (eqb-true d b second))
+    go : (x : Bool) → (c == a) ≡ x → (y : Bool) → (d == b) ≡ y → count_at counts c d ≡ n + cond (x && y) 1 0
+        → cond (x && y) (count_at counts a b - 1) (count_at counts c d) ≡ n
+    go true first true second was =
+        omega (
+          arith,
+          was,
+          ap (λ (n : ℕ). count_at counts n d) (eqb-true c a first)
+              ∙ ap (count_at counts a) (eqb-true d b second),
+        )
     go true first false second was = omega (arith, was)
     go false first y second was = omega (arith, was)
 
 -- one more right is counted
-pub counted_more : (f : Weight → ℕ) (counts : Counts) (what : RightKind) (port : ℕ) → port < 2 ^ 64 → AreCounted f counts → AreCounted (λ w. f w + w what port) (right_more counts what port)
+pub counted_more : (f : Weight → ℕ) (counts : Counts) (what : RightKind) (port : ℕ) → port < 2 ^ 64
+    → AreCounted f counts → AreCounted (λ w. f w + w what port) (right_more counts what port)
 counted_more f counts kind.Send port small are = record {
-  sends = λ serial other. count_more counts 0 port 0 serial small other ∙ ap (λ (n : ℕ). n + cond (port == serial) 1 0) (are.sends serial other);
-  onces = λ serial other. count_more counts 0 port 1 serial small other ∙ ap (λ (n : ℕ). n + 0) (are.onces serial other);
+  sends =
+      λ serial other. count_more counts 0 port 0 serial small other ∙ ap
+      (λ (n : ℕ). n + cond (port == serial) 1 0) (are.sends serial other);
+  onces =
+      λ serial other. count_more counts 0 port 1 serial small other ∙ ap (λ (n : ℕ). n + 0) (are.onces serial other);
 }
 counted_more f counts kind.SendOnce port small are = record {
-  sends = λ serial other. count_more counts 1 port 0 serial small other ∙ ap (λ (n : ℕ). n + 0) (are.sends serial other);
-  onces = λ serial other. count_more counts 1 port 1 serial small other ∙ ap (λ (n : ℕ). n + cond (port == serial) 1 0) (are.onces serial other);
+  sends =
+      λ serial other. count_more counts 1 port 0 serial small other ∙ ap (λ (n : ℕ). n + 0) (are.sends serial other);
+  onces =
+      λ serial other. count_more counts 1 port 1 serial small other ∙ ap
+      (λ (n : ℕ). n + cond (port == serial) 1 0) (are.onces serial other);
 }
 counted_more f counts kind.Receive port small are = record {
   sends = λ serial other. are.sends serial other ∙ omega arith;
@@ -85,7 +107,8 @@ counted_more f counts kind.Receive port small are = record {
 }
 
 -- one less right is counted
-pub counted_fewer : (f : Weight → ℕ) (counts : Counts) (what : RightKind) (port : ℕ) → port < 2 ^ 64 → AreCounted (λ w. f w + w what port) counts → AreCounted f (right_fewer counts what port)
+pub counted_fewer : (f : Weight → ℕ) (counts : Counts) (what : RightKind) (port : ℕ) → port < 2 ^ 64
+    → AreCounted (λ w. f w + w what port) counts → AreCounted f (right_fewer counts what port)
 counted_fewer f counts kind.Send port small are = record {
   sends = λ serial other. count_fewer counts 0 port 0 serial _ small other (are.sends serial other);
   onces = λ serial other. count_fewer counts 0 port 1 serial _ small other (are.onces serial other);

@@ -70,7 +70,11 @@ impl PairCounts {
     /// Adds one to the count of a pair. If an allocation fails, as it does for a count of 2^63 - 1, the changes are
     /// rolled back.
     pub fn add(&mut self, first: u64, second: u64) -> Result<(), AllocError>
-        ensures ok { OnOk result (self.new ≡ record self.old { current = with_count self.old.current first second (count_at self.old.current first second + 1) }) }
+        ensures ok { OnOk result (self.new
+            ≡ record self.old {
+              current = with_count self.old.current first second
+                  (count_at self.old.current first second + 1);
+            }) }
         ensures err { OnErr result (self.new ≡ at_rest self.old.before) }
     {
         let count = self.count(first, second);
@@ -83,7 +87,11 @@ impl PairCounts {
 
     /// Subtracts one from the count of a pair, if it isn't 0. If an allocation fails, the changes are rolled back.
     pub fn subtract(&mut self, first: u64, second: u64) -> Result<(), AllocError>
-        ensures ok { OnOk result (self.new ≡ record self.old { current = with_count self.old.current first second (count_at self.old.current first second - 1) }) }
+        ensures ok { OnOk result (self.new
+            ≡ record self.old {
+              current = with_count self.old.current first second
+                  (count_at self.old.current first second - 1);
+            }) }
         ensures err { OnErr result (self.new ≡ at_rest self.old.before) }
     {
         let count = self.count(first, second);
@@ -142,7 +150,8 @@ impl PairCounts {
     /// Sets the count of a pair.
     fn set(&mut self, first: u64, second: u64, count: u64) -> Result<(), AllocError>
         requires few { count < 2 ^ 63 }
-        ensures ok { OnOk result (self.new ≡ record self.old { current = with_count self.old.current first second count }) }
+        ensures ok { OnOk result (self.new
+            ≡ record self.old { current = with_count self.old.current first second count }) }
         ensures err { OnErr result (self.new ≡ at_rest self.old.before) }
     {
         match write(&mut self.counts, first, second, count) {
@@ -183,7 +192,8 @@ fn write(
     second: u64,
     count: u64,
 ) -> Result<(), AllocError>
-    ensures ok { OnOk result (counts.new ≡ record counts.old { current = with_count counts.old.current first second count }) }
+    ensures ok { OnOk result (counts.new
+        ≡ record counts.old { current = with_count counts.old.current first second count }) }
     ensures err { OnErr result (counts.new ≡ counts.old) }
 {
     if count == 0 {

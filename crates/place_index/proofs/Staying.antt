@@ -13,9 +13,12 @@ same_number None (Some n) is = absurd (cc is)
 same_number (Some n) None is = absurd (cc is)
 same_number (Some m) (Some n) is = ap Some (eqb-true m n is)
 
-stayed : (places : Numbers) (place : ℕ) (former number : Option ℕ) → former ≡ number → with_place places number place ≡ moved places place former number
+stayed : (places : Numbers) (place : ℕ) (former number : Option ℕ) → former ≡ number
+    → with_place places number place ≡ moved places place former number
 stayed places place former None same = ap (λ (f : Option ℕ). moved places place f None) (sym same)
-stayed places place former (Some number) same = sym (insert-remove places (key number place) tt) ∙ ap (λ (f : Option ℕ). moved places place f (Some number)) (sym same)
+stayed places place former (Some number) same =
+    sym (insert-remove places (key number place) tt) ∙ ap
+    (λ (f : Option ℕ). moved places place f (Some number)) (sym same)
 
 -- if it stands there already, nothing changes
 pub stands : (places : Numbers) (at : ℕ) → is_some (get places at) ≡ true → places ≡ insert places at tt
@@ -26,6 +29,9 @@ stands places at there = go (get places at) refl there
     go (Some x) is there = sym (insert-same places at tt is)
 
 -- a number that stays is moved to where it stands
-pub stays : {T E : Type 0} (r : Result T E) (old new : Numbers) (place : ℕ) (former number : Option ℕ) → option_eq nat_eq former number ≡ true → OnOk r (new ≡ with_place old number place) → OnOk r (new ≡ moved old place former number)
-stays (Ok done) old new place former number same at = at ∙ stayed old place former number (same_number former number same)
+pub stays : {T E : Type 0} (r : Result T E) (old new : Numbers) (place : ℕ) (former number : Option ℕ)
+    → option_eq nat_eq former number ≡ true → OnOk r (new ≡ with_place old number place)
+    → OnOk r (new ≡ moved old place former number)
+stays (Ok done) old new place former number same at =
+    at ∙ stayed old place former number (same_number former number same)
 stays (Err error) old new place former number same at = tt

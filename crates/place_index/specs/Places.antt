@@ -33,5 +33,7 @@ moved places place former number = with_place (without_place places former place
 
 -- the first place, from a given one on, at which the number stands
 abbrev pub IsNext : Numbers → ℕ → ℕ → Option ℕ → Type 0
-IsNext places number from found = MatchOption found ((place : ℕ) → from ≤ place → place < 2 ^ 64 → stands_at places number place ≡ false)
-    (λ first. (from ≤ first) × (first < 2 ^ 64) × (stands_at places number first ≡ true) × ((place : ℕ) → from ≤ place → place < first → stands_at places number place ≡ false))
+IsNext places number from found =
+    MatchOption found ((place : ℕ) → from ≤ place → place < 2 ^ 64 → stands_at places number place ≡ false)
+    (λ first. (from ≤ first) × (first < 2 ^ 64) × (stands_at places number first ≡ true)
+    × ((place : ℕ) → from ≤ place → place < first → stands_at places number place ≡ false))

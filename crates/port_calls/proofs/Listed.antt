@@ -10,6 +10,8 @@ use Rattle.ipc_model.specs.declared.call.Reply.TheVariants as reply
 use Rattle.ipc_model.specs.declared.entry.Entry.TheVariants.{Set}
 use Rattle.ipc_model.specs.state.State.{State, Names, members_of}
 
-pub members_told : (old : State) (space : ℕ) (names : Names) (name : ℕ) (answer : Reply) → is_no_name names name ≡ false → finmap.get names name ≡ Some Set → answer ≡ reply.SetStatus (members_of old names name) → ActsIn old space names (call.GetSetStatus name) answer old []
+pub members_told : (old : State) (space : ℕ) (names : Names) (name : ℕ) (answer : Reply) → is_no_name names name ≡ false
+    → finmap.get names name ≡ Some Set → answer ≡ reply.SetStatus (members_of old names name)
+    → ActsIn old space names (call.GetSetStatus name) answer old []
 unfolding tests_of Done
 members_told old space names name answer used at told = rw (used, at) (told, refl, refl)

@@ -17,4 +17,5 @@ is_refusal _ = false
 -- otherwise the copy is the state that the call's own action leaves, and these are the effects that it sets off.
 abbrev pub Tries : State → ℕ → Call → Reply → State → List Effect → Type 0
 Tries old space c answer new effects =
-    MatchBool (is_refusal answer) (ActsIn old space (names_in old space) c answer old []) (ActsIn old space (names_in old space) c answer new effects)
+    MatchBool (is_refusal answer) (ActsIn old space (names_in old space) c answer old [])
+    (ActsIn old space (names_in old space) c answer new effects)

@@ -27,9 +27,13 @@ pub fn allocate(
 ) -> Result<Reply, AllocError>
     requires there { IsSome (map.get state.old.current.spaces space) }
     requires fresh { map.get state.old.current.ports state.old.current.next ≡ None }
-    ensures acts { IfOk result (λ reply. ActsIn state.old.current space (names_in state.old.current space) (call.Allocate right) reply state.new.current []) }
+    ensures acts { IfOk result
+        (λ reply. ActsIn state.old.current space (names_in state.old.current space)
+        (call.Allocate right) reply state.new.current []) }
     // If the call may be answered with the preferred name, it is.
-    ensures wanted { IfOk result (λ reply. (shown : ℕ) → wanted ≡ Some shown → (new : State) → (effects : List Effect) → ActsIn state.old.current space (names_in state.old.current space) (call.Allocate right) (Reply.Allocate shown) new effects → reply ≡ Reply.Allocate shown) }
+    ensures wanted { IfOk result (λ reply. (shown : ℕ) → wanted ≡ Some shown → (new : State) → (effects : List Effect)
+        → ActsIn state.old.current space (names_in state.old.current space) (call.Allocate right)
+        (Reply.Allocate shown) new effects → reply ≡ Reply.Allocate shown) }
     ensures before { state.new.before ≡ state.old.before }
 {
     if let Some(code) = refusal_of_allocate(state, space, right) {
@@ -43,7 +47,8 @@ pub fn allocate(
 /// The name that a new right gets: the preferred one if it is unused, else the least unused one.
 pub fn chosen_name(state: &IpcState, space: u32, wanted: Option<u32>) -> u32
     ensures unused { IsUnused (names_in state.now.current space) result }
-    ensures wanted { (shown : ℕ) → wanted ≡ Some shown → IsUnused (names_in state.now.current space) shown → result ≡ shown }
+    ensures wanted { (shown : ℕ) → wanted ≡ Some shown → IsUnused (names_in state.now.current space) shown
+        → result ≡ shown }
 {
     let Some(name) = wanted else {
         return state.free_name(space);
@@ -57,7 +62,8 @@ pub fn chosen_name(state: &IpcState, space: u32, wanted: Option<u32>) -> u32
 /// The code with which an allocation is refused, if it is.
 #[tactic(auto, unfolding(ipc_model::specs::calls::PortCalls::tests_of))]
 pub fn refusal_of_allocate(state: &IpcState, space: u32, right: u32) -> Option<KernReturn>
-    ensures { result ≡ first_failing (tests_of state.now.current space (names_in state.now.current space) (call.Allocate right)) }
+    ensures { result ≡ first_failing
+        (tests_of state.now.current space (names_in state.now.current space) (call.Allocate right)) }
 {
     if !is_allocatable(right) {
         return Some(KernReturn::InvalidValue);
@@ -68,7 +74,9 @@ pub fn refusal_of_allocate(state: &IpcState, space: u32, right: u32) -> Option<K
 /// The code with which a right is refused for lack of room: the space uses all the names that it may, or no further
 /// port can be made.
 fn refusal_for_want(state: &IpcState, space: u32, right: u32) -> Option<KernReturn>
-    ensures { result ≡ first_failing ((names_are_used_up (names_in state.now.current space), KernReturn.NoSpace) ∷ (is_right right Right.Receive && ports_are_used_up state.now.current, KernReturn.ResourceShortage) ∷ []) }
+    ensures { result ≡ first_failing
+        ((names_are_used_up (names_in state.now.current space), KernReturn.NoSpace) ∷
+        (is_right right Right.Receive && ports_are_used_up state.now.current, KernReturn.ResourceShortage) ∷ []) }
 {
     if state.name_count(space) >= MAX_NAMES {
         return Some(KernReturn::NoSpace);
@@ -90,7 +98,9 @@ pub fn allocate_name(
 ) -> Result<Reply, AllocError>
     requires there { IsSome (map.get state.old.current.spaces space) }
     requires fresh { map.get state.old.current.ports state.old.current.next ≡ None }
-    ensures acts { IfOk result (λ reply. ActsIn state.old.current space (names_in state.old.current space) (call.AllocateName right name) reply state.new.current []) }
+    ensures acts { IfOk result
+        (λ reply. ActsIn state.old.current space (names_in state.old.current space)
+        (call.AllocateName right name) reply state.new.current []) }
     ensures before { state.new.before ≡ state.old.before }
 {
     let number = MACH_PORT_ALLOCATE_NAME;
@@ -104,7 +114,8 @@ pub fn allocate_name(
 /// The code with which an allocation under a chosen name is refused, if it is.
 #[tactic(auto, unfolding(ipc_model::specs::calls::PortCalls::tests_of))]
 fn refusal_of_name(state: &IpcState, space: u32, right: u32, name: u32) -> Option<KernReturn>
-    ensures { result ≡ first_failing (tests_of state.now.current space (names_in state.now.current space) (call.AllocateName right name)) }
+    ensures { result ≡ first_failing
+        (tests_of state.now.current space (names_in state.now.current space) (call.AllocateName right name)) }
 {
     if is_null_or_dead(name) {
         return Some(KernReturn::InvalidValue);
@@ -122,9 +133,12 @@ fn refusal_of_name(state: &IpcState, space: u32, right: u32, name: u32) -> Optio
 pub fn add_right(state: &mut IpcState, space: u32, right: u32, name: u32) -> Result<(), AllocError>
     requires there { IsSome (map.get state.old.current.spaces space) }
     requires fresh { map.get state.old.current.ports state.old.current.next ≡ None }
-    requires room { first_failing ((names_are_used_up (names_in state.old.current space), KernReturn.NoSpace) ∷ (is_right right Right.Receive && ports_are_used_up state.old.current, KernReturn.ResourceShortage) ∷ []) ≡ None }
+    requires room { first_failing ((names_are_used_up (names_in state.old.current space), KernReturn.NoSpace) ∷
+        (is_right right Right.Receive && ports_are_used_up state.old.current, KernReturn.ResourceShortage) ∷ [])
+        ≡ None }
     requires unused { map.get (names_in state.old.current space) name ≡ None }
-    ensures ok { OnOk result (state.new.current ≡ allocated state.old.current space (names_in state.old.current space) right name) }
+    ensures ok { OnOk result (state.new.current
+        ≡ allocated state.old.current space (names_in state.old.current space) right name) }
     ensures before { state.new.before ≡ state.old.before }
 {
     let entry = allocated_entry(state.next_serial(), right);

@@ -35,7 +35,9 @@ pub fn mod_refs(
     effects: &mut Effects,
 ) -> Result<Reply, AllocError>
     requires none { effects.old ≡ [] }
-    ensures acts { IfOk result (λ reply. ActsIn state.old.current space (names_in state.old.current space) (call.ModRefs name right delta) reply state.new.current effects.new) }
+    ensures acts { IfOk result
+        (λ reply. ActsIn state.old.current space (names_in state.old.current space)
+        (call.ModRefs name right delta) reply state.new.current effects.new) }
     ensures before { state.new.before ≡ state.old.before }
 {
     let Some(wanted) = Right::from_number(right) else {
@@ -77,7 +79,9 @@ fn mod_send(
     requires a_name { is_no_name (names_in state.old.current space) name ≡ false }
     requires found { map.get (names_in state.old.current space) name ≡ Some (Entry.Port rights) }
     requires at { entry_at state.old.current space name ≡ Some (Entry.Port rights) }
-    ensures acts { IfOk result (λ reply. ActsIn state.old.current space (names_in state.old.current space) (call.ModRefs name (number_of Right.Send) delta) reply state.new.current effects.new) }
+    ensures acts { IfOk result
+        (λ reply. ActsIn state.old.current space (names_in state.old.current space)
+        (call.ModRefs name (number_of Right.Send) delta) reply state.new.current effects.new) }
     ensures before { state.new.before ≡ state.old.before }
 {
     if rights.send == 0 {
@@ -110,7 +114,9 @@ fn mod_receive(
     requires found { map.get (names_in state.old.current space) name ≡ Some (Entry.Port rights) }
     requires at { entry_at state.old.current space name ≡ Some (Entry.Port rights) }
     requires few { AreFewReferences (Entry.Port rights) }
-    ensures acts { IfOk result (λ reply. ActsIn state.old.current space (names_in state.old.current space) (call.ModRefs name (number_of Right.Receive) delta) reply state.new.current effects.new) }
+    ensures acts { IfOk result
+        (λ reply. ActsIn state.old.current space (names_in state.old.current space)
+        (call.ModRefs name (number_of Right.Receive) delta) reply state.new.current effects.new) }
     ensures before { state.new.before ≡ state.old.before }
 {
     if !rights.receive {
@@ -136,8 +142,11 @@ fn receive_gone(
 ) -> Result<(), AllocError>
     requires at { entry_at state.old.current space name ≡ Some (Entry.Port rights) }
     requires few { AreFewReferences (Entry.Port rights) }
-    ensures state { OnOk result (state.new.current ≡ with_left state.old.current space name (Entry.Port (record rights { receive = false }))) }
-    ensures effects { OnOk result (effects.new ≡ effects.old ++ (release RightKind.Receive rights.port ∷ notices_of_left name (Entry.Port (record rights { receive = false })))) }
+    ensures state { OnOk result (state.new.current
+        ≡ with_left state.old.current space name (Entry.Port (record rights { receive = false }))) }
+    ensures effects { OnOk result (effects.new ≡ effects.old
+        ++ (release RightKind.Receive rights.port ∷ notices_of_left name
+        (Entry.Port (record rights { receive = false })))) }
     ensures before { state.new.before ≡ state.old.before }
 {
     let left = Entry::Port(PortRights {
@@ -162,7 +171,9 @@ fn mod_send_once(
     requires none { effects.old ≡ [] }
     requires a_name { is_no_name (names_in state.old.current space) name ≡ false }
     requires found { map.get (names_in state.old.current space) name ≡ Some (Entry.SendOnce port request) }
-    ensures acts { IfOk result (λ reply. ActsIn state.old.current space (names_in state.old.current space) (call.ModRefs name (number_of Right.SendOnce) delta) reply state.new.current effects.new) }
+    ensures acts { IfOk result
+        (λ reply. ActsIn state.old.current space (names_in state.old.current space)
+        (call.ModRefs name (number_of Right.SendOnce) delta) reply state.new.current effects.new) }
     ensures before { state.new.before ≡ state.old.before }
 {
     if delta == MINUS_ONE {
@@ -188,7 +199,9 @@ fn mod_dead(
     requires a_name { is_no_name (names_in state.old.current space) name ≡ false }
     requires found { map.get (names_in state.old.current space) name ≡ Some (Entry.Dead references) }
     requires at { entry_at state.old.current space name ≡ Some (Entry.Dead references) }
-    ensures acts { IfOk result (λ reply. ActsIn state.old.current space (names_in state.old.current space) (call.ModRefs name (number_of Right.DeadName) delta) reply state.new.current effects.new) }
+    ensures acts { IfOk result
+        (λ reply. ActsIn state.old.current space (names_in state.old.current space)
+        (call.ModRefs name (number_of Right.DeadName) delta) reply state.new.current effects.new) }
     ensures before { state.new.before ≡ state.old.before }
 {
     if references == 0 {
@@ -228,7 +241,9 @@ fn mod_set(
     requires a_name { is_no_name (names_in state.old.current space) name ≡ false }
     requires found { map.get (names_in state.old.current space) name ≡ Some Entry.Set }
     requires at { entry_at state.old.current space name ≡ Some Entry.Set }
-    ensures acts { IfOk result (λ reply. ActsIn state.old.current space (names_in state.old.current space) (call.ModRefs name (number_of Right.PortSet) delta) reply state.new.current effects.new) }
+    ensures acts { IfOk result
+        (λ reply. ActsIn state.old.current space (names_in state.old.current space)
+        (call.ModRefs name (number_of Right.PortSet) delta) reply state.new.current effects.new) }
     ensures before { state.new.before ≡ state.old.before }
 {
     let _none = &effects;

@@ -20,7 +20,9 @@ pub fn move_member(
     member: u32,
     after: u32,
 ) -> Result<Reply, AllocError>
-    ensures acts { IfOk result (λ reply. ActsIn state.old.current space (names_in state.old.current space) (call.MoveMember member after) reply state.new.current []) }
+    ensures acts { IfOk result
+        (λ reply. ActsIn state.old.current space (names_in state.old.current space)
+        (call.MoveMember member after) reply state.new.current []) }
     ensures before { state.new.before ≡ state.old.before }
 {
     let number = MACH_PORT_MOVE_MEMBER;

@@ -10,7 +10,8 @@ use rights::IpcState;
 
 /// What a name stands for, unless it is `MACH_PORT_NULL` or `MACH_PORT_DEAD`, or isn't in use.
 pub fn named(state: &IpcState, space: u32, name: u32) -> Option<Entry>
-    ensures found { IfSome result (λ entry. (is_no_name (names_in state.now.current space) name ≡ false) × (map.get (names_in state.now.current space) name ≡ Some entry)) }
+    ensures found { IfSome result (λ entry. (is_no_name (names_in state.now.current space) name ≡ false)
+        × (map.get (names_in state.now.current space) name ≡ Some entry)) }
     ensures at { IfSome result (λ entry. entry_at state.now.current space name ≡ Some entry) }
     ensures none { IfNone result (is_no_name (names_in state.now.current space) name ≡ true) }
     ensures few { IfSome result AreFewReferences }

@@ -22,7 +22,9 @@ pub fn set_qlimit(
     name: u32,
     limit: u32,
 ) -> Result<Reply, AllocError>
-    ensures acts { IfOk result (λ reply. ActsIn state.old.current space (names_in state.old.current space) (call.SetQlimit name limit) reply state.new.current []) }
+    ensures acts { IfOk result
+        (λ reply. ActsIn state.old.current space (names_in state.old.current space)
+        (call.SetQlimit name limit) reply state.new.current []) }
     ensures before { state.new.before ≡ state.old.before }
 {
     let number = MACH_PORT_SET_QLIMIT;
@@ -50,7 +52,9 @@ pub fn set_mscount(
     name: u32,
     count: u32,
 ) -> Result<Reply, AllocError>
-    ensures acts { IfOk result (λ reply. ActsIn state.old.current space (names_in state.old.current space) (call.SetMscount name count) reply state.new.current []) }
+    ensures acts { IfOk result
+        (λ reply. ActsIn state.old.current space (names_in state.old.current space)
+        (call.SetMscount name count) reply state.new.current []) }
     ensures before { state.new.before ≡ state.old.before }
 {
     let number = MACH_PORT_SET_MSCOUNT;
@@ -82,7 +86,9 @@ pub fn set_seqno(
     name: u32,
     seqno: u32,
 ) -> Result<Reply, AllocError>
-    ensures acts { IfOk result (λ reply. ActsIn state.old.current space (names_in state.old.current space) (call.SetSeqno name seqno) reply state.new.current []) }
+    ensures acts { IfOk result
+        (λ reply. ActsIn state.old.current space (names_in state.old.current space)
+        (call.SetSeqno name seqno) reply state.new.current []) }
     ensures before { state.new.before ≡ state.old.before }
 {
     let number = MACH_PORT_SET_SEQNO;

@@ -22,7 +22,8 @@ use std::alloc::{AllocError, Global};
 /// `mach_port_type`: the type bits of a name.
 #[tactic(auto, unfolding(ipc_model::specs::calls::PortCalls::tests_of, ipc_model::specs::calls::Actions::Done))]
 pub fn port_type(state: &IpcState, space: u32, name: u32) -> Reply
-    ensures { ActsIn state.now.current space (names_in state.now.current space) (call.Type name) result state.now.current [] }
+    ensures { ActsIn state.now.current space (names_in state.now.current space)
+        (call.Type name) result state.now.current [] }
 {
     match named(state, space, name) {
         Some(entry) => Reply::Type {
@@ -35,7 +36,8 @@ pub fn port_type(state: &IpcState, space: u32, name: u32) -> Reply
 /// `mach_port_get_refs`: the user references of a right under a name.
 #[tactic(auto, unfolding(ipc_model::specs::calls::PortCalls::tests_of, ipc_model::specs::calls::Actions::Done))]
 pub fn get_refs(state: &IpcState, space: u32, name: u32, right: u32) -> Reply
-    ensures { ActsIn state.now.current space (names_in state.now.current space) (call.GetRefs name right) result state.now.current [] }
+    ensures { ActsIn state.now.current space (names_in state.now.current space)
+        (call.GetRefs name right) result state.now.current [] }
 {
     let number = MACH_PORT_GET_REFS;
     let Some(wanted) = Right::from_number(right) else {
@@ -52,7 +54,8 @@ pub fn get_refs(state: &IpcState, space: u32, name: u32, right: u32) -> Reply
 /// `mach_port_names`: the names in use, in ascending order, with their type bits.
 #[tactic(auto, unfolding(ipc_model::specs::calls::PortCalls::tests_of, ipc_model::specs::calls::Actions::Done))]
 pub fn names(alloc: Global, state: &IpcState, space: u32) -> Result<Reply, AllocError>
-    ensures { IfOk result (λ reply. ActsIn state.now.current space (names_in state.now.current space) call.Names reply state.now.current []) }
+    ensures { IfOk result (λ reply. ActsIn state.now.current space
+        (names_in state.now.current space) call.Names reply state.now.current []) }
 {
     let names = named_types(alloc, state, space)?;
     Ok(Reply::Names {
@@ -61,7 +64,8 @@ pub fn names(alloc: Global, state: &IpcState, space: u32) -> Result<Reply, Alloc
 }
 
 fn named_types(alloc: Global, state: &IpcState, space: u32) -> Result<Vec<NamedType>, AllocError>
-    ensures { IfOk result (λ names. names.items ≡ map (λ e. record { name = e.0; bits = type_of e.1 }) (finmap.entries (names_in state.now.current space))) }
+    ensures { IfOk result (λ names. names.items ≡ map
+        (λ e. record { name = e.0; bits = type_of e.1 }) (finmap.entries (names_in state.now.current space))) }
 {
     let mut types = Vec::new(alloc);
     let entries = state.entries(alloc, space)?;
@@ -77,7 +81,8 @@ fn named_types(alloc: Global, state: &IpcState, space: u32) -> Result<Vec<NamedT
 /// `mach_port_get_receive_status`: the numbers of a port, and whether there are rights and requests.
 #[tactic(auto, unfolding(ipc_model::specs::calls::PortCalls::tests_of, ipc_model::specs::calls::Actions::Done))]
 pub fn receive_status(state: &IpcState, space: u32, name: u32) -> Reply
-    ensures { ActsIn state.now.current space (names_in state.now.current space) (call.GetReceiveStatus name) result state.now.current [] }
+    ensures { ActsIn state.now.current space (names_in state.now.current space)
+        (call.GetReceiveStatus name) result state.now.current [] }
 {
     let number = MACH_PORT_GET_RECEIVE_STATUS;
     let Some(entry) = named(state, space, name) else {
@@ -125,7 +130,8 @@ pub fn get_set_status(
     space: u32,
     name: u32,
 ) -> Result<Reply, AllocError>
-    ensures { IfOk result (λ reply. ActsIn state.now.current space (names_in state.now.current space) (call.GetSetStatus name) reply state.now.current []) }
+    ensures { IfOk result (λ reply. ActsIn state.now.current space (names_in state.now.current space)
+        (call.GetSetStatus name) reply state.now.current []) }
 {
     let number = MACH_PORT_GET_SET_STATUS;
     match named(state, space, name) {

@@ -25,7 +25,9 @@ pub fn deallocate(
     effects: &mut Effects,
 ) -> Result<Reply, AllocError>
     requires none { effects.old ≡ [] }
-    ensures acts { IfOk result (λ reply. ActsIn state.old.current space (names_in state.old.current space) (call.Deallocate name) reply state.new.current effects.new) }
+    ensures acts { IfOk result
+        (λ reply. ActsIn state.old.current space (names_in state.old.current space)
+        (call.Deallocate name) reply state.new.current effects.new) }
     ensures before { state.new.before ≡ state.old.before }
 {
     let number = MACH_PORT_DEALLOCATE;
@@ -83,8 +85,11 @@ pub fn send_left(
 ) -> Result<(), AllocError>
     requires named { IsSome (entry_at state.old.current space name) }
     requires few { left ≤ MAX_SEND_REFERENCES }
-    ensures state { OnOk result (state.new.current ≡ with_left state.old.current space name (Entry.Port (record rights { send = left }))) }
-    ensures effects { OnOk result (effects.new ≡ effects.old ++ (release_if (left == 0) (release RightKind.Send rights.port) ++ notices_of_left name (Entry.Port (record rights { send = left })))) }
+    ensures state { OnOk result (state.new.current
+        ≡ with_left state.old.current space name (Entry.Port (record rights { send = left }))) }
+    ensures effects { OnOk result (effects.new ≡ effects.old
+        ++ (release_if (left == 0) (release RightKind.Send rights.port)
+        ++ notices_of_left name (Entry.Port (record rights { send = left })))) }
     ensures before { state.new.before ≡ state.old.before }
 {
     let entry = Entry::Port(PortRights {
@@ -115,7 +120,8 @@ pub fn send_once_gone(
     effects: &mut Effects,
 ) -> Result<(), AllocError>
     ensures state { OnOk result (state.new.current ≡ without_name state.old.current space name) }
-    ensures effects { OnOk result (effects.new ≡ effects.old ++ (release RightKind.SendOnce port ∷ port_deleted name request)) }
+    ensures effects { OnOk result (effects.new ≡ effects.old
+        ++ (release RightKind.SendOnce port ∷ port_deleted name request)) }
     ensures before { state.new.before ≡ state.old.before }
 {
     release(effects, RightKind::SendOnce, port)?;

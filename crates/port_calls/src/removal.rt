@@ -24,7 +24,9 @@ pub fn destroy(
     effects: &mut Effects,
 ) -> Result<Reply, AllocError>
     requires none { effects.old ≡ [] }
-    ensures acts { IfOk result (λ reply. ActsIn state.old.current space (names_in state.old.current space) (call.Destroy name) reply state.new.current effects.new) }
+    ensures acts { IfOk result
+        (λ reply. ActsIn state.old.current space (names_in state.old.current space)
+        (call.Destroy name) reply state.new.current effects.new) }
     ensures before { state.new.before ≡ state.old.before }
 {
     let number = MACH_PORT_DESTROY;
@@ -46,7 +48,8 @@ pub fn move_members(
     other: Option<u32>,
     entry: Entry,
 ) -> Result<(), AllocError>
-    ensures moved { OnOk result (state.new.current ≡ members_moved state.old.current (names_in state.old.current space) name other entry) }
+    ensures moved { OnOk result (state.new.current
+        ≡ members_moved state.old.current (names_in state.old.current space) name other entry) }
     ensures spaces { OnOk result (state.new.current.spaces ≡ state.old.current.spaces) }
     ensures before { state.new.before ≡ state.old.before }
 {

@@ -25,7 +25,9 @@ pub fn rename(
     to: u32,
 ) -> Result<Reply, AllocError>
     requires there { IsSome (map.get state.old.current.spaces space) }
-    ensures acts { IfOk result (λ reply. ActsIn state.old.current space (names_in state.old.current space) (call.Rename from to) reply state.new.current []) }
+    ensures acts { IfOk result
+        (λ reply. ActsIn state.old.current space (names_in state.old.current space)
+        (call.Rename from to) reply state.new.current []) }
     ensures before { state.new.before ≡ state.old.before }
 {
     let number = MACH_PORT_RENAME;
@@ -56,7 +58,8 @@ fn move_entry(
     requires there { IsSome (map.get state.old.current.spaces space) }
     requires named { map.get (names_in state.old.current space) from ≡ Some entry }
     requires unused { entry_at state.old.current space to ≡ None }
-    ensures ok { OnOk result (state.new.current ≡ renamed state.old.current space (names_in state.old.current space) from to entry) }
+    ensures ok { OnOk result (state.new.current
+        ≡ renamed state.old.current space (names_in state.old.current space) from to entry) }
     ensures before { state.new.before ≡ state.old.before }
 {
     let Entry::Set = entry else {

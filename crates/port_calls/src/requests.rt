@@ -52,9 +52,15 @@ pub fn request_notification(
     effects: &mut Effects,
 ) -> Result<Reply, AllocError>
     requires none { effects.old ≡ [] }
-    ensures tries { IfOk result (λ reply. Tries state.old.current space (call.RequestNotification asked.name asked.variant asked.sync asked.notify asked.disposition) reply state.new.current effects.new) }
-    ensures wanted { IfOk result (λ reply. (shown : ℕ) → wanted ≡ Some shown → (new : State) → (effects : List machine.Effect)
-        → ActsIn state.old.current space (names_in state.old.current space) (call.RequestNotification asked.name asked.variant asked.sync asked.notify asked.disposition) (Reply.PreviousTarget shown) new effects → reply ≡ Reply.PreviousTarget shown) }
+    ensures tries { IfOk result
+        (λ reply. Tries state.old.current space
+        (call.RequestNotification asked.name asked.variant asked.sync asked.notify asked.disposition) reply
+        state.new.current effects.new) }
+    ensures wanted { IfOk result (λ reply. (shown : ℕ) → wanted ≡ Some shown → (new : State)
+        → (effects : List machine.Effect)
+        → ActsIn state.old.current space (names_in state.old.current space)
+        (call.RequestNotification asked.name asked.variant asked.sync asked.notify asked.disposition)
+        (Reply.PreviousTarget shown) new effects → reply ≡ Reply.PreviousTarget shown) }
     ensures before { state.new.before ≡ state.old.before }
 {
     match take_target(state, space, asked, effects)? {
@@ -76,10 +82,19 @@ fn take_target(
     effects: &mut Effects,
 ) -> Result<Result<Option<u64>, KernReturn>, AllocError>
     requires none { effects.old ≡ [] }
-    ensures refused { IfOk result (λ outcome. IfErr outcome (λ code. first_failing (tests_of state.old.current space (names_in state.old.current space) (call.RequestNotification asked.name asked.variant asked.sync asked.notify asked.disposition)) ≡ Some code)) }
-    ensures passed { IfOk result (λ outcome. IfOk outcome (λ target. first_failing (tests_of state.old.current space (names_in state.old.current space) (call.RequestNotification asked.name asked.variant asked.sync asked.notify asked.disposition)) ≡ None)) }
-    ensures taken { IfOk result (λ outcome. IfOk outcome (λ target. target_for state.old.current space asked.notify asked.disposition ≡ record { target = target; state = state.new.current; notices = effects.new })) }
-    ensures allowed { IfOk result (λ outcome. IfOk outcome (λ target. first_failing (tests_of_request state.new.current space asked.name asked.variant asked.sync (is_none target)) ≡ None)) }
+    ensures refused { IfOk result (λ outcome. IfErr outcome
+        (λ code. first_failing (tests_of state.old.current space (names_in state.old.current space)
+        (call.RequestNotification asked.name asked.variant asked.sync asked.notify asked.disposition))
+        ≡ Some code)) }
+    ensures passed { IfOk result (λ outcome. IfOk outcome
+        (λ target. first_failing (tests_of state.old.current space (names_in state.old.current space)
+        (call.RequestNotification asked.name asked.variant asked.sync asked.notify asked.disposition)) ≡ None)) }
+    ensures taken { IfOk result (λ outcome. IfOk outcome
+        (λ target. target_for state.old.current space asked.notify asked.disposition
+        ≡ record { target = target; state = state.new.current; notices = effects.new })) }
+    ensures allowed { IfOk result (λ outcome. IfOk outcome
+        (λ target. first_failing (tests_of_request state.new.current space asked.name asked.variant asked.sync
+        (is_none target)) ≡ None)) }
     ensures before { state.new.before ≡ state.old.before }
 {
     if !is_variant(asked.variant) {
@@ -133,7 +148,8 @@ fn refusal_of_request(
     asked: NoticeRequest,
     cancels: bool,
 ) -> Option<KernReturn>
-    ensures { result ≡ first_failing (tests_of_request state.now.current space asked.name asked.variant asked.sync cancels) }
+    ensures { result ≡ first_failing
+        (tests_of_request state.now.current space asked.name asked.variant asked.sync cancels) }
 {
     let Some(entry) = named(state, space, asked.name) else {
         return Some(KernReturn::InvalidName);
@@ -159,7 +175,8 @@ fn refusal_of_variant(
     cancels: bool,
 ) -> Option<KernReturn>
     requires named { map.get (names_in state.now.current space) asked.name ≡ Some entry }
-    ensures { result ≡ first_failing (tests_of_variant (names_in state.now.current space) asked.name asked.variant asked.sync cancels) }
+    ensures { result ≡ first_failing
+        (tests_of_variant (names_in state.now.current space) asked.name asked.variant asked.sync cancels) }
 {
     if asked.variant == MACH_NOTIFY_PORT_DESTROYED {
         if asked.sync != 0 {
@@ -222,11 +239,18 @@ fn replace_target(
     wanted: Option<u32>,
     effects: &mut Effects,
 ) -> Result<u32, AllocError>
-    requires allowed { first_failing (tests_of_request state.old.current space asked.name asked.variant asked.sync (is_none target)) ≡ None }
-    ensures given { IfOk result (λ given. GivesBack (request_set_under state.old.current space asked.name asked.variant asked.sync target).0 space (target_under state.old.current (names_in state.old.current space) asked.variant asked.name) given state.new.current) }
-    ensures effects { OnOk result (effects.new ≡ effects.old ++ (request_set_under state.old.current space asked.name asked.variant asked.sync target).1) }
+    requires allowed { first_failing
+        (tests_of_request state.old.current space asked.name asked.variant asked.sync (is_none target)) ≡ None }
+    ensures given { IfOk result
+        (λ given. GivesBack (request_set_under state.old.current space asked.name asked.variant asked.sync target).0
+        space (target_under state.old.current (names_in state.old.current space) asked.variant asked.name) given
+        state.new.current) }
+    ensures effects { OnOk result (effects.new ≡ effects.old
+        ++ (request_set_under state.old.current space asked.name asked.variant asked.sync target).1) }
     ensures wanted { IfOk result (λ given. (shown : ℕ) → wanted ≡ Some shown → (new : State)
-        → GivesBack (request_set_under state.old.current space asked.name asked.variant asked.sync target).0 space (target_under state.old.current (names_in state.old.current space) asked.variant asked.name) shown new → given ≡ shown) }
+        → GivesBack (request_set_under state.old.current space asked.name asked.variant asked.sync target).0 space
+        (target_under state.old.current (names_in state.old.current space) asked.variant asked.name) shown new
+        → given ≡ shown) }
     ensures before { state.new.before ≡ state.old.before }
 {
     let former = target_under(state, space, asked.name, asked.variant);
@@ -243,9 +267,12 @@ fn set_request(
     target: Option<u64>,
     effects: &mut Effects,
 ) -> Result<(), AllocError>
-    requires allowed { first_failing (tests_of_request state.old.current space asked.name asked.variant asked.sync (is_none target)) ≡ None }
-    ensures state { OnOk result (state.new.current ≡ (request_set_under state.old.current space asked.name asked.variant asked.sync target).0) }
-    ensures effects { OnOk result (effects.new ≡ effects.old ++ (request_set_under state.old.current space asked.name asked.variant asked.sync target).1) }
+    requires allowed { first_failing
+        (tests_of_request state.old.current space asked.name asked.variant asked.sync (is_none target)) ≡ None }
+    ensures state { OnOk result (state.new.current
+        ≡ (request_set_under state.old.current space asked.name asked.variant asked.sync target).0) }
+    ensures effects { OnOk result (effects.new ≡ effects.old
+        ++ (request_set_under state.old.current space asked.name asked.variant asked.sync target).1) }
     ensures before { state.new.before ≡ state.old.before }
 {
     let Some(entry) = state.entry(space, asked.name) else {
@@ -275,8 +302,10 @@ fn set_dead_name_request(
     requires named { entry_at state.old.current space name ≡ Some entry }
     requires few { AreFewReferences entry }
     requires one_more { dead_references entry < MAX_DEAD_REFERENCES }
-    ensures state { OnOk result (state.new.current ≡ (dead_name_request_set state.old.current space name target entry).0) }
-    ensures effects { OnOk result (effects.new ≡ effects.old ++ (dead_name_request_set state.old.current space name target entry).1) }
+    ensures state { OnOk result (state.new.current
+        ≡ (dead_name_request_set state.old.current space name target entry).0) }
+    ensures effects { OnOk result (effects.new ≡ effects.old
+        ++ (dead_name_request_set state.old.current space name target entry).1) }
     ensures before { state.new.before ≡ state.old.before }
 {
     match entry {
@@ -310,7 +339,8 @@ fn set_port_request(
     effects: &mut Effects,
 ) -> Result<(), AllocError>
     ensures state { OnOk result (state.new.current ≡ (port_request_set state.old.current variant sync port target).0) }
-    ensures effects { OnOk result (effects.new ≡ effects.old ++ (port_request_set state.old.current variant sync port target).1) }
+    ensures effects { OnOk result (effects.new ≡ effects.old
+        ++ (port_request_set state.old.current variant sync port target).1) }
     ensures before { state.new.before ≡ state.old.before }
 {
     if variant == MACH_NOTIFY_PORT_DESTROYED {
@@ -366,7 +396,8 @@ fn give_back(
 ) -> Result<u32, AllocError>
     requires room { IsSome former → map.len (names_in state.old.current space) < MAX_NAMES }
     ensures given { IfOk result (λ given. GivesBack state.old.current space former given state.new.current) }
-    ensures wanted { IfOk result (λ given. (shown : ℕ) → wanted ≡ Some shown → (new : State) → GivesBack state.old.current space former shown new → given ≡ shown) }
+    ensures wanted { IfOk result (λ given. (shown : ℕ) → wanted ≡ Some shown → (new : State)
+        → GivesBack state.old.current space former shown new → given ≡ shown) }
     ensures before { state.new.before ≡ state.old.before }
 {
     let Some(port) = former else {

@@ -35,7 +35,9 @@ pub fn insert_right(
 ) -> Result<Reply, AllocError>
     requires none { effects.old ≡ [] }
     requires there { IsSome (map.get state.old.current.spaces space) }
-    ensures tries { IfOk result (λ reply. Tries state.old.current space (call.InsertRight name right_name disposition) reply state.new.current effects.new) }
+    ensures tries { IfOk result
+        (λ reply. Tries state.old.current space
+        (call.InsertRight name right_name disposition) reply state.new.current effects.new) }
     ensures before { state.new.before ≡ state.old.before }
 {
     let number = MACH_PORT_INSERT_RIGHT;
@@ -69,7 +71,9 @@ fn take_given(
 ) -> Result<Option<CarriedRight>, AllocError>
     requires none { effects.old ≡ [] }
     requires there { IsSome (map.get state.old.current.spaces space) }
-    ensures taken { IfOk result (λ taken. IfSome taken (λ right. copy_in state.old.current space name disposition ≡ Some (record { right = right; state = state.new.current; notices = effects.new }))) }
+    ensures taken { IfOk result (λ taken. IfSome taken
+        (λ right. copy_in state.old.current space name disposition
+        ≡ Some (record { right = right; state = state.new.current; notices = effects.new }))) }
     ensures refused { IfOk result (λ taken. IfNone taken (copy_in state.old.current space name disposition ≡ None)) }
     ensures there { IfOk result (λ taken. IfSome taken (λ right. IsSome (map.get state.new.current.spaces space))) }
     ensures before { state.new.before ≡ state.old.before }
@@ -89,8 +93,11 @@ fn put_given(
     name: u32,
 ) -> Result<(), AllocError>
     requires there { IsSome (map.get state.old.current.spaces space) }
-    requires room { map.get (names_in state.old.current space) name ≡ None → map.len (names_in state.old.current space) < MAX_NAMES }
-    ensures ok { OnOk result (state.new.current ≡ with_names state.old.current space (names_after (names_in state.old.current space) right.kind right.port name)) }
+    requires room { map.get (names_in state.old.current space) name ≡ None
+        → map.len (names_in state.old.current space) < MAX_NAMES }
+    ensures ok { OnOk result (state.new.current
+        ≡ with_names state.old.current space
+        (names_after (names_in state.old.current space) right.kind right.port name)) }
     ensures before { state.new.before ≡ state.old.before }
 {
     put_right(state, space, right, name)
@@ -104,11 +111,16 @@ fn refusal_of_insert(
     kind: RightKind,
     port: u64,
 ) -> Option<KernReturn>
-    ensures refusal { result ≡ first_failing ((not (is_send_once_kind kind) && stands_elsewhere (names_in state.now.current space) name port, KernReturn.RightExists)
+    ensures refusal { result ≡ first_failing
+        ((
+          not (is_send_once_kind kind) && stands_elsewhere (names_in state.now.current space) name port,
+          KernReturn.RightExists,
+        )
         ∷ (is_taken_otherwise kind port (map.get (names_in state.now.current space) name), KernReturn.NameExists)
         ∷ (passes_bound kind (map.get (names_in state.now.current space) name), KernReturn.UrefsOverflow)
         ∷ (not (is_in_use (names_in state.now.current space) name) && names_are_used_up (names_in state.now.current space), KernReturn.NoSpace) ∷ []) }
-    ensures room { IfNone result (map.get (names_in state.now.current space) name ≡ None → map.len (names_in state.now.current space) < MAX_NAMES) }
+    ensures room { IfNone result (map.get (names_in state.now.current space) name ≡ None
+        → map.len (names_in state.now.current space) < MAX_NAMES) }
 {
     if kind != RightKind::SendOnce && state.stands_elsewhere(space, name, port) {
         return Some(KernReturn::RightExists);
@@ -164,9 +176,13 @@ pub fn extract_right(
 ) -> Result<Reply, AllocError>
     requires none { effects.old ≡ [] }
     requires there { IsSome (map.get state.old.current.spaces space) }
-    ensures acts { IfOk result (λ reply. Tries state.old.current space (call.ExtractRight name disposition) reply state.new.current effects.new) }
-    ensures wanted { IfOk result (λ reply. (shown : ℕ) → wanted ≡ Some shown → (kind : RightKind) → (new : State) → (effects : List Effect)
-        → ActsIn state.old.current space (names_in state.old.current space) (call.ExtractRight name disposition) (Reply.Extracted shown kind) new effects → reply ≡ Reply.Extracted shown kind) }
+    ensures acts { IfOk result
+        (λ reply. Tries state.old.current space
+        (call.ExtractRight name disposition) reply state.new.current effects.new) }
+    ensures wanted { IfOk result (λ reply. (shown : ℕ) → wanted ≡ Some shown → (kind : RightKind) → (new : State)
+        → (effects : List Effect)
+        → ActsIn state.old.current space (names_in state.old.current space) (call.ExtractRight name disposition)
+        (Reply.Extracted shown kind) new effects → reply ≡ Reply.Extracted shown kind) }
     ensures before { state.new.before ≡ state.old.before }
 {
     let right = match take_extracted(state, space, name, disposition, effects)? {
@@ -192,12 +208,20 @@ fn take_extracted(
 ) -> Result<Result<CarriedRight, KernReturn>, AllocError>
     requires none { effects.old ≡ [] }
     requires there { IsSome (map.get state.old.current.spaces space) }
-    ensures refused { IfOk result (λ taken. IfErr taken (λ code. first_failing (tests_of state.old.current space (names_in state.old.current space) (call.ExtractRight name disposition)) ≡ Some code)) }
-    ensures passed { IfOk result (λ taken. IfOk taken (λ right. first_failing (tests_of state.old.current space (names_in state.old.current space) (call.ExtractRight name disposition)) ≡ None)) }
-    ensures taken { IfOk result (λ taken. IfOk taken (λ right. taken_by state.old.current space name disposition ≡ Some (record { right = right; state = state.new.current; notices = effects.new }))) }
+    ensures refused { IfOk result (λ taken. IfErr taken
+        (λ code. first_failing (tests_of state.old.current space (names_in state.old.current space)
+        (call.ExtractRight name disposition)) ≡ Some code)) }
+    ensures passed { IfOk result (λ taken. IfOk taken
+        (λ right. first_failing (tests_of state.old.current space (names_in state.old.current space)
+        (call.ExtractRight name disposition)) ≡ None)) }
+    ensures taken { IfOk result (λ taken. IfOk taken
+        (λ right. taken_by state.old.current space name disposition
+        ≡ Some (record { right = right; state = state.new.current; notices = effects.new }))) }
     ensures there { IfOk result (λ taken. IfOk taken (λ right. IsSome (map.get state.new.current.spaces space))) }
-    ensures room { IfOk result (λ taken. IfOk taken (λ right. (name : ℕ) → MayArrive (names_in state.new.current space) right.kind right.port name
-        → map.get (names_in state.new.current space) name ≡ None → map.len (names_in state.new.current space) < MAX_NAMES)) }
+    ensures room { IfOk result (λ taken. IfOk taken
+        (λ right. (name : ℕ) → MayArrive (names_in state.new.current space) right.kind right.port name
+        → map.get (names_in state.new.current space) name ≡ None
+        → map.len (names_in state.new.current space) < MAX_NAMES)) }
     ensures before { state.new.before ≡ state.old.before }
 {
     let Some(disposition) = Disposition::from_number(disposition) else {

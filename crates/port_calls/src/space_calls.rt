@@ -26,7 +26,8 @@ use std::alloc::{AllocError, Global};
 /// Attaches a task to another space, which has to exist.
 #[tactic(auto, unfolding(ipc_model::specs::calls::PortCalls::tests_of, ipc_model::specs::calls::Actions::Done))]
 pub fn attach(state: &IpcState, space: u32, other: u32) -> Reply
-    ensures { ActsIn state.now.current space (names_in state.now.current space) (call.Attach other) result state.now.current [] }
+    ensures { ActsIn state.now.current space (names_in state.now.current space)
+        (call.Attach other) result state.now.current [] }
 {
     let number = ATTACH;
     if !state.has_space(other) {
@@ -49,9 +50,13 @@ pub fn space_create(
     effects: &mut Effects,
 ) -> Result<Reply, AllocError>
     requires none { effects.old ≡ [] }
-    ensures tries { IfOk result (λ reply. Tries state.old.current space (call.SpaceCreate name disposition) reply state.new.current effects.new) }
-    ensures wanted { IfOk result (λ reply. (number : ℕ) → (child : ℕ) → wanted ≡ Some (number, child) → (new : State) → (effects : List Effect)
-        → ActsIn state.old.current space (names_in state.old.current space) (call.SpaceCreate name disposition) (Reply.SpaceCreated number child) new effects → reply ≡ Reply.SpaceCreated number child) }
+    ensures tries { IfOk result
+        (λ reply. Tries state.old.current space
+        (call.SpaceCreate name disposition) reply state.new.current effects.new) }
+    ensures wanted { IfOk result (λ reply. (number : ℕ) → (child : ℕ) → wanted ≡ Some (number, child) → (new : State)
+        → (effects : List Effect)
+        → ActsIn state.old.current space (names_in state.old.current space) (call.SpaceCreate name disposition)
+        (Reply.SpaceCreated number child) new effects → reply ≡ Reply.SpaceCreated number child) }
     ensures before { state.new.before ≡ state.old.before }
 {
     match take_for_space(state, space, name, disposition, effects)? {
@@ -73,7 +78,9 @@ pub fn space_destroy(
     effects: &mut Effects,
 ) -> Result<Reply, AllocError>
     requires none { effects.old ≡ [] }
-    ensures acts { IfOk result (λ reply. ActsIn state.old.current space (names_in state.old.current space) call.SpaceDestroy reply state.new.current effects.new) }
+    ensures acts { IfOk result
+        (λ reply. ActsIn state.old.current space
+        (names_in state.old.current space) call.SpaceDestroy reply state.new.current effects.new) }
     ensures before { state.new.before ≡ state.old.before }
 {
     let number = SPACE_DESTROY;
@@ -89,7 +96,9 @@ pub fn space_destroy(
 /// The ports whose receive rights the names of a space hold leave their sets. If an allocation fails, the changes must
 /// be rolled back.
 fn leave_sets(alloc: Global, state: &mut IpcState, space: u32) -> Result<(), AllocError>
-    ensures left { OnOk result (state.new.current ≡ with_ports state.old.current (received_serials (names_in state.old.current space)) (λ port. record port { set = None })) }
+    ensures left { OnOk result (state.new.current
+        ≡ with_ports state.old.current (received_serials (names_in state.old.current space))
+        (λ port. record port { set = None })) }
     ensures spaces { OnOk result (state.new.current.spaces ≡ state.old.current.spaces) }
     ensures before { state.new.before ≡ state.old.before }
 {
@@ -106,7 +115,8 @@ fn release_names(
     space: u32,
     effects: &mut Effects,
 ) -> Result<(), AllocError>
-    ensures { OnOk result (effects.new ≡ effects.old ++ flat_map (λ e. effects_of_name e.0 e.1) (map.entries (names_in state.now.current space))) }
+    ensures { OnOk result (effects.new ≡ effects.old ++ flat_map
+        (λ e. effects_of_name e.0 e.1) (map.entries (names_in state.now.current space))) }
 {
     let entries = state.entries(alloc, space)?;
     for (name, entry) in entries.as_slice() {
@@ -125,9 +135,15 @@ fn take_for_space(
     effects: &mut Effects,
 ) -> Result<Result<CarriedRight, KernReturn>, AllocError>
     requires none { effects.old ≡ [] }
-    ensures refused { IfOk result (λ outcome. IfErr outcome (λ code. first_failing (tests_of state.old.current space (names_in state.old.current space) (call.SpaceCreate name disposition)) ≡ Some code)) }
-    ensures passed { IfOk result (λ outcome. IfOk outcome (λ right. first_failing (tests_of state.old.current space (names_in state.old.current space) (call.SpaceCreate name disposition)) ≡ None)) }
-    ensures taken { IfOk result (λ outcome. IfOk outcome (λ right. Takes (taken_by state.old.current space name disposition) state.old.current [] (Some right) state.new.current effects.new)) }
+    ensures refused { IfOk result (λ outcome. IfErr outcome
+        (λ code. first_failing (tests_of state.old.current space (names_in state.old.current space)
+        (call.SpaceCreate name disposition)) ≡ Some code)) }
+    ensures passed { IfOk result (λ outcome. IfOk outcome
+        (λ right. first_failing (tests_of state.old.current space (names_in state.old.current space)
+        (call.SpaceCreate name disposition)) ≡ None)) }
+    ensures taken { IfOk result (λ outcome. IfOk outcome
+        (λ right. Takes (taken_by state.old.current space name disposition) state.old.current []
+        (Some right) state.new.current effects.new)) }
     ensures room { IfOk result (λ outcome. IfOk outcome (λ right. map.len state.new.current.spaces < MAX_SPACES)) }
     ensures before { state.new.before ≡ state.old.before }
 {
@@ -161,8 +177,11 @@ fn add_child(
     requires room { map.len state.old.current.spaces < MAX_SPACES }
     ensures number { IfOk result (λ child. IsUnusedSpace state.old.current child.0) }
     ensures name { IfOk result (λ child. MayArrive map.empty right.kind right.port child.1) }
-    ensures state { IfOk result (λ child. state.new.current ≡ with_names state.old.current child.0 (names_after map.empty right.kind right.port child.1)) }
-    ensures wanted { IfOk result (λ child. (number : ℕ) → (name : ℕ) → wanted ≡ Some (number, name) → IsUnusedSpace state.old.current number → MayArrive map.empty right.kind right.port name → child ≡ (number, name)) }
+    ensures state { IfOk result (λ child. state.new.current
+        ≡ with_names state.old.current child.0 (names_after map.empty right.kind right.port child.1)) }
+    ensures wanted { IfOk result (λ child. (number : ℕ) → (name : ℕ) → wanted ≡ Some (number, name)
+        → IsUnusedSpace state.old.current number → MayArrive map.empty right.kind right.port name
+        → child ≡ (number, name)) }
     ensures before { state.new.before ≡ state.old.before }
 {
     let (wanted_number, wanted_name) = wanted.unzip();

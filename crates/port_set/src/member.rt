@@ -15,7 +15,8 @@ pub fn members(
     space: u32,
     set: u32,
 ) -> Result<Vec<u32>, AllocError>
-    ensures { IfOk result (λ members. members.items ≡ members_of state.now.current (names_in state.now.current space) set) }
+    ensures { IfOk result (λ members. members.items
+        ≡ members_of state.now.current (names_in state.now.current space) set) }
 {
     let mut members = Vec::new(alloc);
     let found = state.members(alloc, space, set)?;
@@ -33,7 +34,8 @@ pub fn member_ports(
     space: u32,
     set: u32,
 ) -> Result<Vec<u64>, AllocError>
-    ensures { IfOk result (λ ports. ports.items ≡ serials_of_members state.now.current (names_in state.now.current space) set) }
+    ensures { IfOk result (λ ports. ports.items
+        ≡ serials_of_members state.now.current (names_in state.now.current space) set) }
 {
     let mut ports = Vec::new(alloc);
     let found = state.members(alloc, space, set)?;

@@ -11,7 +11,8 @@ use std::alloc::AllocError;
 /// Makes the port whose receive right a name holds a member of the set of a name, or of none if the name is
 /// `MACH_PORT_NULL` (`mach_port_move_member`). If an allocation fails, the changes must be rolled back.
 pub fn move_member(state: &mut IpcState, member: Entry, after: u32) -> Result<(), AllocError>
-    ensures ok { OnOk result (state.new.current ≡ with_received state.old.current member (λ port. record port { set = set_named after })) }
+    ensures ok { OnOk result (state.new.current ≡ with_received state.old.current member
+        (λ port. record port { set = set_named after })) }
     ensures before { state.new.before ≡ state.old.before }
 {
     let Some(port) = received_port(member) else {
@@ -27,7 +28,8 @@ pub fn move_member(state: &mut IpcState, member: Entry, after: u32) -> Result<()
 
 /// Makes a port a member of this set, or of none.
 fn move_port(state: &mut IpcState, port: u64, set: Option<u32>) -> Result<(), AllocError>
-    ensures ok { OnOk result (state.new.current ≡ with_port state.old.current port (λ port. record port { set = set })) }
+    ensures ok { OnOk result (state.new.current ≡ with_port state.old.current port
+        (λ port. record port { set = set })) }
     ensures before { state.new.before ≡ state.old.before }
 {
     let Some(numbers) = state.numbers(port) else {
@@ -39,7 +41,8 @@ fn move_port(state: &mut IpcState, port: u64, set: Option<u32>) -> Result<(), Al
 /// Makes ports members of this set, or of none: a set that goes leaves its members in none, and one that is renamed
 /// takes them along. If an allocation fails, the changes must be rolled back.
 pub fn move_ports(state: &mut IpcState, ports: &[u64], set: Option<u32>) -> Result<(), AllocError>
-    ensures ok { OnOk result (state.new.current ≡ with_ports state.old.current ports.now (λ port. record port { set = set })) }
+    ensures ok { OnOk result (state.new.current ≡ with_ports state.old.current ports.now
+        (λ port. record port { set = set })) }
     ensures before { state.new.before ≡ state.old.before }
 {
     for port in ports {

@@ -13,10 +13,12 @@ same_port None (Some n) is = absurd (cc is)
 same_port (Some n) None is = absurd (cc is)
 same_port (Some m) (Some n) is = ap Some (eqb-true m n is)
 
-stayed : (numbers : Numbers) (name : ℕ) (former port : Option ℕ) → former ≡ port → with_port numbers port name ≡ with_port (without_port numbers former name) port name
+stayed : (numbers : Numbers) (name : ℕ) (former port : Option ℕ) → former ≡ port
+    → with_port numbers port name ≡ with_port (without_port numbers former name) port name
 stayed numbers name former None same = ap (λ (f : Option ℕ). without_port numbers f name) (sym same)
 stayed numbers name former (Some port) same =
-    sym (insert-remove numbers (port_key port name) tt) ∙ ap (λ (f : Option ℕ). with_port (without_port numbers f name) (Some port) name) (sym same)
+    sym (insert-remove numbers (port_key port name) tt) ∙ ap
+    (λ (f : Option ℕ). with_port (without_port numbers f name) (Some port) name) (sym same)
 
 -- something is put where it is already
 pub stands : (numbers : Numbers) (at : ℕ) → is_some (get numbers at) ≡ true → numbers ≡ insert numbers at tt
@@ -26,6 +28,8 @@ stands numbers at there = go (get numbers at) refl there
     go None is there = absurd (cc there)
     go (Some x) is there = sym (insert-same numbers at tt is)
 
-pub stays : {T E : Type 0} (r : Result T E) (old new : Numbers) (name : ℕ) (former port : Option ℕ) → option_eq nat_eq former port ≡ true → OnOk r (new ≡ with_port old port name) → OnOk r (new ≡ with_port (without_port old former name) port name)
+pub stays : {T E : Type 0} (r : Result T E) (old new : Numbers) (name : ℕ) (former port : Option ℕ)
+    → option_eq nat_eq former port ≡ true → OnOk r (new ≡ with_port old port name)
+    → OnOk r (new ≡ with_port (without_port old former name) port name)
 stays (Ok done) old new name former port same at = at ∙ stayed old name former port (same_port former port same)
 stays (Err error) old new name former port same at = tt

@@ -23,7 +23,8 @@ holds names serial name = is_number (option_and_then port_held (map.get names na
 
 -- the names by the ports that they hold send or receive rights of
 abbrev pub AreByPort : Names → Numbers → Type 0
-AreByPort names by_port = (serial name : ℕ) → name < 2 ^ 32 → has by_port (port_key serial name) ≡ holds names serial name
+AreByPort names by_port =
+    (serial name : ℕ) → name < 2 ^ 32 → has by_port (port_key serial name) ≡ holds names serial name
 
 -- Below `low`, which is unused, the unused names are the gaps.
 pub record AreFree (names : Names) (gaps : Numbers) (low : ℕ) : Type 0 where

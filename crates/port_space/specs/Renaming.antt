@@ -5,4 +5,6 @@ use Rattle.ipc_model.specs.state.State.{Names}
 
 -- the names once what stands under one name, if anything, stands under another
 abbrev pub under_other_name : Names → ℕ → ℕ → Names
-under_other_name names from to = elim (map.get names from) as (λ _. Names) [ None ↦ names | Some entry ↦ map.insert (map.remove names from) to entry ]
+under_other_name names from to =
+    elim (map.get names from) as (λ _. Names)
+    [ None ↦ names | Some entry ↦ map.insert (map.remove names from) to entry ]

@@ -21,7 +21,9 @@ pub record SameBefore (old new : Tables) : Type 0 where
 
 pub record IsPut (old new : Tables) (name : ℕ) (entry : Entry) : Type 0 where
   pub names : new.names.current ≡ map.insert old.names.current name entry
-  pub by_port : new.by_port.current ≡ with_port (without_port old.by_port.current (option_and_then port_held (map.get old.names.current name)) name) (port_held entry) name
+  pub by_port : new.by_port.current
+      ≡ with_port (without_port old.by_port.current (option_and_then port_held (map.get old.names.current name)) name)
+      (port_held entry) name
   pub gaps : new.gaps.current ≡ map.remove old.gaps.current name
   pub low : GoesOn new.names.current name old.low new.low
 
@@ -33,7 +35,8 @@ LeavesGap old new name =
 
 pub record IsRemoved (old new : Tables) (name : ℕ) : Type 0 where
   pub names : new.names.current ≡ map.remove old.names.current name
-  pub by_port : new.by_port.current ≡ without_port old.by_port.current (option_and_then port_held (map.get old.names.current name)) name
+  pub by_port : new.by_port.current
+      ≡ without_port old.by_port.current (option_and_then port_held (map.get old.names.current name)) name
   pub gaps : LeavesGap old new name
   pub low : new.low ≡ old.low
 

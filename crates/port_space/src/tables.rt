@@ -38,7 +38,8 @@ impl Tables {
     /// The least name from `from` on that holds a send or receive right of a port.
     pub(crate) fn next_name(&self, port: u64, from: u32) -> Option<u32>
         requires ports { AreByPort self.now.names.current self.now.by_port.current }
-        ensures { MatchOption result ((name : ℕ) → from ≤ name → name < 2 ^ 32 → holds self.now.names.current port name ≡ false)
+        ensures { MatchOption result ((name : ℕ) → from ≤ name → name < 2 ^ 32
+            → holds self.now.names.current port name ≡ false)
             (λ found. (from ≤ found) × (holds self.now.names.current port found ≡ true)
             × ((name : ℕ) → from ≤ name → name < found → holds self.now.names.current port name ≡ false)) }
     {
@@ -141,7 +142,8 @@ fn change_port(
     port: Option<u64>,
     name: u32,
 ) -> Result<(), AllocError>
-    ensures ok { OnOk result (by_port.new.current ≡ with_port (without_port by_port.old.current former name) port name) }
+    ensures ok { OnOk result (by_port.new.current
+        ≡ with_port (without_port by_port.old.current former name) port name) }
     ensures before { by_port.new.before ≡ by_port.old.before }
 {
     if former == port {

@@ -46,15 +46,28 @@ pub record Parts : Type 0 where
   pub destroyed : Numbers
 
 abbrev pub former_parts : PortIndexes → Parts
-former_parts i = record { counts = i.counts.before; carriers = i.carriers.before; no_senders = i.no_senders.before; destroyed = i.port_destroyed.before }
+former_parts i =
+    record {
+      counts = i.counts.before;
+      carriers = i.carriers.before;
+      no_senders = i.no_senders.before;
+      destroyed = i.port_destroyed.before;
+    }
 
 abbrev pub present_parts : PortIndexes → Parts
-present_parts i = record { counts = i.counts.current; carriers = i.carriers.current; no_senders = i.no_senders.current; destroyed = i.port_destroyed.current }
+present_parts i =
+    record {
+      counts = i.counts.current;
+      carriers = i.carriers.current;
+      no_senders = i.no_senders.current;
+      destroyed = i.port_destroyed.current;
+    }
 
 -- serials are those of 64 bits
 pub record AreSmall (table : PortTable) : Type 0 where
   pub below : (key : ℕ) → is_some (get table.ports key) ≡ true → key < table.next
-  pub mentioned : (key : ℕ) (port : PortState) → get table.ports key ≡ Some port → Fit (λ s. list_any (mentions s) port.messages)
+  pub mentioned : (key : ℕ) (port : PortState) → get table.ports key ≡ Some port
+      → Fit (λ s. list_any (mentions s) port.messages)
   pub fits : table.next < 2 ^ 64
 
 pub record AreIndexed (table : PortTable) (parts : Parts) : Type 0 where
@@ -80,10 +93,15 @@ pub record AreAtRest (new : PortIndexes) (parts : Parts) : Type 0 where
 
 -- what a port keeps was replaced
 pub record AreRetargeted (old new : PortIndexes) (serial : ℕ) (former numbers : PortNumbers) : Type 0 where
-  pub counts : new.counts.current ≡ target_more (target_fewer (target_more (target_fewer old.counts.current former.no_senders_target) numbers.no_senders_target) former.port_destroyed_target) numbers.port_destroyed_target
+  pub counts : new.counts.current
+      ≡ target_more (target_fewer (target_more
+      (target_fewer old.counts.current former.no_senders_target) numbers.no_senders_target)
+      former.port_destroyed_target) numbers.port_destroyed_target
   pub carriers : new.carriers.current ≡ old.carriers.current
-  pub no_senders : new.no_senders.current ≡ moved old.no_senders.current serial former.no_senders_target numbers.no_senders_target
-  pub destroyed : new.port_destroyed.current ≡ moved old.port_destroyed.current serial former.port_destroyed_target numbers.port_destroyed_target
+  pub no_senders : new.no_senders.current
+      ≡ moved old.no_senders.current serial former.no_senders_target numbers.no_senders_target
+  pub destroyed : new.port_destroyed.current
+      ≡ moved old.port_destroyed.current serial former.port_destroyed_target numbers.port_destroyed_target
 
 -- one more message is in a queue
 pub record AreOfMore (old new : PortIndexes) (queue : ℕ) (message : Message) : Type 0 where

@@ -1,5 +1,13 @@
 -- What the crates above use of the libraries below, so that they name only one of them.
-pub use Rattle.live_ports.specs.Changed.{changed, messages_at, messages_in, numbers_of, with_message, with_numbers, without_first}
+pub use Rattle.live_ports.specs.Changed.{
+  changed,
+  messages_at,
+  messages_in,
+  numbers_of,
+  with_message,
+  with_numbers,
+  without_first,
+}
 pub use Rattle.live_ports.specs.NextPort.{IsNextPort}
 pub use Rattle.live_ports.specs.Noted.{AreNoted}
 pub use Rattle.live_ports.specs.PortTable.{PortTable, TrackedPorts}

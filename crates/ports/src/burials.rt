@@ -17,8 +17,10 @@ pub(crate) fn subtract_queue(
     ports: &LivePorts,
     queue: u64,
 ) -> Result<(), AllocError>
-    ensures counts { OnOk result (counts.new.current ≡ messages_fewer counts.old.current queue (messages_at ports.now.current.ports queue)) }
-    ensures carriers { OnOk result (carriers.new.current ≡ queue_fewer carriers.old.current queue (messages_at ports.now.current.ports queue)) }
+    ensures counts { OnOk result (counts.new.current
+        ≡ messages_fewer counts.old.current queue (messages_at ports.now.current.ports queue)) }
+    ensures carriers { OnOk result
+        (carriers.new.current ≡ queue_fewer carriers.old.current queue (messages_at ports.now.current.ports queue)) }
     ensures before { counts.new.before ≡ counts.old.before }
     ensures carriers_before { carriers.new.before ≡ carriers.old.before }
 {
@@ -35,8 +37,11 @@ pub(crate) fn subtract_oldest(
     ports: &LivePorts,
     queue: u64,
 ) -> Result<(), AllocError>
-    ensures counts { OnOk result (counts.new.current ≡ messages_fewer counts.old.current queue (take 1 (messages_at ports.now.current.ports queue))) }
-    ensures carriers { OnOk result (carriers.new.current ≡ queue_fewer carriers.old.current queue (take 1 (messages_at ports.now.current.ports queue))) }
+    ensures counts { OnOk result (counts.new.current
+        ≡ messages_fewer counts.old.current queue (take 1 (messages_at ports.now.current.ports queue))) }
+    ensures carriers { OnOk result
+        (carriers.new.current ≡ queue_fewer carriers.old.current queue
+        (take 1 (messages_at ports.now.current.ports queue))) }
     ensures before { counts.new.before ≡ counts.old.before }
     ensures carriers_before { carriers.new.before ≡ carriers.old.before }
 {
@@ -56,8 +61,12 @@ fn subtract_message_at(
     queue: u64,
     index: u32,
 ) -> Result<(), AllocError>
-    ensures counts { OnOk result (messages_fewer counts.new.current queue (drop (index + 1) (messages_at ports.now.current.ports queue)) ≡ messages_fewer counts.old.current queue (drop index (messages_at ports.now.current.ports queue))) }
-    ensures carriers { OnOk result (queue_fewer carriers.new.current queue (drop (index + 1) (messages_at ports.now.current.ports queue)) ≡ queue_fewer carriers.old.current queue (drop index (messages_at ports.now.current.ports queue))) }
+    ensures counts { OnOk result (messages_fewer counts.new.current queue
+        (drop (index + 1) (messages_at ports.now.current.ports queue))
+        ≡ messages_fewer counts.old.current queue (drop index (messages_at ports.now.current.ports queue))) }
+    ensures carriers { OnOk result
+        (queue_fewer carriers.new.current queue (drop (index + 1) (messages_at ports.now.current.ports queue))
+        ≡ queue_fewer carriers.old.current queue (drop index (messages_at ports.now.current.ports queue))) }
     ensures before { counts.new.before ≡ counts.old.before }
     ensures carriers_before { carriers.new.before ≡ carriers.old.before }
 {
@@ -76,8 +85,11 @@ fn subtract_message(
     queue: u64,
     message: &Message,
 ) -> Result<(), AllocError>
-    ensures counts { OnOk result (counts.new.current ≡ message_fewer counts.old.current queue (seen_message (lives_in ports.now.current.ports) message.now)) }
-    ensures carriers { OnOk result (carriers.new.current ≡ carriers_fewer carriers.old.current queue (seen_message (lives_in ports.now.current.ports) message.now).rights) }
+    ensures counts { OnOk result (counts.new.current
+        ≡ message_fewer counts.old.current queue (seen_message (lives_in ports.now.current.ports) message.now)) }
+    ensures carriers { OnOk result
+        (carriers.new.current ≡ carriers_fewer carriers.old.current queue
+        (seen_message (lives_in ports.now.current.ports) message.now).rights) }
     ensures before { counts.new.before ≡ counts.old.before }
     ensures carriers_before { carriers.new.before ≡ carriers.old.before }
 {
@@ -92,7 +104,8 @@ fn subtract_reply(
     ports: &LivePorts,
     reply: Option<CarriedRight>,
 ) -> Result<(), AllocError>
-    ensures ok { OnOk result (counts.new.current ≡ reply_fewer counts.old.current (option_map (seen_right (lives_in ports.now.current.ports)) reply)) }
+    ensures ok { OnOk result (counts.new.current
+        ≡ reply_fewer counts.old.current (option_map (seen_right (lives_in ports.now.current.ports)) reply)) }
     ensures before { counts.new.before ≡ counts.old.before }
 {
     match reply {
@@ -108,8 +121,11 @@ fn subtract_body(
     queue: u64,
     rights: &[CarriedRight],
 ) -> Result<(), AllocError>
-    ensures counts { OnOk result (counts.new.current ≡ rights_fewer counts.old.current (map (seen_right (lives_in ports.now.current.ports)) rights.now)) }
-    ensures carriers { OnOk result (carriers.new.current ≡ carriers_fewer carriers.old.current queue (map (seen_right (lives_in ports.now.current.ports)) rights.now)) }
+    ensures counts { OnOk result (counts.new.current
+        ≡ rights_fewer counts.old.current (map (seen_right (lives_in ports.now.current.ports)) rights.now)) }
+    ensures carriers { OnOk result
+        (carriers.new.current ≡ carriers_fewer carriers.old.current queue
+        (map (seen_right (lives_in ports.now.current.ports)) rights.now)) }
     ensures before { counts.new.before ≡ counts.old.before }
     ensures carriers_before { carriers.new.before ≡ carriers.old.before }
 {
@@ -139,7 +155,8 @@ fn subtract_carrier(
     queue: u64,
     carried: CarriedRight,
 ) -> Result<(), AllocError>
-    ensures ok { OnOk result (carriers.new.current ≡ carrier_fewer carriers.old.current queue carried.kind carried.port) }
+    ensures ok { OnOk result (carriers.new.current
+        ≡ carrier_fewer carriers.old.current queue carried.kind carried.port) }
     ensures before { carriers.new.before ≡ carriers.old.before }
 {
     match carried.kind {

@@ -166,7 +166,8 @@ fn take_in_both(
         ports = changed ports.old.current.ports serial without_first;
       };
     }) }
-    ensures indexes { OnOk result (AreOfFewer indexes.old indexes.new serial (take 1 (messages_at ports.old.current.ports serial))) }
+    ensures indexes { OnOk result (AreOfFewer indexes.old indexes.new serial
+        (take 1 (messages_at ports.old.current.ports serial))) }
     ensures before { ports.new.before ≡ ports.old.before }
     ensures indexes_before { SameBefore indexes.old indexes.new }
 {

@@ -176,7 +176,8 @@ fn bury_in_both(
         ports = map_values (queue_after_death serial) (map.remove ports.old.current.ports serial);
       };
     }) }
-    ensures indexes { OnOk result (AreWithout indexes.old indexes.new serial (messages_at ports.old.current.ports serial)) }
+    ensures indexes { OnOk result (AreWithout indexes.old indexes.new serial
+        (messages_at ports.old.current.ports serial)) }
     ensures before { ports.new.before ≡ ports.old.before }
     ensures indexes_before { SameBefore indexes.old indexes.new }
 {

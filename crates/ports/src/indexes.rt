@@ -28,7 +28,8 @@ pub(crate) struct PortIndexes {
 impl PortIndexes {
     /// Empty indexes. It takes no memory.
     pub(crate) fn new(alloc: Global) -> Self
-        ensures { AreAtRest result (record { counts = map.empty; carriers = map.empty; no_senders = map.empty; destroyed = map.empty }) }
+        ensures { AreAtRest result
+            (record { counts = map.empty; carriers = map.empty; no_senders = map.empty; destroyed = map.empty }) }
     {
         PortIndexes {
             counts: PairCounts::new(alloc),
@@ -72,7 +73,8 @@ impl PortIndexes {
     /// The oldest message is taken from a port's queue, if there is one. If an allocation fails, the changes must be
     /// rolled back.
     pub(crate) fn remove_oldest(&mut self, ports: &LivePorts, serial: u64) -> Result<(), AllocError>
-        ensures ok { OnOk result (AreOfFewer self.old self.new serial (take 1 (messages_at ports.now.current.ports serial))) }
+        ensures ok { OnOk result (AreOfFewer self.old self.new serial
+            (take 1 (messages_at ports.now.current.ports serial))) }
         ensures before { SameBefore self.old self.new }
     {
         subtract_oldest(&mut self.counts, &mut self.carriers, ports, serial)

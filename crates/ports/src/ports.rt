@@ -27,7 +27,8 @@ impl Model for Ports {
 
     ghost view = { λ p. p.ports };
 
-    ghost invariant = { λ p. AreIndexed p.ports.before (former_parts p.indexes) × AreIndexed p.ports.current (present_parts p.indexes) };
+    ghost invariant = { λ p. AreIndexed p.ports.before (former_parts p.indexes)
+        × AreIndexed p.ports.current (present_parts p.indexes) };
 }
 
 impl Ports {

@@ -57,7 +57,8 @@ fn add_carrier(
     queue: u64,
     carried: CarriedRight,
 ) -> Result<(), AllocError>
-    ensures ok { OnOk result (carriers.new.current ≡ carrier_more carriers.old.current queue carried.kind carried.port) }
+    ensures ok { OnOk result (carriers.new.current
+        ≡ carrier_more carriers.old.current queue carried.kind carried.port) }
     ensures before { carriers.new.before ≡ carriers.old.before }
 {
     match carried.kind {

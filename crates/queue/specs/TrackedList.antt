@@ -9,7 +9,9 @@ pub record TrackedList (X : Type 0) : Type 0 where
   pub current : List X
 
 abbrev pub tracked_list_code : {X : Type 0} → Coded X → Coded (TrackedList X)
-tracked_list_code {X} c = code_by (List X × List X) (coded× (coded_list c) (coded_list c)) (λ t. (t.before, t.current)) (λ p. record { before = p.0; current = p.1 }) (λ _. refl)
+tracked_list_code {X} c =
+    code_by (List X × List X) (coded× (coded_list c) (coded_list c)) (λ t. (t.before, t.current))
+    (λ p. record { before = p.0; current = p.1 }) (λ _. refl)
 
 -- a list without changes to commit or roll back
 abbrev pub list_at_rest : {X : Type 0} → List X → TrackedList X

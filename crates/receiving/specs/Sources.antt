@@ -31,7 +31,8 @@ abbrev pub has_message : State → ℕ → Bool
 has_message state serial = is_some (oldest (messages_at state.ports serial))
 
 abbrev pub is_in_set : State → ℕ → Bool
-is_in_set state serial = elim (finmap.get state.ports serial) as (λ _. Bool) [ None ↦ false | Some port ↦ is_some port.set ]
+is_in_set state serial =
+    elim (finmap.get state.ports serial) as (λ _. Bool) [ None ↦ false | Some port ↦ is_some port.set ]
 
 -- the code with which a receive from this port is refused
 abbrev pub port_refusal : State → Receipt → ℕ → Option KernReturn
@@ -43,16 +44,19 @@ port_refusal state receipt serial =
 -- a message that isn't too large, but for whose rights the space lacks names
 abbrev pub oldest_lacks : Receipt → Names → List Message → Bool
 oldest_lacks receipt names [] = false
-oldest_lacks receipt names (message ∷ later) = if nat_lt receipt.limit (message_size message) then false else lacks_names names message
+oldest_lacks receipt names (message ∷ later) =
+    if nat_lt receipt.limit (message_size message) then false else lacks_names names message
 
 -- a member of a set is preferred, and has a message
 abbrev pub is_preferred : State → Names → Receipt → Preference → ℕ → ℕ → Bool
 is_preferred state names receipt preference.Least member serial = true
 is_preferred state names receipt (preference.Member name) member serial = member == name
-is_preferred state names receipt preference.Lacking member serial = oldest_lacks receipt names (messages_at state.ports serial)
+is_preferred state names receipt preference.Lacking member serial =
+    oldest_lacks receipt names (messages_at state.ports serial)
 
 abbrev pub gives : State → Names → Receipt → Preference → ℕ × ℕ → Bool
-gives state names receipt preference member = if has_message state member.1 then is_preferred state names receipt preference member.0 member.1 else false
+gives state names receipt preference member =
+    if has_message state member.1 then is_preferred state names receipt preference member.0 member.1 else false
 
 abbrev pub source_value : Source → ℕ × ℕ
 source_value source = (source.member, source.port)
@@ -70,5 +74,7 @@ pub record IsSource (state : State) (names : Names) (receipt : Receipt) (member 
 -- If any port that might be the source is preferred, so is this one.
 abbrev pub IsPreferred : State → Names → Receipt → Preference → ℕ → ℕ → Type 0
 IsPreferred state names receipt preference member serial =
-    (other : ℕ) (port : ℕ) → Contains (source_list state names receipt) other → HoldsReceiveRight names other port → has_message state port ≡ true
-    → is_preferred state names receipt preference other port ≡ true → is_preferred state names receipt preference member serial ≡ true
+    (other : ℕ) (port : ℕ) → Contains (source_list state names receipt) other → HoldsReceiveRight names other port
+    → has_message state port ≡ true
+    → is_preferred state names receipt preference other port ≡ true
+    → is_preferred state names receipt preference member serial ≡ true

@@ -7,4 +7,6 @@ use Rattle.ipc_model.specs.state.State.{State}
 
 -- if the port lives and has a message, this holds of the port and its oldest message
 abbrev pub OfOldest : State → ℕ → (PortState → Message → Type 0) → Type 0
-OfOldest state serial P = (port : PortState) (message : Message) (later : List Message) → finmap.get state.ports serial ≡ Some port → port.messages ≡ message ∷ later → P port message
+OfOldest state serial P =
+    (port : PortState) (message : Message) (later : List Message) → finmap.get state.ports serial ≡ Some port
+    → port.messages ≡ message ∷ later → P port message

@@ -20,8 +20,10 @@ pub(crate) fn received_encoding(
     given: &[u32],
 ) -> Result<Vec<u8>, AllocError>
     requires small { message_size message.now < 2 ^ 32 }
-    requires long { length (received_body message.now (body_names message.now.reply given.now)) ≡ length message.now.body }
-    ensures { IfOk result (λ encoding. encoding.items ≡ received_encoding message.now member sequence_number given.now) }
+    requires long { length (received_body message.now (body_names message.now.reply given.now))
+        ≡ length message.now.body }
+    ensures { IfOk result (λ encoding. encoding.items
+        ≡ received_encoding message.now member sequence_number given.now) }
 {
     let header = header_of(message, member, given);
     let mut encoding = Vec::with_capacity(alloc, header.size)?;

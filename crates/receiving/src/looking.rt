@@ -32,7 +32,8 @@ pub(crate) fn arriving(
     state: &IpcState,
     message: &Message,
 ) -> Result<Vec<CarriedRight>, AllocError>
-    ensures { IfOk result (λ rights. rights.items ≡ arriving (seen_message (lives_in state.now.current.ports) message.now)) }
+    ensures { IfOk result (λ rights. rights.items
+        ≡ arriving (seen_message (lives_in state.now.current.ports) message.now)) }
 {
     let body = message.rights.as_slice();
     let mut rights = Vec::with_capacity(alloc, body.len() + 1)?;
@@ -46,7 +47,8 @@ fn push_reply(
     reply: Option<CarriedRight>,
     rights: &mut Vec<CarriedRight>,
 ) -> Result<(), AllocError>
-    ensures { OnOk result (rights.new.items ≡ rights.old.items ++ reply_right (option_map (seen_right (lives_in state.now.current.ports)) reply)) }
+    ensures { OnOk result (rights.new.items ≡ rights.old.items
+        ++ reply_right (option_map (seen_right (lives_in state.now.current.ports)) reply)) }
 {
     match reply {
         Some(reply) => Ok(rights.push(state.seen(reply))?),
@@ -59,7 +61,8 @@ fn push_body(
     body: &[CarriedRight],
     rights: &mut Vec<CarriedRight>,
 ) -> Result<(), AllocError>
-    ensures { OnOk result (rights.new.items ≡ rights.old.items ++ map (seen_right (lives_in state.now.current.ports)) body.now) }
+    ensures { OnOk result (rights.new.items ≡ rights.old.items
+        ++ map (seen_right (lives_in state.now.current.ports)) body.now) }
 {
     for right in body {
         rights.push(state.seen(*right))?;
@@ -74,7 +77,9 @@ pub(crate) fn lacks_names(
     space: u32,
     message: &Message,
 ) -> Result<bool, AllocError>
-    ensures { IfOk result (λ lacks. lacks ≡ lacks_names (names_in state.now.current space) (seen_message (lives_in state.now.current.ports) message.now)) }
+    ensures { IfOk result (λ lacks. lacks
+        ≡ lacks_names (names_in state.now.current space)
+        (seen_message (lives_in state.now.current.ports) message.now)) }
 {
     let rights = arriving(alloc, state, message)?;
     Ok(lacks_room(state, space, rights.as_slice()))
@@ -82,7 +87,9 @@ pub(crate) fn lacks_names(
 
 /// Whether rights need more new names than a space has left.
 pub(crate) fn lacks_room(state: &IpcState, space: u32, rights: &[CarriedRight]) -> bool
-    ensures { result ≡ nat_lt MAX_NAMES (finmap.len (names_in state.now.current space) + names_needed (names_in state.now.current space) [] rights.now) }
+    ensures { result ≡ nat_lt MAX_NAMES
+        (finmap.len (names_in state.now.current space) + names_needed (names_in state.now.current space)
+        [] rights.now) }
 {
     match MAX_NAMES.checked_sub(state.name_count(space)) {
         Some(left) => names_needed(state, space, rights) > left,

@@ -57,10 +57,14 @@ pub fn receive(
     requires none { effects.old ≡ [] }
     requires there { IsSome (map.get state.old.current.spaces space) }
     requires lawful { Lawful state.old.current }
-    ensures acts { IfOk result (λ reply. ActsIn state.old.current space (names_in state.old.current space) (call.Receive asked.limit asked.large asked.name asked.waited) reply state.new.current effects.new) }
+    ensures acts { IfOk result
+        (λ reply. ActsIn state.old.current space (names_in state.old.current space)
+        (call.Receive asked.limit asked.large asked.name asked.waited) reply state.new.current effects.new) }
     // If the call may be answered by a reply that shows this, it is.
-    ensures shown { IfOk result (λ reply. (other : machine.Reply) → (last : State) → (others : List waiting.Effect) → preference ≡ preferred_by other → names.now ≡ names_shown (encoding_in other)
-        → ActsIn state.old.current space (names_in state.old.current space) (call.Receive asked.limit asked.large asked.name asked.waited) other last others → reply ≡ other) }
+    ensures shown { IfOk result (λ reply. (other : machine.Reply) → (last : State) → (others : List waiting.Effect)
+        → preference ≡ preferred_by other → names.now ≡ names_shown (encoding_in other)
+        → ActsIn state.old.current space (names_in state.old.current space)
+        (call.Receive asked.limit asked.large asked.name asked.waited) other last others → reply ≡ other) }
     ensures before { state.new.before ≡ state.old.before }
 {
     match find_source(alloc, state, space, asked, preference)? {
@@ -86,9 +90,13 @@ fn take_out(
     requires there { IsSome (map.get state.old.current.spaces space) }
     requires lawful { Lawful state.old.current }
     ensures acts { IfOk result (λ reply. OfOldest state.old.current source.port
-        (λ port message. TakesOut state.old.current space (names_in state.old.current space) (receipt_of asked) source.member source.port port message reply state.new.current effects.new)) }
-    ensures shown { IfOk result (λ reply. OfOldest state.old.current source.port (λ port message. (other : machine.Reply) → (last : State) → (others : List waiting.Effect) → names.now ≡ names_shown (encoding_in other)
-        → TakesOut state.old.current space (names_in state.old.current space) (receipt_of asked) source.member source.port port message other last others → reply ≡ other)) }
+        (λ port message. TakesOut state.old.current space (names_in state.old.current space)
+        (receipt_of asked) source.member source.port port message reply state.new.current effects.new)) }
+    ensures shown { IfOk result (λ reply. OfOldest state.old.current source.port
+        (λ port message. (other : machine.Reply) → (last : State) → (others : List waiting.Effect)
+        → names.now ≡ names_shown (encoding_in other)
+        → TakesOut state.old.current space (names_in state.old.current space)
+        (receipt_of asked) source.member source.port port message other last others → reply ≡ other)) }
     ensures before { state.new.before ≡ state.old.before }
 {
     let Some(outline) = outline_of(state, source.port) else {
@@ -119,7 +127,8 @@ fn take_out(
 fn outline_of(state: &IpcState, port: u64) -> Option<Outline>
     requires lawful { Lawful state.now.current }
     ensures none { IfNone result (messages_at state.now.current.ports port ≡ []) }
-    ensures some { IfSome result (λ outline. OfOldest state.now.current port (λ _ message. (outline.size ≡ message_size message) × (outline.destination ≡ message.destination))) }
+    ensures some { IfSome result (λ outline. OfOldest state.now.current port
+        (λ _ message. (outline.size ≡ message_size message) × (outline.destination ≡ message.destination))) }
 {
     match state.oldest(port) {
         Some(message) => Some(Outline {
@@ -155,7 +164,8 @@ fn too_large(
     effects: &mut Effects,
 ) -> Result<Reply, AllocError>
     requires none { effects.old ≡ [] }
-    ensures large { IfOk result (λ reply. OfOldest state.old.current source.port (λ _ message. outline.size ≡ message_size message → outline.destination ≡ message.destination
+    ensures large { IfOk result (λ reply. OfOldest state.old.current source.port
+        (λ _ message. outline.size ≡ message_size message → outline.destination ≡ message.destination
         → TooLarge state.old.current source.member source.port message large reply state.new.current effects.new)) }
     ensures before { state.new.before ≡ state.old.before }
 {
@@ -193,12 +203,18 @@ fn take_whole(
     requires there { IsSome (map.get state.old.current.spaces space) }
     requires lawful { Lawful state.old.current }
     requires rights { OfOldest state.old.current source.port (λ _ message. rights.now ≡ arriving message) }
-    requires outline { OfOldest state.old.current source.port (λ _ message. (outline.size ≡ message_size message) × (outline.destination ≡ message.destination)) }
-    requires room { map.len (names_in state.old.current space) + names_needed (names_in state.old.current space) [] rights.now ≤ MAX_NAMES }
+    requires outline { OfOldest state.old.current source.port
+        (λ _ message. (outline.size ≡ message_size message) × (outline.destination ≡ message.destination)) }
+    requires room { map.len (names_in state.old.current space) + names_needed (names_in state.old.current space)
+        [] rights.now ≤ MAX_NAMES }
     ensures received { IfOk result (λ reply. OfOldest state.old.current source.port
-        (λ port message. Received state.old.current space (names_in state.old.current space) source.member source.port port message reply state.new.current effects.new)) }
-    ensures wanted { IfOk result (λ reply. OfOldest state.old.current source.port (λ port message. (last : Names) → Arrives (names_in state.old.current space) (arriving message) names.now last
-        → reply ≡ Reply.Message KernReturn.Success (message_size message) source.member (received_encoding message source.member port.sequence_number names.now))) }
+        (λ port message. Received state.old.current space
+        (names_in state.old.current space) source.member source.port port message reply state.new.current
+        effects.new)) }
+    ensures wanted { IfOk result (λ reply. OfOldest state.old.current source.port
+        (λ port message. (last : Names) → Arrives (names_in state.old.current space) (arriving message) names.now last
+        → reply ≡ Reply.Message KernReturn.Success (message_size message) source.member
+        (received_encoding message source.member port.sequence_number names.now))) }
     ensures before { state.new.before ≡ state.old.before }
 {
     let mut given = Vec::with_capacity(alloc, rights.len())?;
@@ -222,8 +238,10 @@ fn oldest_encoding(
     given: &[u32],
 ) -> Result<Vec<u8>, AllocError>
     requires lawful { OfOldest state.now.current source.port (λ _ message. LawfulMessage message) }
-    requires given { OfOldest state.now.current source.port (λ _ message. length given.now ≡ length (arriving message)) }
-    ensures { IfOk result (λ encoding. OfOldest state.now.current source.port (λ port message. encoding.items ≡ received_encoding message source.member port.sequence_number given.now)) }
+    requires given { OfOldest state.now.current source.port
+        (λ _ message. length given.now ≡ length (arriving message)) }
+    ensures { IfOk result (λ encoding. OfOldest state.now.current source.port
+        (λ port message. encoding.items ≡ received_encoding message source.member port.sequence_number given.now)) }
 {
     match (state.oldest(source.port), state.numbers(source.port)) {
         (Some(message), Some(numbers)) => received_encoding(

@@ -10,7 +10,8 @@ use type_desc::{Item, ItemFault, items};
 
 /// Adds the name of the reply right, if the header says that there is one.
 fn add_reply_name(header: Header, names: &mut Vec<u32>) -> Result<(), AllocError>
-    ensures { OnOk result (names.new.items ≡ names.old.items ++ shown.name_in_header header.remote_disposition header.remote) }
+    ensures { OnOk result (names.new.items ≡ names.old.items
+        ++ shown.name_in_header header.remote_disposition header.remote) }
 {
     if header.remote_disposition != 0 {
         names.push(header.remote)?;

@@ -42,9 +42,14 @@ pub(crate) fn find_source(
     asked: Asked,
     preference: Preference,
 ) -> Result<Result<Source, KernReturn>, AllocError>
-    ensures found { IfOk result (λ outcome. IfOk outcome (λ source. IsSource state.now.current (names_in state.now.current space) (receipt_of asked) source.member source.port)) }
-    ensures refused { IfOk result (λ outcome. IfErr outcome (λ code. receive_refusal state.now.current (names_in state.now.current space) (receipt_of asked) ≡ Some code)) }
-    ensures preferred { IfOk result (λ outcome. IfOk outcome (λ source. IsPreferred state.now.current (names_in state.now.current space) (receipt_of asked) preference source.member source.port)) }
+    ensures found { IfOk result (λ outcome. IfOk outcome
+        (λ source. IsSource state.now.current (names_in state.now.current space)
+        (receipt_of asked) source.member source.port)) }
+    ensures refused { IfOk result (λ outcome. IfErr outcome
+        (λ code. receive_refusal state.now.current (names_in state.now.current space) (receipt_of asked) ≡ Some code)) }
+    ensures preferred { IfOk result
+        (λ outcome. IfOk outcome (λ source. IsPreferred state.now.current (names_in state.now.current space)
+        (receipt_of asked) preference source.member source.port)) }
 {
     match giver_by(state.entry(space, asked.name)) {
         Giver::Nothing => Ok(Err(not_there(asked.waited))),
@@ -77,7 +82,8 @@ fn not_there(waited: bool) -> KernReturn
 
 /// The port as the source, or the code with which the receive is refused.
 fn from_port(state: &IpcState, asked: Asked, port: u64) -> Result<Source, KernReturn>
-    ensures found { IfOk result (λ source. (port_refusal state.now.current (receipt_of asked) port ≡ None) × (source ≡ record { member = asked.name; port = port })) }
+    ensures found { IfOk result (λ source. (port_refusal state.now.current (receipt_of asked) port ≡ None)
+        × (source ≡ record { member = asked.name; port = port })) }
     ensures refused { IfErr result (λ code. port_refusal state.now.current (receipt_of asked) port ≡ Some code) }
 {
     if is_in_set(state, port) {
@@ -132,9 +138,14 @@ fn from_set(
     preference: Preference,
 ) -> Result<Result<Source, KernReturn>, AllocError>
     requires set { giver_of (map.get (names_in state.now.current space) asked.name) ≡ Giver.Set }
-    ensures found { IfOk result (λ outcome. IfOk outcome (λ source. IsSource state.now.current (names_in state.now.current space) (receipt_of asked) source.member source.port)) }
-    ensures refused { IfOk result (λ outcome. IfErr outcome (λ code. receive_refusal state.now.current (names_in state.now.current space) (receipt_of asked) ≡ Some code)) }
-    ensures preferred { IfOk result (λ outcome. IfOk outcome (λ source. IsPreferred state.now.current (names_in state.now.current space) (receipt_of asked) preference source.member source.port)) }
+    ensures found { IfOk result (λ outcome. IfOk outcome
+        (λ source. IsSource state.now.current (names_in state.now.current space)
+        (receipt_of asked) source.member source.port)) }
+    ensures refused { IfOk result (λ outcome. IfErr outcome
+        (λ code. receive_refusal state.now.current (names_in state.now.current space) (receipt_of asked) ≡ Some code)) }
+    ensures preferred { IfOk result
+        (λ outcome. IfOk outcome (λ source. IsPreferred state.now.current (names_in state.now.current space)
+        (receipt_of asked) preference source.member source.port)) }
 {
     let members = state.members(alloc, space, asked.name)?;
     let members = members.as_slice();
@@ -156,7 +167,8 @@ fn first(
     members: &[(u32, u64)],
     preference: Preference,
 ) -> Result<Option<Source>, AllocError>
-    ensures { IfOk result (λ found. option_map source_value found ≡ find (gives state.now.current (names_in state.now.current space) (receipt_of asked) preference) members.now) }
+    ensures { IfOk result (λ found. option_map source_value found
+        ≡ find (gives state.now.current (names_in state.now.current space) (receipt_of asked) preference) members.now) }
 {
     for (member, port) in members {
         let source = Source {
@@ -179,7 +191,9 @@ fn gives(
     source: Source,
     preference: Preference,
 ) -> Result<bool, AllocError>
-    ensures { IfOk result (λ is. is ≡ gives state.now.current (names_in state.now.current space) (receipt_of asked) preference (source.member, source.port)) }
+    ensures { IfOk result (λ is. is
+        ≡ gives state.now.current (names_in state.now.current space) (receipt_of asked) preference
+        (source.member, source.port)) }
 {
     if !has_message(state, source.port) {
         return Ok(false);
@@ -196,7 +210,9 @@ fn is_preferred(
     source: Source,
     preference: Preference,
 ) -> Result<bool, AllocError>
-    ensures { IfOk result (λ is. is ≡ is_preferred state.now.current (names_in state.now.current space) (receipt_of asked) preference source.member source.port) }
+    ensures { IfOk result (λ is. is
+        ≡ is_preferred state.now.current (names_in state.now.current space)
+        (receipt_of asked) preference source.member source.port) }
 {
     match preference {
         Preference::Least => Ok(true),
@@ -213,7 +229,9 @@ fn oldest_lacks(
     asked: Asked,
     port: u64,
 ) -> Result<bool, AllocError>
-    ensures { IfOk result (λ lacks. lacks ≡ oldest_lacks (receipt_of asked) (names_in state.now.current space) (messages_at state.now.current.ports port)) }
+    ensures { IfOk result (λ lacks. lacks
+        ≡ oldest_lacks (receipt_of asked) (names_in state.now.current space)
+        (messages_at state.now.current.ports port)) }
 {
     let Some(message) = state.oldest(port) else {
         return Ok(false);

@@ -22,7 +22,8 @@ pub fn take_frame(bytes: &[u8]) -> Option<(&[u8], &[u8])>
 pub(crate) fn set_length(out: &mut Vec<u8>, at: usize)
     requires room { at + 4 ≤ length out.old.items }
     requires fits { length out.old.items - (at + 4) < 2 ^ 32 }
-    ensures { out.new.items ≡ take at out.old.items ++ (word (length out.old.items - (at + 4)) ++ drop (at + 4) out.old.items) }
+    ensures { out.new.items ≡ take at out.old.items
+        ++ (word (length out.old.items - (at + 4)) ++ drop (at + 4) out.old.items) }
 {
     let length = out.len() - (at + 4);
     let (_, frame) = out.as_mut_slice().split_at_mut(at);

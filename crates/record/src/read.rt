@@ -18,7 +18,8 @@ fn take_parts(bytes: &[u8]) -> Option<(u64, u32, &[u8], &[u8], &[u8])>
     ensures only { (number space : ℕ) (call reply rest : List ℕ) → number < 2 ^ 64 → space < 2 ^ 32
         → length call < 2 ^ 32 → length reply < 2 ^ 32
         → bytes.now ≡ long_word number ++ (word space ++ (frame_encoding call ++ (frame_encoding reply ++ rest)))
-        → IsSomeAnd result (λ r. (r.0 ≡ number) × (r.1 ≡ space) × (r.2.now ≡ call) × (r.3.now ≡ reply) × (r.4.now ≡ rest)) }
+        → IsSomeAnd result (λ r. (r.0 ≡ number) × (r.1 ≡ space) × (r.2.now ≡ call) × (r.3.now ≡ reply)
+        × (r.4.now ≡ rest)) }
 {
     let (number, rest) = take_long_word(bytes)?;
     let (space, rest) = take_word(rest)?;

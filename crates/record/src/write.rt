@@ -45,7 +45,8 @@ pub fn push_exchange(
 ) -> Result<(), AllocError>
     requires call { length (call_encoding call.now) < 2 ^ 32 }
     requires reply { length (reply_encoding reply.now) < 2 ^ 32 }
-    ensures { OnOk result (out.new.items ≡ out.old.items ++ record_encoding number (record { space = space; call = call.now; reply = reply.now })) }
+    ensures { OnOk result (out.new.items ≡ out.old.items
+        ++ record_encoding number (record { space = space; call = call.now; reply = reply.now })) }
 {
     push_long_word(out, number)?;
     push_word(out, space)?;

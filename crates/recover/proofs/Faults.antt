@@ -7,7 +7,9 @@ use Rattle.journal.specs.declared.fault.StoreFault.{StoreFault}
 use Rattle.journal.specs.declared.fault.StoreFault.TheVariants as fault
 
 -- a fault of these three is none of the fourth kind
-pub never_version : {T : Type 0} (r : Result T StoreFault) → OnErr r ((r ≡ Err fault.Device) ⊎ ((r ≡ Err fault.Damaged) ⊎ (r ≡ Err fault.NoMemory))) → IsErrOf r fault.Version → ⊥
+pub never_version : {T : Type 0} (r : Result T StoreFault)
+    → OnErr r ((r ≡ Err fault.Device) ⊎ ((r ≡ Err fault.Damaged) ⊎ (r ≡ Err fault.NoMemory))) → IsErrOf r fault.Version
+    → ⊥
 never_version (Ok v) faults is = cc is
 never_version (Err f) faults is = elim faults [
   | inl device ↦ cc (device, is)
@@ -17,7 +19,10 @@ never_version (Err f) faults is = elim faults [
   ]
 ]
 
-pub one_of_four : {T : Type 0} (r : Result T StoreFault) → OnErr r ((r ≡ Err fault.Device) ⊎ ((r ≡ Err fault.Damaged) ⊎ (r ≡ Err fault.NoMemory))) → OnErr r ((r ≡ Err fault.Device) ⊎ ((r ≡ Err fault.Damaged) ⊎ ((r ≡ Err fault.NoMemory) ⊎ (r ≡ Err fault.Version))))
+pub one_of_four : {T : Type 0} (r : Result T StoreFault)
+    → OnErr r ((r ≡ Err fault.Device) ⊎ ((r ≡ Err fault.Damaged) ⊎ (r ≡ Err fault.NoMemory)))
+    → OnErr r ((r ≡ Err fault.Device)
+    ⊎ ((r ≡ Err fault.Damaged) ⊎ ((r ≡ Err fault.NoMemory) ⊎ (r ≡ Err fault.Version))))
 one_of_four (Ok v) faults = tt
 one_of_four (Err f) faults = elim faults [
   | inl device ↦ inl device
@@ -28,7 +33,9 @@ one_of_four (Err f) faults = elim faults [
 ]
 
 -- after steps that only read
-pub untouched_then : {T : Type 0} (r : Result T StoreFault) (old mid new : View) → Passes old mid (MayLeave old) → OnErr r ((r ≡ Err fault.Device) ⊎ Passes mid new (MayLeave mid)) → OnErr r ((r ≡ Err fault.Device) ⊎ Passes old new (MayLeave old))
+pub untouched_then : {T : Type 0} (r : Result T StoreFault) (old mid new : View) → Passes old mid (MayLeave old)
+    → OnErr r ((r ≡ Err fault.Device) ⊎ Passes mid new (MayLeave mid))
+    → OnErr r ((r ≡ Err fault.Device) ⊎ Passes old new (MayLeave old))
 untouched_then (Ok v) old mid new still step = tt
 untouched_then (Err f) old mid new still step = elim step [
   | inl device ↦ inl device
@@ -40,7 +47,8 @@ pub right_err : {T E : Type 0} (P Q : Type 0) (r : Result T E) → Q → OnErr r
 right_err P Q (Ok v) q = tt
 right_err P Q (Err e) q = inr q
 
-pub of_memory : {T : Type 0} (r : Result T StoreFault) → r ≡ Err fault.NoMemory → OnErr r ((r ≡ Err fault.Device) ⊎ ((r ≡ Err fault.Damaged) ⊎ (r ≡ Err fault.NoMemory)))
+pub of_memory : {T : Type 0} (r : Result T StoreFault) → r ≡ Err fault.NoMemory
+    → OnErr r ((r ≡ Err fault.Device) ⊎ ((r ≡ Err fault.Damaged) ⊎ (r ≡ Err fault.NoMemory)))
 of_memory (Ok v) is = tt
 of_memory (Err f) is = inr (inr is)
 
@@ -52,7 +60,8 @@ pub memory_no_damage : {T : Type 0} (r : Result T StoreFault) → r ≡ Err faul
 memory_no_damage (Ok v) is told = cc is
 memory_no_damage (Err f) is told = cc (is, told)
 
-pub of_device : {T : Type 0} (r : Result T StoreFault) → r ≡ Err fault.Device → OnErr r ((r ≡ Err fault.Device) ⊎ ((r ≡ Err fault.Damaged) ⊎ (r ≡ Err fault.NoMemory)))
+pub of_device : {T : Type 0} (r : Result T StoreFault) → r ≡ Err fault.Device
+    → OnErr r ((r ≡ Err fault.Device) ⊎ ((r ≡ Err fault.Damaged) ⊎ (r ≡ Err fault.NoMemory)))
 of_device (Ok v) is = tt
 of_device (Err f) is = inl is
 
@@ -60,7 +69,8 @@ pub device_no_damage : {T : Type 0} (r : Result T StoreFault) → r ≡ Err faul
 device_no_damage (Ok v) is told = cc is
 device_no_damage (Err f) is told = cc (is, told)
 
-pub other_fault : {T P : Type 0} (r : Result T StoreFault) (f : StoreFault) → r ≡ Err f → OnErr r ((r ≡ Err fault.Device) ⊎ P) → (f ≡ fault.Device → ⊥) → P
+pub other_fault : {T P : Type 0} (r : Result T StoreFault) (f : StoreFault) → r ≡ Err f
+    → OnErr r ((r ≡ Err fault.Device) ⊎ P) → (f ≡ fault.Device → ⊥) → P
 other_fault (Ok v) f is told other = absurd (cc is)
 other_fault (Err e) f is told other = elim told [
   | inl device ↦ absurd (other (cc (is, device)))

@@ -12,54 +12,73 @@ use Rattle.recover.specs.declared.headers.Header.{Header}
 use Rattle.recover.specs.declared.headers.Header.TheVariants.{Closed, Open, OtherVersion, Unreadable}
 
 front_open : (header n : ℕ) (slot : List ℕ) → header ≤ n → 1 ≤ n → IsOpen header slot → IsOpen header (take n slot)
-front_open header n slot fits one is_open = (omega (arith, length-take n slot, is_open.0), take-take 1 n slot one ∙ is_open.1)
+front_open header n slot fits one is_open =
+    (omega (arith, length-take n slot, is_open.0), take-take 1 n slot one ∙ is_open.1)
 
 open_front : (header n : ℕ) (slot : List ℕ) → 1 ≤ n → IsOpen header (take n slot) → IsOpen header slot
-open_front header n slot one is_open = (omega (arith, length-take n slot, is_open.0), sym (take-take 1 n slot one) ∙ is_open.1)
+open_front header n slot one is_open =
+    (omega (arith, length-take n slot, is_open.0), sym (take-take 1 n slot one) ∙ is_open.1)
 
 front_has : (n : ℕ) (slot : List ℕ) → 2 ≤ n → slice_index (take n slot) 1 ≡ slice_index slot 1
 front_has n slot two = get_or-take n slot 1 0 two
 
 -- what a front begins with, the slot begins with
-front_of_epoch : (number epoch n : ℕ) (slot : List ℕ) → IsOfEpoch number epoch (take n slot) → IsOfEpoch number epoch slot
+front_of_epoch : (number epoch n : ℕ) (slot : List ℕ) → IsOfEpoch number epoch (take n slot)
+    → IsOfEpoch number epoch slot
 front_of_epoch number epoch n slot is = record {
   rest = is.rest ++ drop n slot;
-  encoding = sym (take-append-drop n slot) ∙ ap (λ l. l ++ drop n slot) is.encoding ∙ append_assoc (segment_header open_gate epoch) is.rest (drop n slot);
+  encoding =
+      sym (take-append-drop n slot) ∙ ap (λ l. l ++ drop n slot) is.encoding
+      ∙ append_assoc (segment_header open_gate epoch) is.rest (drop n slot);
   fits = is.fits;
   of_number = is.of_number;
 }
 
 -- and conversely, if the front has the whole header
-epoch_of_front : (number epoch n : ℕ) (slot : List ℕ) → 16 ≤ n → IsOfEpoch number epoch slot → IsOfEpoch number epoch (take n slot)
+epoch_of_front : (number epoch n : ℕ) (slot : List ℕ) → 16 ≤ n → IsOfEpoch number epoch slot
+    → IsOfEpoch number epoch (take n slot)
 epoch_of_front number epoch n slot whole is =
     let apart : n ≡ 16 + (n - 16) = omega arith in
     record {
       rest = take (n - 16) is.rest;
-      encoding = ap (take n) is.encoding ∙ ap (λ k. take k (segment_header open_gate epoch ++ is.rest)) apart ∙ take-append-add (segment_header open_gate epoch) is.rest (n - 16);
+      encoding =
+          ap (take n) is.encoding ∙ ap (λ k. take k (segment_header open_gate epoch ++ is.rest)) apart
+          ∙ take-append-add (segment_header open_gate epoch) is.rest (n - 16);
       fits = is.fits;
       of_number = is.of_number;
     }
 
-pub says_of_front : (header n : ℕ) (slot : List ℕ) (said : Header) → header ≤ n → 16 ≤ n → Says header (take n slot) said → Says header slot said
-says_of_front header n slot Closed fits whole says = λ is_open. says (front_open header n slot fits (omega arith) is_open)
-says_of_front header n slot (Open epoch) fits whole says = (open_front header n slot (omega arith) says.0, front_of_epoch (epoch % 2) epoch n slot says.1)
-says_of_front header n slot OtherVersion fits whole says = (open_front header n slot (omega arith) says.0, λ is. says.1 (front_has n slot (omega arith) ∙ is))
+pub says_of_front : (header n : ℕ) (slot : List ℕ) (said : Header) → header ≤ n → 16 ≤ n
+    → Says header (take n slot) said → Says header slot said
+says_of_front header n slot Closed fits whole says =
+    λ is_open. says (front_open header n slot fits (omega arith) is_open)
+says_of_front header n slot (Open epoch) fits whole says =
+    (open_front header n slot (omega arith) says.0, front_of_epoch (epoch % 2) epoch n slot says.1)
+says_of_front header n slot OtherVersion fits whole says =
+    (open_front header n slot (omega arith) says.0, λ is. says.1 (front_has n slot (omega arith) ∙ is))
 says_of_front header n slot Unreadable fits whole says = (
   open_front header n slot (omega arith) says.0,
-  λ other. says.1 (front_open header n slot fits (omega arith) other.0, λ is. other.1 (sym (front_has n slot (omega arith)) ∙ is)),
+  λ other. says.1 (
+    front_open header n slot fits (omega arith) other.0,
+    λ is. other.1 (sym (front_has n slot (omega arith)) ∙ is),
+  ),
   λ number epoch is. says.2 number epoch (epoch_of_front number epoch n slot whole is),
 )
 
 -- what was read of a slot's front
-pub front_read : (slot buffer old : List ℕ) (n : ℕ) → n ≡ min 24 (length slot - 0) → buffer ≡ take n (drop 0 slot) ++ drop n old → take n buffer ≡ take 24 slot
+pub front_read : (slot buffer old : List ℕ) (n : ℕ) → n ≡ min 24 (length slot - 0)
+    → buffer ≡ take n (drop 0 slot) ++ drop n old → take n buffer ≡ take 24 slot
 front_read slot buffer old n count bytes =
     let long : length (take n slot) ≡ n = omega (arith, length-take n slot, count) in
     let front : take n buffer ≡ take n slot = ap (take n) bytes ∙ take_at (take n slot) (drop n old) n long in
     elim (cases_lt (length slot) 24) as (λ _. take n buffer ≡ take 24 slot) [
-      | inl short ↦ front ∙ take_all n slot (omega (arith, count, short)) ∙ sym (take_all 24 slot (omega (arith, short)))
+      | inl short ↦ front ∙ take_all n slot (omega (arith, count, short))
+          ∙ sym (take_all 24 slot (omega (arith, short)))
       | inr whole ↦ let all : n ≡ 24 = omega (arith, count, whole) in front ∙ ap (λ k. take k slot) all
     ]
 
 -- an epoch after the front of a header
-pub epoch_after : (slot rest behind : List ℕ) (epoch : ℕ) → slot ≡ version_one ++ rest → rest ≡ long_word epoch ++ behind → epoch < 2 ^ 64 → IsOfEpoch (epoch % 2) epoch slot
-epoch_after slot rest behind epoch first second fits = record { rest = behind; encoding = first ∙ ap (λ l. version_one ++ l) second; fits = fits; of_number = refl }
+pub epoch_after : (slot rest behind : List ℕ) (epoch : ℕ) → slot ≡ version_one ++ rest
+    → rest ≡ long_word epoch ++ behind → epoch < 2 ^ 64 → IsOfEpoch (epoch % 2) epoch slot
+epoch_after slot rest behind epoch first second fits =
+    record { rest = behind; encoding = first ∙ ap (λ l. version_one ++ l) second; fits = fits; of_number = refl }

@@ -13,29 +13,43 @@ use Rattle.recover.specs.Making.{empty_segment}
 use Rattle.recover.specs.Crashing.{HasLastGate, AppendKeepsGate}
 
 -- equal bytes that begin with encodings of batches go on alike after these
-same_rest : (n : ℕ) (more more_too : List (List Record)) (x y : List ℕ) → IsClosed x → IsClosed y → AreRecords (all_records more) → AreRecords (all_records more_too)
+same_rest : (n : ℕ) (more more_too : List (List Record)) (x y : List ℕ) → IsClosed x → IsClosed y
+    → AreRecords (all_records more) → AreRecords (all_records more_too)
     → n + length (all_records more) ≤ MAX_RECORDS → n + length (all_records more_too) ≤ MAX_RECORDS
     → batches_encoding n more ++ x ≡ batches_encoding n more_too ++ y → x ≡ y
 same_rest n [] [] x y shut shut_too are are_too room room_too is = is
 same_rest n [] (b ∷ more_too) x y shut shut_too are are_too room room_too is = absurd (subst IsClosed is shut refl)
-same_rest n (a ∷ more) [] x y shut shut_too are are_too room room_too is = absurd (subst IsClosed (sym is) shut_too refl)
+same_rest n (a ∷ more) [] x y shut shut_too are are_too room room_too is =
+    absurd (subst IsClosed (sym is) shut_too refl)
 same_rest n (a ∷ more) (b ∷ more_too) x y shut shut_too are are_too room room_too is =
-    let long : length (a ++ all_records more) ≡ length a + length (all_records more) = length-append a (all_records more) in
-    let long_too : length (b ++ all_records more_too) ≡ length b + length (all_records more_too) = length-append b (all_records more_too) in
-    let whole = sym (append_assoc (batch_encoding n a) (batches_encoding (n + length a) more) x) ∙ ap (λ l. drop 1 l) is ∙ append_assoc (batch_encoding n b) (batches_encoding (n + length b) more_too) y in
-    let first = same_batches n a b (batches_encoding (n + length a) more ++ x) (batches_encoding (n + length b) more_too ++ y)
-    (are_records-front a (all_records more) are) (are_records-front b (all_records more_too) are_too) (omega arith) (omega arith) whole in
+    let long : length (a ++ all_records more) ≡ length a + length (all_records more) =
+    length-append a (all_records more) in
+    let long_too : length (b ++ all_records more_too) ≡ length b + length (all_records more_too) =
+    length-append b (all_records more_too) in
+    let whole =
+    sym (append_assoc (batch_encoding n a) (batches_encoding (n + length a) more) x) ∙ ap (λ l. drop 1 l) is
+    ∙ append_assoc (batch_encoding n b) (batches_encoding (n + length b) more_too) y in
+    let first =
+    same_batches n a b (batches_encoding (n + length a) more ++ x) (batches_encoding (n + length b) more_too ++ y)
+    (are_records-front a (all_records more) are) (are_records-front b (all_records more_too) are_too) (omega arith)
+    (omega arith) whole in
     let counts : length a ≡ length b = ap length first.0 in
-    let behind : batches_encoding (n + length a) more ++ x ≡ batches_encoding (n + length a) more_too ++ y = first.1 ∙ ap (λ k. batches_encoding (n + k) more_too ++ y) (sym counts) in
-    same_rest (n + length a) more more_too x y shut shut_too (are_records-back a (all_records more) are) (are_records-back b (all_records more_too) are_too) (omega arith) (omega arith) behind
+    let behind : batches_encoding (n + length a) more ++ x ≡ batches_encoding (n + length a) more_too ++ y =
+    first.1 ∙ ap (λ k. batches_encoding (n + k) more_too ++ y) (sym counts) in
+    same_rest (n + length a) more more_too x y shut shut_too (are_records-back a (all_records more) are)
+    (are_records-back b (all_records more_too) are_too) (omega arith) (omega arith) behind
 
-one_rest : (bytes : List ℕ) (r1 r2 : List Record) → (a : EncodesBatches bytes r1) → (b : EncodesBatches bytes r2) → a.rest ≡ b.rest
+one_rest : (bytes : List ℕ) (r1 r2 : List Record) → (a : EncodesBatches bytes r1) → (b : EncodesBatches bytes r2)
+    → a.rest ≡ b.rest
 one_rest bytes r1 r2 a b =
-    same_rest 0 a.batches b.batches a.rest b.rest a.closed b.closed (subst AreRecords a.flat a.canonical) (subst AreRecords b.flat b.canonical)
-    (omega (arith, a.bounded, ap length a.flat)) (omega (arith, b.bounded, ap length b.flat)) (sym a.encoding ∙ b.encoding)
+    same_rest 0 a.batches b.batches a.rest b.rest a.closed b.closed (subst AreRecords a.flat a.canonical)
+    (subst AreRecords b.flat b.canonical)
+    (omega (arith, a.bounded, ap length a.flat)) (omega (arith, b.bounded, ap length b.flat))
+    (sym a.encoding ∙ b.encoding)
 
 -- a segment with a reading that has a byte after its batches
-pub has_gate : (epoch : ℕ) (segment : List ℕ) (records : List Record) → (known : EncodesSegment epoch segment records) → 0 < length known.encoded.rest → HasLastGate segment
+pub has_gate : (epoch : ℕ) (segment : List ℕ) (records : List Record) → (known : EncodesSegment epoch segment records)
+    → 0 < length known.encoded.rest → HasLastGate segment
 has_gate epoch segment records known some other_epoch others other =
     let same : known.content ≡ other.content = ap (drop 16) (sym known.encoding ∙ other.encoding) in
     let moved : EncodesBatches other.content records = record {
@@ -52,7 +66,9 @@ has_gate epoch segment records known some other_epoch others other =
 
 -- a segment that isn't open has no reading
 pub shut_has_gate : (segment : List ℕ) → ¬ IsOpen 16 segment → HasLastGate segment
-shut_has_gate segment shut epoch records known = absurd (shut (subst (IsOpen 16) (sym known.encoding) (omega (arith, length-append (segment_header open_gate epoch) known.content), refl)))
+shut_has_gate segment shut epoch records known =
+    absurd (shut (subst (IsOpen 16) (sym known.encoding)
+    (omega (arith, length-append (segment_header open_gate epoch) known.content), refl)))
 
 -- a segment that was never in use
 
@@ -61,25 +77,44 @@ empty_has_gate epoch segment is = has_gate epoch segment []
     (record {
       content = closed_gate ∷ [];
       encoding = is;
-      encoded = record { batches = []; rest = closed_gate ∷ []; encoding = refl; closed = λ e. cc; none_empty = tt; flat = refl; canonical = tt; bounded = omega arith };
+      encoded =
+          record {
+            batches = [];
+            rest = closed_gate ∷ [];
+            encoding = refl;
+            closed = λ e. cc;
+            none_empty = tt;
+            flat = refl;
+            canonical = tt;
+            bounded = omega arith;
+          };
     }) (omega arith)
 
 -- a segment in use to which a batch is appended
 
 -- the batches of a segment in use, with other bytes after them
-other_after : (epoch : ℕ) (old new behind : List ℕ) (records : List Record) → (used : IsInUse epoch old records) → new ≡ take (length old - 1) old ++ behind → new ≡ segment_header open_gate epoch ++ (batches_encoding 0 used.encoded.batches ++ behind)
+other_after : (epoch : ℕ) (old new behind : List ℕ) (records : List Record) → (used : IsInUse epoch old records)
+    → new ≡ take (length old - 1) old ++ behind
+    → new ≡ segment_header open_gate epoch ++ (batches_encoding 0 used.encoded.batches ++ behind)
 other_after epoch old new behind records used is =
     let header : List ℕ = segment_header open_gate epoch in
     let encoding : List ℕ = batches_encoding 0 used.encoded.batches in
-    let whole : old ≡ (header ++ encoding) ++ used.encoded.rest = used.encoding ∙ ap (λ l. header ++ l) used.encoded.encoding ∙ sym (append_assoc header encoding used.encoded.rest) in
-    let long : length old - 1 ≡ length (header ++ encoding) = omega (arith, used.ended, ap length whole, length-append (header ++ encoding) used.encoded.rest) in
-    is ∙ (λ i. take (long i) (whole i) ++ behind) ∙ ap (λ l. l ++ behind) (take_at (header ++ encoding) used.encoded.rest (length (header ++ encoding)) refl) ∙ append_assoc header encoding behind
+    let whole : old ≡ (header ++ encoding) ++ used.encoded.rest =
+    used.encoding ∙ ap (λ l. header ++ l) used.encoded.encoding
+    ∙ sym (append_assoc header encoding used.encoded.rest) in
+    let long : length old - 1 ≡ length (header ++ encoding) =
+    omega (arith, used.ended, ap length whole, length-append (header ++ encoding) used.encoded.rest) in
+    is ∙ (λ i. take (long i) (whole i) ++ behind) ∙ ap
+    (λ l. l ++ behind) (take_at (header ++ encoding) used.encoded.rest (length (header ++ encoding)) refl)
+    ∙ append_assoc header encoding behind
 
 closed_with_tail : (rest tail : List ℕ) → length rest ≡ 1 → IsClosed rest → IsClosed (rest ++ tail)
 closed_with_tail [] tail one shut = absurd (omega (arith, one))
 closed_with_tail (gate ∷ rest) tail one shut = shut
 
-same_records : (epoch : ℕ) (old new behind : List ℕ) (records : List Record) → (used : IsInUse epoch old records) → IsClosed behind → 0 < length behind → new ≡ segment_header open_gate epoch ++ (batches_encoding 0 used.encoded.batches ++ behind) → HasLastGate new
+same_records : (epoch : ℕ) (old new behind : List ℕ) (records : List Record) → (used : IsInUse epoch old records)
+    → IsClosed behind → 0 < length behind
+    → new ≡ segment_header open_gate epoch ++ (batches_encoding 0 used.encoded.batches ++ behind) → HasLastGate new
 same_records epoch old new behind records used shut some is =
     let encoded = used.encoded in
     has_gate epoch new records
@@ -98,8 +133,11 @@ same_records epoch old new behind records used shut some is =
       };
     }) some
 
-more_records : (epoch : ℕ) (old new : List ℕ) (records batch : List Record) → (used : IsInUse epoch old records) → 0 < length batch → AreRecords batch → length records + length batch ≤ MAX_RECORDS
-    → new ≡ segment_header open_gate epoch ++ (batches_encoding 0 used.encoded.batches ++ (open_gate ∷ (batch_encoding (length records) batch ++ closed_gate ∷ []))) → HasLastGate new
+more_records : (epoch : ℕ) (old new : List ℕ) (records batch : List Record) → (used : IsInUse epoch old records)
+    → 0 < length batch → AreRecords batch → length records + length batch ≤ MAX_RECORDS
+    → new ≡ segment_header open_gate epoch
+    ++ (batches_encoding 0 used.encoded.batches
+    ++ (open_gate ∷ (batch_encoding (length records) batch ++ closed_gate ∷ []))) → HasLastGate new
 more_records epoch old new records batch used some are room is =
     let encoded = used.encoded in
     let encoding : List ℕ = batch_encoding (length records) batch in
@@ -111,7 +149,10 @@ more_records epoch old new records batch used some are room is =
         batches = encoded.batches ++ batch ∷ [];
         rest = closed_gate ∷ [];
         encoding = sym (append_assoc (batches_encoding 0 encoded.batches) (open_gate ∷ encoding) (closed_gate ∷ []))
-            ∙ ap (λ l. l ++ closed_gate ∷ []) (sym (batches_encoding-push 0 encoded.batches batch ∙ ap (λ k. batches_encoding 0 encoded.batches ++ (open_gate ∷ batch_encoding k batch)) (omega (arith, ap length encoded.flat))));
+            ∙ ap (λ l. l ++ closed_gate ∷ [])
+            (sym (batches_encoding-push 0 encoded.batches batch ∙ ap
+            (λ k. batches_encoding 0 encoded.batches ++ (open_gate ∷ batch_encoding k batch))
+            (omega (arith, ap length encoded.flat))));
         closed = λ e. cc;
         none_empty = none_empty-push encoded.batches batch encoded.none_empty some;
         flat = ap (λ l. l ++ batch) encoded.flat ∙ sym (all_records-push encoded.batches batch);
@@ -126,11 +167,17 @@ append_keeps_gate epoch old new records batch used some are room mid =
     let front : List ℕ = batches_encoding 0 used.encoded.batches in
     let encoding : List ℕ = batch_encoding (length records) batch in
     elim mid [
-      | inl tail ↦ same_records epoch old new (used.encoded.rest ++ tail.0) records used (closed_with_tail used.encoded.rest tail.0 used.ended used.encoded.closed) (omega (arith, used.ended, length-append used.encoded.rest tail.0))
-          (tail.1 ∙ ap (λ l. l ++ tail.0) (used.encoding ∙ ap (λ l. header ++ l) used.encoded.encoding) ∙ append_assoc header (front ++ used.encoded.rest) tail.0 ∙ ap (λ l. header ++ l) (append_assoc front used.encoded.rest tail.0))
+      | inl tail ↦ same_records epoch old new (used.encoded.rest ++ tail.0) records used
+          (closed_with_tail used.encoded.rest tail.0 used.ended used.encoded.closed)
+          (omega (arith, used.ended, length-append used.encoded.rest tail.0))
+          (tail.1 ∙ ap (λ l. l ++ tail.0) (used.encoding ∙ ap (λ l. header ++ l) used.encoded.encoding)
+          ∙ append_assoc header (front ++ used.encoded.rest) tail.0 ∙ ap
+          (λ l. header ++ l) (append_assoc front used.encoded.rest tail.0))
       | inr gate ↦ elim (cases_eq gate.0 open_gate) [
         | inl opened ↦ more_records epoch old new records batch used some are room
-            (other_after epoch old new (open_gate ∷ (encoding ++ closed_gate ∷ [])) records used (gate.1 ∙ ap (λ (g : ℕ). take (length old - 1) old ++ (g ∷ (encoding ++ closed_gate ∷ []))) opened))
-        | inr shut ↦ same_records epoch old new (gate.0 ∷ (encoding ++ closed_gate ∷ [])) records used shut (omega arith) (other_after epoch old new (gate.0 ∷ (encoding ++ closed_gate ∷ [])) records used gate.1)
+            (other_after epoch old new (open_gate ∷ (encoding ++ closed_gate ∷ [])) records used
+            (gate.1 ∙ ap (λ (g : ℕ). take (length old - 1) old ++ (g ∷ (encoding ++ closed_gate ∷ []))) opened))
+        | inr shut ↦ same_records epoch old new (gate.0 ∷ (encoding ++ closed_gate ∷ [])) records used shut
+            (omega arith) (other_after epoch old new (gate.0 ∷ (encoding ++ closed_gate ∷ [])) records used gate.1)
       ]
     ]

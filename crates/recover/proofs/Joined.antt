@@ -25,12 +25,16 @@ use Rattle.recover.proofs.Ways.{NextParts, OneParts, next_ending, next_written, 
 
 -- after reads
 
-pub still_then_same : (old mid new : View) → IsAtRest old → HaveLastGates old.seen → Passes old mid (MayLeave old) → mid.seen ≡ old.seen → Passes mid new (StandForSame mid.seen) → Passes old new (StandForSame old.seen)
-still_then_same old mid new rest gates still same second = same_after old mid new (still_same old mid rest gates still) (recover_as old.seen mid.seen same) second
+pub still_then_same : (old mid new : View) → IsAtRest old → HaveLastGates old.seen → Passes old mid (MayLeave old)
+    → mid.seen ≡ old.seen → Passes mid new (StandForSame mid.seen) → Passes old new (StandForSame old.seen)
+still_then_same old mid new rest gates still same second =
+    same_after old mid new (still_same old mid rest gates still) (recover_as old.seen mid.seen same) second
 
-pub leaves_same : (old mid new : View) → Passes old mid (MayLeave old) → mid.seen ≡ old.seen → Passes mid new (StandForSame mid.seen) → Passes old new (LeavesSame old)
+pub leaves_same : (old mid new : View) → Passes old mid (MayLeave old) → mid.seen ≡ old.seen
+    → Passes mid new (StandForSame mid.seen) → Passes old new (LeavesSame old)
 leaves_same old mid new first same second =
-    passes_then old mid new (MayLeave old) (StandForSame mid.seen) (LeavesSame old) first second (λ c left. inl left) (λ c stands. inr (subst (λ (s : Slots). StandForSame s c) same stands))
+    passes_then old mid new (MayLeave old) (StandForSame mid.seen) (LeavesSame old) first second (λ c left. inl left)
+    (λ c stands. inr (subst (λ (s : Slots). StandForSame s c) same stands))
 
 pub device_err : {T E : Type 0} (P : Type 0) (r : Result T E) (e : E) → r ≡ Err e → OnErr r ((r ≡ Err e) ⊎ P)
 device_err P (Ok x) e is = tt
@@ -38,27 +42,38 @@ device_err P (Err f) e is = inl is
 
 -- a store is made
 
-pub first_segment_same : (old new : View) → IsAtRest old → IsUnused old.seen → IsNew (as_written old.seen) → HaveLastGates old.seen
-    → (IsSynced old Segment0 → Passes old new (Follows old Segment0 (IsRemade 16 (empty_segment 0)))) → Passes old new (StandForSame old.seen)
+pub first_segment_same : (old new : View) → IsAtRest old → IsUnused old.seen → IsNew (as_written old.seen)
+    → HaveLastGates old.seen
+    → (IsSynced old Segment0 → Passes old new (Follows old Segment0 (IsRemade 16 (empty_segment 0))))
+    → Passes old new (StandForSame old.seen)
 first_segment_same old new rest unused is_new gates time =
     let fresh = unused_fresh old.seen unused is_new in
-    passes_as old new (DiffersIn old.seen Segment0 (IsRemade 16 (empty_segment 0) old.seen.segment0)) (StandForSame old.seen)
-    (rest_called Segment0 old new (IsRemade 16 (empty_segment 0)) rest (time (rest_is_synced Segment0 old rest))) (λ c differs.
+    passes_as old new (DiffersIn old.seen Segment0 (IsRemade 16 (empty_segment 0) old.seen.segment0))
+    (StandForSame old.seen)
+    (rest_called Segment0 old new (IsRemade 16 (empty_segment 0)) rest (time (rest_is_synced Segment0 old rest)))
+    (λ c differs.
     subst (StandForSame old.seen) (sym differs.1) (
-      same_by_one old.seen (with_slot old.seen Segment0 c.segment0) opening_state (fresh_recovered old.seen fresh) (fresh_recovered (with_slot old.seen Segment0 c.segment0) (fresh_segment old.seen c.segment0 fresh differs.0)),
+      same_by_one old.seen (with_slot old.seen Segment0 c.segment0) opening_state (fresh_recovered old.seen fresh)
+          (fresh_recovered (with_slot old.seen Segment0 c.segment0)
+          (fresh_segment old.seen c.segment0 fresh differs.0)),
       (segment_keeps_gate 0 old.seen.segment0 c.segment0 gates.0 differs.0, gates.1),
     ))
 
 -- its segment is made
 made_fresh : (s t : Slots) → IsUnused s → IsNew (as_written s) → t ≡ with_slot s Segment0 (empty_segment 0) → IsFresh t
-made_fresh s t unused is_new is = subst IsFresh (sym is) (fresh_segment s (empty_segment 0) (unused_fresh s unused is_new) (inr refl))
+made_fresh s t unused is_new is =
+    subst IsFresh (sym is) (fresh_segment s (empty_segment 0) (unused_fresh s unused is_new) (inr refl))
 
-first_image_after : (mid new : View) (content : List ℕ) → IsAtRest mid → IsFresh mid.seen → mid.seen.segment0 ≡ empty_segment 0 → HasLastGate mid.seen.segment1 → HoldsImage 0 content opening_state
-    → (IsSynced mid Image0 → Passes mid new (Follows mid Image0 (IsRemade 24 content))) → Passes mid new (StandForSame mid.seen)
+first_image_after : (mid new : View) (content : List ℕ) → IsAtRest mid → IsFresh mid.seen
+    → mid.seen.segment0 ≡ empty_segment 0 → HasLastGate mid.seen.segment1 → HoldsImage 0 content opening_state
+    → (IsSynced mid Image0 → Passes mid new (Follows mid Image0 (IsRemade 24 content)))
+    → Passes mid new (StandForSame mid.seen)
 first_image_after mid new content rest fresh made gate image time =
-    passes_as mid new (DiffersIn mid.seen Image0 (IsRemade 24 content mid.seen.image0)) (StandForSame mid.seen) (rest_called Image0 mid new (IsRemade 24 content) rest (time (rest_is_synced Image0 mid rest))) (λ c differs.
+    passes_as mid new (DiffersIn mid.seen Image0 (IsRemade 24 content mid.seen.image0)) (StandForSame mid.seen)
+    (rest_called Image0 mid new (IsRemade 24 content) rest (time (rest_is_synced Image0 mid rest))) (λ c differs.
     subst (StandForSame mid.seen) (sym differs.1) (
-      same_by_one mid.seen (with_slot mid.seen Image0 c.image0) opening_state (fresh_recovered mid.seen fresh) (fresh_image mid.seen c.image0 content fresh made image differs.0),
+      same_by_one mid.seen (with_slot mid.seen Image0 c.image0) opening_state (fresh_recovered mid.seen fresh)
+          (fresh_image mid.seen c.image0 content fresh made image differs.0),
       (empty_has_gate 0 mid.seen.segment0 made, gate),
     ))
 
@@ -67,36 +82,57 @@ abbrev OpeningImage : ImageValue → Type 0
 OpeningImage image = image ≡ unwritten 0 (image_encoding opening_state)
 
 abbrev WritesImage : View → View → ImageValue → Type 0
-WritesImage mid new image = IsSynced mid (image_slot image.epoch) → Passes mid new (Follows mid (image_slot image.epoch) (IsRemade 24 (open_image image.epoch image.encoding)))
+WritesImage mid new image =
+    IsSynced mid (image_slot image.epoch)
+    → Passes mid new (Follows mid (image_slot image.epoch) (IsRemade 24 (open_image image.epoch image.encoding)))
 
-pub first_image_same : (old mid new : View) (image : ImageValue) → IsAtRest old → IsUnused old.seen → IsNew (as_written old.seen) → HaveLastGates old.seen → OpeningImage image → HoldsImage 0 (open_image 0 (image_encoding opening_state)) opening_state
-    → (IsSynced old Segment0 → Passes old mid (Follows old Segment0 (IsRemade 16 (empty_segment 0)))) → mid.seen ≡ with_slot old.seen Segment0 (empty_segment 0) → IsSynced mid Segment0 → WritesImage mid new image
+pub first_image_same : (old mid new : View) (image : ImageValue) → IsAtRest old → IsUnused old.seen
+    → IsNew (as_written old.seen) → HaveLastGates old.seen → OpeningImage image
+    → HoldsImage 0 (open_image 0 (image_encoding opening_state)) opening_state
+    → (IsSynced old Segment0 → Passes old mid (Follows old Segment0 (IsRemade 16 (empty_segment 0))))
+    → mid.seen ≡ with_slot old.seen Segment0 (empty_segment 0) → IsSynced mid Segment0 → WritesImage mid new image
     → Passes old new (StandForSame old.seen)
 first_image_same old mid new image rest unused is_new gates is holds first made synced second =
     let fresh = made_fresh old.seen mid.seen unused is_new made in
-    let rested = rest_after Segment0 old mid (IsRemade 16 (empty_segment 0)) (empty_segment 0) (first (rest_is_synced Segment0 old rest)) made synced rest in
+    let rested =
+    rest_after Segment0 old mid (IsRemade 16 (empty_segment 0)) (empty_segment 0)
+    (first (rest_is_synced Segment0 old rest)) made synced rest in
     let segment1 : mid.seen.segment1 ≡ old.seen.segment1 = ap (λ (s : Slots). s.segment1) made in
     same_after old mid new (first_segment_same old mid rest unused is_new gates first)
-    (same_by_one old.seen mid.seen opening_state (fresh_recovered old.seen (unused_fresh old.seen unused is_new)) (fresh_recovered mid.seen fresh))
-    (first_image_after mid new (open_image 0 (image_encoding opening_state)) rested fresh (ap (λ (s : Slots). s.segment0) made) (subst HasLastGate (sym segment1) gates.1) holds
+    (same_by_one old.seen mid.seen opening_state (fresh_recovered old.seen (unused_fresh old.seen unused is_new))
+    (fresh_recovered mid.seen fresh))
+    (first_image_after mid new (open_image 0 (image_encoding opening_state)) rested fresh
+    (ap (λ (s : Slots). s.segment0) made) (subst HasLastGate (sym segment1) gates.1) holds
     (subst (WritesImage mid new) is second))
 
-pub first_kept : (old mid new : View) (image : ImageValue) (segment : Segment) → IsAtRest old → IsUnused old.seen → IsNew (as_written old.seen) → OpeningImage image → HoldsImage 0 (open_image 0 (image_encoding opening_state)) opening_state
-    → (IsSynced old Segment0 → Passes old mid (Follows old Segment0 (IsRemade 16 (empty_segment 0)))) → mid.seen ≡ with_slot old.seen Segment0 (empty_segment 0) → IsSynced mid Segment0 → segment ≡ record { epoch = 0; records = 0 }
-    → WritesImage mid new image → new.seen ≡ with_slot mid.seen (image_slot image.epoch) (open_image image.epoch image.encoding) → IsSynced new (image_slot image.epoch) → IsKept new segment opening_state
+pub first_kept : (old mid new : View) (image : ImageValue) (segment : Segment) → IsAtRest old → IsUnused old.seen
+    → IsNew (as_written old.seen) → OpeningImage image
+    → HoldsImage 0 (open_image 0 (image_encoding opening_state)) opening_state
+    → (IsSynced old Segment0 → Passes old mid (Follows old Segment0 (IsRemade 16 (empty_segment 0))))
+    → mid.seen ≡ with_slot old.seen Segment0 (empty_segment 0) → IsSynced mid Segment0
+    → segment ≡ record { epoch = 0; records = 0 }
+    → WritesImage mid new image → new.seen
+    ≡ with_slot mid.seen (image_slot image.epoch) (open_image image.epoch image.encoding)
+    → IsSynced new (image_slot image.epoch) → IsKept new segment opening_state
 first_kept old mid new image segment rest unused is_new is holds first made synced zeros second written stays =
     let content : List ℕ = open_image 0 (image_encoding opening_state) in
     let fresh = made_fresh old.seen mid.seen unused is_new made in
-    let rested = rest_after Segment0 old mid (IsRemade 16 (empty_segment 0)) (empty_segment 0) (first (rest_is_synced Segment0 old rest)) made synced rest in
-    let at : new.seen ≡ with_slot mid.seen Image0 content = subst (λ (i : ImageValue). new.seen ≡ with_slot mid.seen (image_slot i.epoch) (open_image i.epoch i.encoding)) is written in
+    let rested =
+    rest_after Segment0 old mid (IsRemade 16 (empty_segment 0)) (empty_segment 0)
+    (first (rest_is_synced Segment0 old rest)) made synced rest in
+    let at : new.seen ≡ with_slot mid.seen Image0 content =
+    subst (λ (i : ImageValue). new.seen ≡ with_slot mid.seen (image_slot i.epoch) (open_image i.epoch i.encoding))
+    is written in
     let there : IsSynced new Image0 = subst (λ (i : ImageValue). IsSynced new (image_slot i.epoch)) is stays in
-    let time : Passes mid new (Follows mid Image0 (IsRemade 24 content)) = subst (WritesImage mid new) is second (rest_is_synced Image0 mid rested) in
+    let time : Passes mid new (Follows mid Image0 (IsRemade 24 content)) =
+    subst (WritesImage mid new) is second (rest_is_synced Image0 mid rested) in
     let segment0 : mid.seen.segment0 ≡ empty_segment 0 = ap (λ (s : Slots). s.segment0) made in
     subst (λ (g : Segment). IsKept new g opening_state) (sym zeros) (record {
       at_rest = rest_after Image0 mid new (IsRemade 24 content) content time at there rested;
       base = opening_state;
       records = [];
-      stands = subst (λ (s : Slots). InOne s 0 opening_state []) (sym at) (first_made mid.seen content fresh segment0 holds);
+      stands =
+          subst (λ (s : Slots). InOne s 0 opening_state []) (sym at) (first_made mid.seen content fresh segment0 holds);
       in_use = empty_in_use 0 new.seen.segment0 (ap (λ (s : Slots). s.segment0) at ∙ segment0);
       run = refl;
       counted = refl;
@@ -106,17 +142,26 @@ first_kept old mid new image segment rest unused is_new is holds first made sync
 
 -- the segment in this slot is ended
 abbrev EndsAt : View → View → Slot → ℕ → Type 0
-EndsAt mid new slot end = IsAtRest mid → end < length (slot_of mid.seen slot) → Passes mid new (DiffersIn mid.seen slot (λ after. take (end + 1) after ≡ take (end + 1) (slot_of mid.seen slot)))
+EndsAt mid new slot end =
+    IsAtRest mid → end < length (slot_of mid.seen slot)
+    → Passes mid new (DiffersIn mid.seen slot
+    (λ after. take (end + 1) after ≡ take (end + 1) (slot_of mid.seen slot)))
 
-pub go_on_same : (old mid new : View) (e : ℕ) (slot : Slot) (state : State) (count end : ℕ) → slot ≡ segment_slot e → IsAtRest old → HaveLastGates old.seen → Passes old mid (MayLeave old) → mid.seen ≡ old.seen → OneParts old.seen e state count end
+pub go_on_same : (old mid new : View) (e : ℕ) (slot : Slot) (state : State) (count end : ℕ) → slot ≡ segment_slot e
+    → IsAtRest old → HaveLastGates old.seen → Passes old mid (MayLeave old) → mid.seen ≡ old.seen
+    → OneParts old.seen e state count end
     → EndsAt mid new slot end → Passes old new (StandForSame old.seen)
 go_on_same old mid new e slot state count end is rest gates still same parts ends =
     let rested = rest_kept old mid still same rest in
     still_then_same old mid new rest gates still same
-    (one_ending mid new e state count end rested (subst HaveLastGates (sym same) gates) (subst (λ (s : Slots). OneParts s e state count end) (sym same) parts) (subst (λ s. EndsAt mid new s end) is ends rested))
+    (one_ending mid new e state count end rested (subst HaveLastGates (sym same) gates)
+    (subst (λ (s : Slots). OneParts s e state count end) (sym same) parts)
+    (subst (λ s. EndsAt mid new s end) is ends rested))
 
-pub go_on_kept : (old mid new : View) (e : ℕ) (slot : Slot) (state : State) (count end : ℕ) → slot ≡ segment_slot e → mid.seen ≡ old.seen → OneParts old.seen e state count end → IsAtRest new
-    → new.seen ≡ with_slot mid.seen slot (take (end + 1) (slot_of mid.seen slot ++ closed_gate ∷ [])) → IsKept new (record { epoch = e; records = count }) state
+pub go_on_kept : (old mid new : View) (e : ℕ) (slot : Slot) (state : State) (count end : ℕ) → slot ≡ segment_slot e
+    → mid.seen ≡ old.seen → OneParts old.seen e state count end → IsAtRest new
+    → new.seen ≡ with_slot mid.seen slot (take (end + 1) (slot_of mid.seen slot ++ closed_gate ∷ []))
+    → IsKept new (record { epoch = e; records = count }) state
 go_on_kept old mid new e slot state count end is same parts rest ended =
     one_kept mid.seen new e state count end (subst (λ (s : Slots). OneParts s e state count end) (sym same) parts) rest
     (subst (λ s. new.seen ≡ with_slot mid.seen s (take (end + 1) (slot_of mid.seen s ++ closed_gate ∷ []))) is ended)
@@ -126,46 +171,77 @@ go_on_kept old mid new e slot state count end is same parts rest ended =
 abbrev NextContent : ℕ → State → List ℕ
 NextContent e base = open_image (e + 1) (image_encoding base)
 
-pub next_image_same : (old mid new : View) (e : ℕ) (base state : State) (image : ImageValue) (count end : ℕ) → image ≡ unwritten (e + 1) (image_encoding base) → IsAtRest old → HaveLastGates old.seen → Passes old mid (MayLeave old) → mid.seen ≡ old.seen
-    → NextParts old.seen e (NextContent e base) state count end → WritesImage mid new image → Passes old new (StandForSame old.seen)
+pub next_image_same : (old mid new : View) (e : ℕ) (base state : State) (image : ImageValue) (count end : ℕ)
+    → image ≡ unwritten (e + 1) (image_encoding base) → IsAtRest old → HaveLastGates old.seen
+    → Passes old mid (MayLeave old) → mid.seen ≡ old.seen
+    → NextParts old.seen e (NextContent e base) state count end → WritesImage mid new image
+    → Passes old new (StandForSame old.seen)
 next_image_same old mid new e base state image count end is rest gates still same parts writes =
     let rested = rest_kept old mid still same rest in
     still_then_same old mid new rest gates still same
-    (next_writing mid new e (NextContent e base) state count end rested (subst HaveLastGates (sym same) gates) (subst (λ (s : Slots). NextParts s e (NextContent e base) state count end) (sym same) parts)
+    (next_writing mid new e (NextContent e base) state count end rested (subst HaveLastGates (sym same) gates)
+    (subst (λ (s : Slots). NextParts s e (NextContent e base) state count end) (sym same) parts)
     (subst (WritesImage mid new) is writes (rest_is_synced (image_slot (e + 1)) mid rested)))
 
 -- the image was written
-next_rest : (mid written : View) (e : ℕ) (base : State) (image : ImageValue) → image ≡ unwritten (e + 1) (image_encoding base) → IsAtRest mid → WritesImage mid written image
-    → written.seen ≡ with_slot mid.seen (image_slot image.epoch) (open_image image.epoch image.encoding) → IsSynced written (image_slot image.epoch) → IsAtRest written
+next_rest : (mid written : View) (e : ℕ) (base : State) (image : ImageValue)
+    → image ≡ unwritten (e + 1) (image_encoding base) → IsAtRest mid → WritesImage mid written image
+    → written.seen ≡ with_slot mid.seen (image_slot image.epoch) (open_image image.epoch image.encoding)
+    → IsSynced written (image_slot image.epoch) → IsAtRest written
 next_rest mid written e base image is rested writes made synced =
-    rest_after (image_slot image.epoch) mid written (IsRemade 24 (open_image image.epoch image.encoding)) (open_image image.epoch image.encoding) (writes (rest_is_synced (image_slot image.epoch) mid rested)) made synced rested
+    rest_after (image_slot image.epoch) mid written (IsRemade 24 (open_image image.epoch image.encoding))
+    (open_image image.epoch image.encoding)
+    (writes (rest_is_synced (image_slot image.epoch) mid rested)) made synced rested
 
-pub next_end_same : (old mid written new : View) (e : ℕ) (base state : State) (image : ImageValue) (slot : Slot) (count end : ℕ) → image ≡ unwritten (e + 1) (image_encoding base) → slot ≡ segment_slot (e + 1) → IsAtRest old → HaveLastGates old.seen
-    → Passes old mid (MayLeave old) → mid.seen ≡ old.seen → NextParts old.seen e (NextContent e base) state count end → WritesImage mid written image
-    → written.seen ≡ with_slot mid.seen (image_slot image.epoch) (open_image image.epoch image.encoding) → IsSynced written (image_slot image.epoch) → EndsAt written new slot end → Passes old new (StandForSame old.seen)
-next_end_same old mid written new e base state image slot count end is at rest gates still same parts writes made synced ends =
+pub next_end_same : (old mid written new : View) (e : ℕ) (base state : State) (image : ImageValue) (slot : Slot)
+    (count end : ℕ) → image ≡ unwritten (e + 1) (image_encoding base) → slot ≡ segment_slot (e + 1) → IsAtRest old
+    → HaveLastGates old.seen
+    → Passes old mid (MayLeave old) → mid.seen ≡ old.seen → NextParts old.seen e (NextContent e base) state count end
+    → WritesImage mid written image
+    → written.seen ≡ with_slot mid.seen (image_slot image.epoch) (open_image image.epoch image.encoding)
+    → IsSynced written (image_slot image.epoch) → EndsAt written new slot end → Passes old new (StandForSame old.seen)
+next_end_same old mid written new e base state image slot count end is at rest gates still same parts writes made synced
+    ends =
     let rested = rest_kept old mid still same rest in
     let after = next_rest mid written e base image is rested writes made synced in
     let content : List ℕ = NextContent e base in
     still_then_same old mid new rest gates still same
-    (next_ending mid written new e content state count end rested after (subst HaveLastGates (sym same) gates) (subst (λ (s : Slots). NextParts s e content state count end) (sym same) parts)
-    (subst (λ (i : ImageValue). written.seen ≡ with_slot mid.seen (image_slot i.epoch) (open_image i.epoch i.encoding)) is made)
-    (subst (WritesImage mid written) is writes (rest_is_synced (image_slot (e + 1)) mid rested)) (subst (λ s. EndsAt written new s end) at ends after))
+    (next_ending mid written new e content state count end rested after (subst HaveLastGates (sym same) gates)
+    (subst (λ (s : Slots). NextParts s e content state count end) (sym same) parts)
+    (subst (λ (i : ImageValue). written.seen ≡ with_slot mid.seen (image_slot i.epoch) (open_image i.epoch i.encoding))
+    is made)
+    (subst (WritesImage mid written) is writes (rest_is_synced (image_slot (e + 1)) mid rested))
+    (subst (λ s. EndsAt written new s end) at ends after))
 
-pub next_kept : (old mid written new : View) (e : ℕ) (base state : State) (image : ImageValue) (slot : Slot) (count end : ℕ) → image ≡ unwritten (e + 1) (image_encoding base) → slot ≡ segment_slot (e + 1) → mid.seen ≡ old.seen
-    → NextParts old.seen e (NextContent e base) state count end → written.seen ≡ with_slot mid.seen (image_slot image.epoch) (open_image image.epoch image.encoding) → IsAtRest new
-    → new.seen ≡ with_slot written.seen slot (take (end + 1) (slot_of written.seen slot ++ closed_gate ∷ [])) → IsKept new (record { epoch = e + 1; records = count }) state
+pub next_kept : (old mid written new : View) (e : ℕ) (base state : State) (image : ImageValue) (slot : Slot)
+    (count end : ℕ) → image ≡ unwritten (e + 1) (image_encoding base) → slot ≡ segment_slot (e + 1)
+    → mid.seen ≡ old.seen
+    → NextParts old.seen e (NextContent e base) state count end
+    → written.seen ≡ with_slot mid.seen (image_slot image.epoch) (open_image image.epoch image.encoding) → IsAtRest new
+    → new.seen ≡ with_slot written.seen slot (take (end + 1) (slot_of written.seen slot ++ closed_gate ∷ []))
+    → IsKept new (record { epoch = e + 1; records = count }) state
 next_kept old mid written new e base state image slot count end is at same parts made rest ended =
     let content : List ℕ = NextContent e base in
-    let one = next_written mid.seen written.seen e content state count end (subst (λ (s : Slots). NextParts s e content state count end) (sym same) parts)
-    (subst (λ (i : ImageValue). written.seen ≡ with_slot mid.seen (image_slot i.epoch) (open_image i.epoch i.encoding)) is made) in
-    one_kept written.seen new (e + 1) state count end one rest (subst (λ s. new.seen ≡ with_slot written.seen s (take (end + 1) (slot_of written.seen s ++ closed_gate ∷ []))) at ended)
+    let one =
+    next_written mid.seen written.seen e content state count end
+    (subst (λ (s : Slots). NextParts s e content state count end) (sym same) parts)
+    (subst (λ (i : ImageValue). written.seen ≡ with_slot mid.seen (image_slot i.epoch) (open_image i.epoch i.encoding))
+    is made) in
+    one_kept written.seen new (e + 1) state count end one rest
+    (subst (λ s. new.seen ≡ with_slot written.seen s (take (end + 1) (slot_of written.seen s ++ closed_gate ∷ [])))
+    at ended)
 
-pub rested_after_image : (old mid written : View) (e : ℕ) (base : State) (image : ImageValue) → image ≡ unwritten (e + 1) (image_encoding base) → IsAtRest old → Passes old mid (MayLeave old) → mid.seen ≡ old.seen → WritesImage mid written image
-    → written.seen ≡ with_slot mid.seen (image_slot image.epoch) (open_image image.epoch image.encoding) → IsSynced written (image_slot image.epoch) → IsAtRest written
-rested_after_image old mid written e base image is rest still same writes made synced = next_rest mid written e base image is (rest_kept old mid still same rest) writes made synced
+pub rested_after_image : (old mid written : View) (e : ℕ) (base : State) (image : ImageValue)
+    → image ≡ unwritten (e + 1) (image_encoding base) → IsAtRest old → Passes old mid (MayLeave old)
+    → mid.seen ≡ old.seen → WritesImage mid written image
+    → written.seen ≡ with_slot mid.seen (image_slot image.epoch) (open_image image.epoch image.encoding)
+    → IsSynced written (image_slot image.epoch) → IsAtRest written
+rested_after_image old mid written e base image is rest still same writes made synced =
+    next_rest mid written e base image is (rest_kept old mid still same rest) writes made synced
 
 -- a crash while a store is kept leaves its state
-pub kept_recovered : (disk : View) (segment : Segment) (state : State) → IsKept disk segment state → (c : Slots) → MayLeave disk c → Recovered (as_written c) state
+pub kept_recovered : (disk : View) (segment : Segment) (state : State) → IsKept disk segment state → (c : Slots)
+    → MayLeave disk c → Recovered (as_written c) state
 kept_recovered disk segment state kept c left =
-    subst (λ (s : Slots). Recovered (as_written s) state) (sym (kept.at_rest c left)) (one_recovered disk.seen segment.epoch kept.base state kept.records kept.stands kept.run)
+    subst (λ (s : Slots). Recovered (as_written s) state) (sym (kept.at_rest c left))
+    (one_recovered disk.seen segment.epoch kept.base state kept.records kept.stands kept.run)

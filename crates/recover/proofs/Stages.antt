@@ -22,19 +22,32 @@ use Rattle.recover.proofs.Surveys.{each_number}
 
 -- what is recovered
 
-pub run_join : (old mid new : State) (records more : List Record) → Run old records mid → Run mid more new → Run old (records ++ more) new
+pub run_join : (old mid new : State) (records more : List Record) → Run old records mid → Run mid more new
+    → Run old (records ++ more) new
 run_join old mid new [] more first second = subst (λ (s : State). Run s more new) first second
-run_join old mid new (one ∷ records) more first second = (first.0, first.1, run_join first.0 mid new records more first.2 second)
+run_join old mid new (one ∷ records) more first second =
+    (first.0, first.1, run_join first.0 mid new records more first.2 second)
 
 -- slots from which one state is recovered stand for what other slots stand for from which the same state is recovered
-pub same_by_one : (s c : Slots) (state : State) → Recovered (as_written s) state → Recovered (as_written c) state → RecoverSame s c
-same_by_one s c state one other found is = subst (Recovered (as_written c)) (recovers_once (as_written s) state found one is) other
+pub same_by_one : (s c : Slots) (state : State) → Recovered (as_written s) state → Recovered (as_written c) state
+    → RecoverSame s c
+same_by_one s c state one other found is =
+    subst (Recovered (as_written c)) (recovers_once (as_written s) state found one is) other
 
-pub one_recovered : (s : Slots) (e : ℕ) (base state : State) (records : List Record) → InOne s e base records → Run base records state → Recovered (as_written s) state
-one_recovered s e base state records one run = record { base = base; records = records; encoded = one_encodes s e base records one; run = run }
+pub one_recovered : (s : Slots) (e : ℕ) (base state : State) (records : List Record) → InOne s e base records
+    → Run base records state → Recovered (as_written s) state
+one_recovered s e base state records one run =
+    record { base = base; records = records; encoded = one_encodes s e base records one; run = run }
 
-pub two_recovered : (s : Slots) (e : ℕ) (base mid state : State) (first next : List Record) → InTwo s e base first next → Run base first mid → Run mid next state → Recovered (as_written s) state
-two_recovered s e base mid state first next two run more = record { base = base; records = first ++ next; encoded = two_encodes s e base first next two; run = run_join base mid state first next run more }
+pub two_recovered : (s : Slots) (e : ℕ) (base mid state : State) (first next : List Record) → InTwo s e base first next
+    → Run base first mid → Run mid next state → Recovered (as_written s) state
+two_recovered s e base mid state first next two run more =
+    record {
+      base = base;
+      records = first ++ next;
+      encoded = two_encodes s e base first next two;
+      run = run_join base mid state first next run more;
+    }
 
 -- a store that was never in use
 
@@ -45,7 +58,17 @@ pub record IsFresh (s : Slots) : Type 0 where
   pub segment1 : IsOpen segment_header_length s.segment1 → ⊥
 
 abbrev no_records : (content : List ℕ) → IsClosed content → EncodesBatches content []
-no_records content shut = record { batches = []; rest = content; encoding = refl; closed = shut; none_empty = tt; flat = refl; canonical = tt; bounded = omega arith }
+no_records content shut =
+    record {
+      batches = [];
+      rest = content;
+      encoding = refl;
+      closed = shut;
+      none_empty = tt;
+      flat = refl;
+      canonical = tt;
+      bounded = omega arith;
+    }
 
 pub unused_fresh : (s : Slots) → IsUnused s → IsNew (as_written s) → IsFresh s
 unused_fresh s unused new = record {
@@ -54,34 +77,51 @@ unused_fresh s unused new = record {
   segment0 = λ is_open.
       let is = unused.first is_open in
       let shut = (new.unused 0 0 (omega arith) is_open is).1 in
-      record { content = is.rest; encoding = is.encoding; encoded = no_records is.rest (subst IsClosed (ap (λ (l : List ℕ). drop 16 l) is.encoding) shut) };
+      record {
+        content = is.rest;
+        encoding = is.encoding;
+        encoded = no_records is.rest (subst IsClosed (ap (λ (l : List ℕ). drop 16 l) is.encoding) shut);
+      };
   segment1 = unused.second;
 }
 
 -- no records are in no batches
 no_batches : (batches : List (List Record)) → NoneEmpty batches → [] ≡ all_records batches → batches ≡ []
 no_batches [] none is = refl
-no_batches (batch ∷ batches) none is = absurd (omega (arith, none.0, ap length is, length-append batch (all_records batches)))
+no_batches (batch ∷ batches) none is =
+    absurd (omega (arith, none.0, ap length is, length-append batch (all_records batches)))
 
 closed_after : (content : List ℕ) → EncodesBatches content [] → IsClosed content
 closed_after content encoded =
-    subst IsClosed (sym (encoded.encoding ∙ ap (λ (b : List (List Record)). batches_encoding 0 b ++ encoded.rest) (no_batches encoded.batches encoded.none_empty encoded.flat))) encoded.closed
+    subst IsClosed (sym (encoded.encoding ∙ ap
+    (λ (b : List (List Record)). batches_encoding 0 b ++ encoded.rest)
+    (no_batches encoded.batches encoded.none_empty encoded.flat))) encoded.closed
 
 of_epoch_0 : (slot : List ℕ) → EncodesSegment 0 slot [] → IsOfEpoch 0 0 slot
-of_epoch_0 slot encoded = record { rest = encoded.content; encoding = encoded.encoding; fits = omega arith; of_number = refl }
+of_epoch_0 slot encoded =
+    record { rest = encoded.content; encoding = encoded.encoding; fits = omega arith; of_number = refl }
 
 pub fresh_encodes : (s : Slots) → IsFresh s → Encodes (as_written s) opening_state []
 fresh_encodes s fresh = record {
-  headers = each_number (λ n. HasHeader image_header n ((as_written s).image n) × HasHeader segment_header_length n ((as_written s).segment n))
-      ((λ is_open. absurd (fresh.image0 is_open)), (λ is_open. (0, of_epoch_0 s.segment0 (fresh.segment0 is_open)))) ((λ is_open. absurd (fresh.image1 is_open)), (λ is_open. absurd (fresh.segment1 is_open)));
+  headers =
+      each_number (λ n. HasHeader image_header n ((as_written s).image n)
+      × HasHeader segment_header_length n ((as_written s).segment n))
+      ((λ is_open. absurd (fresh.image0 is_open)), (λ is_open. (0, of_epoch_0 s.segment0 (fresh.segment0 is_open))))
+      ((λ is_open. absurd (fresh.image1 is_open)), (λ is_open. absurd (fresh.segment1 is_open)));
   reading = inl (
     record {
       no_image = each_number (λ n. IsOpen image_header ((as_written s).image n) → ⊥) fresh.image0 fresh.image1;
-      unused = λ (number epoch : ℕ) (small : _). each_number (λ n. IsOpen segment_header_length ((as_written s).segment n) → IsOfEpoch n epoch ((as_written s).segment n)
+      unused =
+          λ (number epoch : ℕ) (small : _). each_number
+          (λ n. IsOpen segment_header_length ((as_written s).segment n)
+          → IsOfEpoch n epoch ((as_written s).segment n)
           → (epoch ≡ 0) × IsClosed (drop segment_header_length ((as_written s).segment n)))
           (λ (is_open : _) (is : _).
-          let encoded = fresh.segment0 is_open in
-          (one_epoch epoch 0 is.rest encoded.content is.fits (omega arith) (sym is.encoding ∙ encoded.encoding), subst IsClosed (sym (ap (λ (l : List ℕ). drop 16 l) encoded.encoding)) (closed_after encoded.content encoded.encoded)))
+          let encoded = fresh.segment0 is_open in (
+            one_epoch epoch 0 is.rest encoded.content is.fits (omega arith) (sym is.encoding ∙ encoded.encoding),
+            subst IsClosed (sym (ap (λ (l : List ℕ). drop 16 l) encoded.encoding))
+                (closed_after encoded.content encoded.encoded),
+          ))
           (λ (is_open : _) (_ : _). absurd (fresh.segment1 is_open)) number small;
     },
     refl,
@@ -95,18 +135,27 @@ fresh_recovered s fresh = record { base = opening_state; records = []; encoded =
 -- it is made
 
 pub empty_encodes : (e : ℕ) (slot : List ℕ) → slot ≡ empty_segment e → EncodesSegment e slot []
-empty_encodes e slot is = record { content = closed_gate ∷ []; encoding = is; encoded = no_records (closed_gate ∷ []) (λ e. cc) }
+empty_encodes e slot is =
+    record { content = closed_gate ∷ []; encoding = is; encoded = no_records (closed_gate ∷ []) (λ e. cc) }
 
 pub empty_in_use : (e : ℕ) (slot : List ℕ) → slot ≡ empty_segment e → IsInUse e slot []
-empty_in_use e slot is = record { content = closed_gate ∷ []; encoding = is; encoded = no_records (closed_gate ∷ []) (λ e. cc); ended = refl }
+empty_in_use e slot is =
+    record {
+      content = closed_gate ∷ [];
+      encoding = is;
+      encoded = no_records (closed_gate ∷ []) (λ e. cc);
+      ended = refl;
+    }
 
-pub fresh_segment : (s : Slots) (x : List ℕ) → IsFresh s → IsRemade 16 (empty_segment 0) s.segment0 x → IsFresh (with_slot s Segment0 x)
+pub fresh_segment : (s : Slots) (x : List ℕ) → IsFresh s → IsRemade 16 (empty_segment 0) s.segment0 x
+    → IsFresh (with_slot s Segment0 x)
 fresh_segment s x fresh remade = record {
   image0 = fresh.image0;
   image1 = fresh.image1;
   segment0 = λ is_open. elim remade as (λ _. EncodesSegment 0 x []) [
     | inl closing ↦ elim closing as (λ _. EncodesSegment 0 x []) [
-      | inl same ↦ subst (λ l. EncodesSegment 0 l []) (sym same) (fresh.segment0 (subst (IsOpen segment_header_length) same is_open))
+      | inl same ↦ subst (λ l. EncodesSegment 0 l []) (sym same)
+          (fresh.segment0 (subst (IsOpen segment_header_length) same is_open))
       | inr shut ↦ absurd (shut is_open)
     ]
     | inr whole ↦ empty_encodes 0 x whole
@@ -114,14 +163,17 @@ fresh_segment s x fresh remade = record {
   segment1 = fresh.segment1;
 }
 
-pub segment_keeps_gate : (e : ℕ) (before x : List ℕ) → HasLastGate before → IsRemade 16 (empty_segment e) before x → HasLastGate x
+pub segment_keeps_gate : (e : ℕ) (before x : List ℕ) → HasLastGate before → IsRemade 16 (empty_segment e) before x
+    → HasLastGate x
 segment_keeps_gate e before x has remade = elim remade as (λ _. HasLastGate x) [
-  | inl closing ↦ elim closing as (λ _. HasLastGate x) [ inl same ↦ subst HasLastGate (sym same) has | inr shut ↦ shut_has_gate x shut ]
+  | inl closing ↦ elim closing as (λ _. HasLastGate x)
+      [ inl same ↦ subst HasLastGate (sym same) has | inr shut ↦ shut_has_gate x shut ]
   | inr whole ↦ empty_has_gate e x whole
 ]
 
 -- the first image stands in its slot
-pub first_made : (s : Slots) (x : List ℕ) → IsFresh s → s.segment0 ≡ empty_segment 0 → HoldsImage 0 x opening_state → InOne (with_slot s Image0 x) 0 opening_state []
+pub first_made : (s : Slots) (x : List ℕ) → IsFresh s → s.segment0 ≡ empty_segment 0 → HoldsImage 0 x opening_state
+    → InOne (with_slot s Image0 x) 0 opening_state []
 first_made s x fresh segment image = record {
   fits = omega arith;
   image = image;
@@ -130,36 +182,49 @@ first_made s x fresh segment image = record {
   other_segment = inl fresh.segment1;
 }
 
-pub fresh_image : (s : Slots) (x content : List ℕ) → IsFresh s → s.segment0 ≡ empty_segment 0 → HoldsImage 0 content opening_state → IsRemade 24 content s.image0 x → Recovered (as_written (with_slot s Image0 x)) opening_state
-fresh_image s x content fresh segment image remade = elim remade as (λ _. Recovered (as_written (with_slot s Image0 x)) opening_state) [
-  | inl closing ↦ fresh_recovered (with_slot s Image0 x) (record {
-    image0 = λ is_open. elim closing as (λ _. ⊥) [ inl same ↦ fresh.image0 (subst (IsOpen image_header) same is_open) | inr shut ↦ shut is_open ];
-    image1 = fresh.image1;
-    segment0 = fresh.segment0;
-    segment1 = fresh.segment1;
-  })
-  | inr whole ↦ one_recovered (with_slot s Image0 x) 0 opening_state opening_state [] (first_made s x fresh segment (subst (λ l. HoldsImage 0 l opening_state) (sym whole) image)) refl
-]
+pub fresh_image : (s : Slots) (x content : List ℕ) → IsFresh s → s.segment0 ≡ empty_segment 0
+    → HoldsImage 0 content opening_state → IsRemade 24 content s.image0 x
+    → Recovered (as_written (with_slot s Image0 x)) opening_state
+fresh_image s x content fresh segment image remade =
+    elim remade as (λ _. Recovered (as_written (with_slot s Image0 x)) opening_state) [
+      | inl closing ↦ fresh_recovered (with_slot s Image0 x) (record {
+        image0 =
+            λ is_open. elim closing as (λ _. ⊥)
+            [ inl same ↦ fresh.image0 (subst (IsOpen image_header) same is_open) | inr shut ↦ shut is_open ];
+        image1 = fresh.image1;
+        segment0 = fresh.segment0;
+        segment1 = fresh.segment1;
+      })
+      | inr whole ↦ one_recovered (with_slot s Image0 x) 0 opening_state opening_state []
+          (first_made s x fresh segment (subst (λ l. HoldsImage 0 l opening_state) (sym whole) image)) refl
+    ]
 
 -- a checkpoint that is finished
 
-pub next_image : (s : Slots) (e : ℕ) (base mid state : State) (first next : List Record) (x content : List ℕ) → InTwo s e base first next → Run base first mid → Run mid next state
-    → HoldsImage (e + 1) content mid → IsRemade 24 content (slot_of s (image_slot (e + 1))) x → Recovered (as_written (with_slot s (image_slot (e + 1)) x)) state
-next_image s e base mid state first next x content two run more image remade = elim remade as (λ _. Recovered (as_written (with_slot s (image_slot (e + 1)) x)) state) [
-  | inl closing ↦ two_recovered (with_slot s (image_slot (e + 1)) x) e base mid state first next
-      (two_image_changed s e base first next x two (closing_image e (slot_of s (image_slot (e + 1))) x closing two.other_image)) run more
-  | inr whole ↦ one_recovered (with_slot s (image_slot (e + 1)) x) (e + 1) mid state next
-      (two_finished s e base mid first next x two (subst (λ l. HoldsImage (e + 1) l mid) (sym whole) image)) more
-]
+pub next_image : (s : Slots) (e : ℕ) (base mid state : State) (first next : List Record) (x content : List ℕ)
+    → InTwo s e base first next → Run base first mid → Run mid next state
+    → HoldsImage (e + 1) content mid → IsRemade 24 content (slot_of s (image_slot (e + 1))) x
+    → Recovered (as_written (with_slot s (image_slot (e + 1)) x)) state
+next_image s e base mid state first next x content two run more image remade =
+    elim remade as (λ _. Recovered (as_written (with_slot s (image_slot (e + 1)) x)) state) [
+      | inl closing ↦ two_recovered (with_slot s (image_slot (e + 1)) x) e base mid state first next
+          (two_image_changed s e base first next x two
+          (closing_image e (slot_of s (image_slot (e + 1))) x closing two.other_image)) run more
+      | inr whole ↦ one_recovered (with_slot s (image_slot (e + 1)) x) (e + 1) mid state next
+          (two_finished s e base mid first next x two (subst (λ l. HoldsImage (e + 1) l mid) (sym whole) image)) more
+    ]
 
 -- a segment that is ended after its batches
 
 -- of what stands after the batches a closed gate is left, or one is put there
-gate_after : (rest : List ℕ) → IsClosed rest → IsClosed (take 1 (rest ++ closed_gate ∷ [])) × (length (take 1 (rest ++ closed_gate ∷ [])) ≡ 1)
+gate_after : (rest : List ℕ) → IsClosed rest → IsClosed (take 1 (rest ++ closed_gate ∷ []))
+    × (length (take 1 (rest ++ closed_gate ∷ [])) ≡ 1)
 gate_after [] is = (λ e. cc, refl)
 gate_after (gate ∷ rest) is = (is, refl)
 
-pub ended_in_use : (e : ℕ) (segment batches new : List ℕ) (records : List Record) (size end : ℕ) → segment ≡ segment_header open_gate e ++ batches → EncodesCounted batches records size → end ≡ 16 + size → new ≡ take (end + 1) (segment ++ closed_gate ∷ [])
+pub ended_in_use : (e : ℕ) (segment batches new : List ℕ) (records : List Record) (size end : ℕ)
+    → segment ≡ segment_header open_gate e ++ batches → EncodesCounted batches records size → end ≡ 16 + size
+    → new ≡ take (end + 1) (segment ++ closed_gate ∷ [])
     → IsInUse e new records
 ended_in_use e segment batches new records size end is counted placed cut =
     let encoded = counted.encoded in
@@ -167,12 +232,17 @@ ended_in_use e segment batches new records size end is counted placed cut =
     let encoding : List ℕ = batches_encoding 0 encoded.batches in
     let tail : List ℕ = take 1 (encoded.rest ++ closed_gate ∷ []) in
     let gate = gate_after encoded.rest encoded.closed in
-    let sized : size ≡ length encoding = omega (arith, counted.sized, ap length encoded.encoding, length-append encoding encoded.rest) in
+    let sized : size ≡ length encoding =
+    omega (arith, counted.sized, ap length encoded.encoding, length-append encoding encoded.rest) in
     let joined : segment ++ closed_gate ∷ [] ≡ (header ++ encoding) ++ (encoded.rest ++ closed_gate ∷ []) =
-    ap (λ l. l ++ closed_gate ∷ []) (is ∙ ap (λ l. header ++ l) encoded.encoding ∙ sym (append_assoc header encoding encoded.rest)) ∙ append_assoc (header ++ encoding) encoded.rest (closed_gate ∷ []) in
-    let long : end + 1 ≡ length (header ++ encoding) + 1 = omega (arith, placed, sized, length-append header encoding) in
+    ap (λ l. l ++ closed_gate ∷ [])
+    (is ∙ ap (λ l. header ++ l) encoded.encoding ∙ sym (append_assoc header encoding encoded.rest))
+    ∙ append_assoc (header ++ encoding) encoded.rest (closed_gate ∷ []) in
+    let long : end + 1 ≡ length (header ++ encoding) + 1 =
+    omega (arith, placed, sized, length-append header encoding) in
     let left : new ≡ header ++ (encoding ++ tail) =
-    cut ∙ (λ i. take (long i) (joined i)) ∙ take-append-add (header ++ encoding) (encoded.rest ++ closed_gate ∷ []) 1 ∙ append_assoc header encoding tail in
+    cut ∙ (λ i. take (long i) (joined i)) ∙ take-append-add (header ++ encoding) (encoded.rest ++ closed_gate ∷ []) 1
+    ∙ append_assoc header encoding tail in
     record {
       content = encoding ++ tail;
       encoding = left;
@@ -189,8 +259,10 @@ ended_in_use e segment batches new records size end is counted placed cut =
       ended = gate.1;
     }
 
-pub in_use_encodes : (e : ℕ) (segment : List ℕ) (records : List Record) → IsInUse e segment records → EncodesSegment e segment records
-in_use_encodes e segment records used = record { content = used.content; encoding = used.encoding; encoded = used.encoded }
+pub in_use_encodes : (e : ℕ) (segment : List ℕ) (records : List Record) → IsInUse e segment records
+    → EncodesSegment e segment records
+in_use_encodes e segment records used =
+    record { content = used.content; encoding = used.encoding; encoded = used.encoded }
 
 some_with_tail : (rest tail : List ℕ) → 0 < length rest → 0 < length (take 1 rest ++ tail)
 some_with_tail [] tail some = absurd (omega (arith, some))
@@ -200,20 +272,28 @@ gate_and_tail : (rest tail : List ℕ) → 0 < length rest → IsClosed rest →
 gate_and_tail [] tail some shut = absurd (omega (arith, some))
 gate_and_tail (gate ∷ rest) tail some shut = shut
 
-pub cut_encodes : (e : ℕ) (segment batches after : List ℕ) (records : List Record) (size end : ℕ) → segment ≡ segment_header open_gate e ++ batches → (counted : EncodesCounted batches records size) → end ≡ 16 + size → 0 < length counted.encoded.rest
-    → take (end + 1) after ≡ take (end + 1) segment → (known : EncodesSegment e after records) × (0 < length known.encoded.rest)
+pub cut_encodes : (e : ℕ) (segment batches after : List ℕ) (records : List Record) (size end : ℕ)
+    → segment ≡ segment_header open_gate e ++ batches → (counted : EncodesCounted batches records size)
+    → end ≡ 16 + size → 0 < length counted.encoded.rest
+    → take (end + 1) after ≡ take (end + 1) segment → (known : EncodesSegment e after records)
+    × (0 < length known.encoded.rest)
 cut_encodes e segment batches after records size end is counted placed some same =
     let encoded = counted.encoded in
     let header : List ℕ = segment_header open_gate e in
     let encoding : List ℕ = batches_encoding 0 encoded.batches in
     let tail : List ℕ = drop (end + 1) after in
-    let sized : size ≡ length encoding = omega (arith, counted.sized, ap length encoded.encoding, length-append encoding encoded.rest) in
-    let joined : segment ≡ (header ++ encoding) ++ encoded.rest = is ∙ ap (λ l. header ++ l) encoded.encoding ∙ sym (append_assoc header encoding encoded.rest) in
-    let long : end + 1 ≡ length (header ++ encoding) + 1 = omega (arith, placed, sized, length-append header encoding) in
+    let sized : size ≡ length encoding =
+    omega (arith, counted.sized, ap length encoded.encoding, length-append encoding encoded.rest) in
+    let joined : segment ≡ (header ++ encoding) ++ encoded.rest =
+    is ∙ ap (λ l. header ++ l) encoded.encoding ∙ sym (append_assoc header encoding encoded.rest) in
+    let long : end + 1 ≡ length (header ++ encoding) + 1 =
+    omega (arith, placed, sized, length-append header encoding) in
     let front : take (end + 1) after ≡ (header ++ encoding) ++ take 1 encoded.rest =
     same ∙ (λ i. take (long i) (joined i)) ∙ take-append-add (header ++ encoding) encoded.rest 1 in
     let whole : after ≡ header ++ (encoding ++ (take 1 encoded.rest ++ tail)) =
-    sym (take-append-drop (end + 1) after) ∙ ap (λ l. l ++ tail) front ∙ append_assoc (header ++ encoding) (take 1 encoded.rest) tail ∙ append_assoc header encoding (take 1 encoded.rest ++ tail) in (
+    sym (take-append-drop (end + 1) after) ∙ ap (λ l. l ++ tail) front
+    ∙ append_assoc (header ++ encoding) (take 1 encoded.rest) tail
+    ∙ append_assoc header encoding (take 1 encoded.rest ++ tail) in (
       record {
         content = encoding ++ (take 1 encoded.rest ++ tail);
         encoding = whole;

@@ -12,11 +12,15 @@ use Rattle.recover.specs.Replayed.{Replays, ReplaysAll}
 
 -- What is left to be replayed from here on, in this state, is what was to be replayed at first.
 pub record IsLeft (segment : List ℕ) (first place : Place) (old now : State) : Type 0 where
-  pub same : (state : State) (count end : ℕ) → Replays segment place now state count end ↔ Replays segment first old state count end
+  pub same : (state : State) (count end : ℕ)
+      → Replays segment place now state count end ↔ Replays segment first old state count end
 
 -- the records after the first, from the state after it
-behind : (segment : List ℕ) (place next : Place) (entry : Record) (now mid state : State) (records more : List Record) (count end : ℕ) → records ≡ entry ∷ more → EncodesFrom segment next more end
-    → ((other : State) → Step now entry.space entry.call entry.reply other → other ≡ mid) → next.number ≡ place.number + 1 → Run now records state → count ≡ place.number + length records → Replays segment next mid state count end
+behind : (segment : List ℕ) (place next : Place) (entry : Record) (now mid state : State) (records more : List Record)
+    (count end : ℕ) → records ≡ entry ∷ more → EncodesFrom segment next more end
+    → ((other : State) → Step now entry.space entry.call entry.reply other → other ≡ mid)
+    → next.number ≡ place.number + 1 → Run now records state → count ≡ place.number + length records
+    → Replays segment next mid state count end
 behind segment place next entry now mid state records more count end are encoded only numbered run counted =
     let first : Run now (entry ∷ more) state = subst (λ (l : List Record). Run now l state) are run in
     record {
@@ -26,8 +30,11 @@ behind segment place next entry now mid state records more count end are encoded
       counted = omega (arith, ap length are);
     }
 
-pub left_on : (segment : List ℕ) (first place next : Place) (entry : Record) (old now mid : State) → IsLeft segment first place old now → Leads segment place entry next → next.number ≡ place.number + 1
-    → Step now entry.space entry.call entry.reply mid → ((other : State) → Step now entry.space entry.call entry.reply other → other ≡ mid) → IsLeft segment first next old mid
+pub left_on : (segment : List ℕ) (first place next : Place) (entry : Record) (old now mid : State)
+    → IsLeft segment first place old now → Leads segment place entry next → next.number ≡ place.number + 1
+    → Step now entry.space entry.call entry.reply mid
+    → ((other : State) → Step now entry.space entry.call entry.reply other → other ≡ mid)
+    → IsLeft segment first next old mid
 left_on segment first place next entry old now mid so_far leads numbered step only = record {
   same = λ state count end. (
     λ r. (so_far.same state count end).0 (record {
@@ -39,13 +46,16 @@ left_on segment first place next entry old now mid so_far leads numbered step on
     λ r.
         let here = (so_far.same state count end).1 r in
         let apart = (leads.on here.records end).0 here.encoded in
-        behind segment place next entry now mid state here.records apart.0 count end apart.1 apart.2 only numbered here.run here.counted,
+        behind segment place next entry now mid state here.records apart.0 count end apart.1 apart.2 only numbered
+        here.run here.counted,
   );
 }
 
 -- a record that isn't a step
-pub none_left : (segment : List ℕ) (first place next : Place) (entry : Record) (old now : State) → IsLeft segment first place old now → Leads segment place entry next
-    → ((new : State) → Step now entry.space entry.call entry.reply new → ⊥) → (state : State) (count end : ℕ) → Replays segment first old state count end → ⊥
+pub none_left : (segment : List ℕ) (first place next : Place) (entry : Record) (old now : State)
+    → IsLeft segment first place old now → Leads segment place entry next
+    → ((new : State) → Step now entry.space entry.call entry.reply new → ⊥) → (state : State) (count end : ℕ)
+    → Replays segment first old state count end → ⊥
 none_left segment first place next entry old now so_far leads fails state count end r =
     let here = (so_far.same state count end).1 r in
     let apart = (leads.on here.records end).0 here.encoded in
@@ -53,43 +63,66 @@ none_left segment first place next entry old now so_far leads fails state count 
     fails run.0 run.1
 
 -- bytes that encode nothing
-pub unread : (segment : List ℕ) (first place : Place) (old now : State) → IsLeft segment first place old now → IsNothing segment place → (state : State) (count end : ℕ) → Replays segment first old state count end → ⊥
+pub unread : (segment : List ℕ) (first place : Place) (old now : State) → IsLeft segment first place old now
+    → IsNothing segment place → (state : State) (count end : ℕ) → Replays segment first old state count end → ⊥
 unread segment first place old now so_far nothing state count end r =
     let here = (so_far.same state count end).1 r in nothing here.records end here.encoded
 
 -- no record is left
-pub all_replayed : (segment : List ℕ) (first place : Place) (old now : State) → IsLeft segment first place old now → IsLast segment place → Replays segment first old now place.number place.at
+pub all_replayed : (segment : List ℕ) (first place : Place) (old now : State) → IsLeft segment first place old now
+    → IsLast segment place → Replays segment first old now place.number place.at
 all_replayed segment first place old now so_far last =
-    (so_far.same now place.number place.at).0 (record { records = []; encoded = last; run = refl; counted = omega arith })
+    (so_far.same now place.number place.at).0
+    (record { records = []; encoded = last; run = refl; counted = omega arith })
 
 -- where a reader begins
 abbrev pub first_place : ℕ → Place
 first_place batches = record { at = batches; number = 0; left = 0; size = 0 }
 
-counted_from : (segment : List ℕ) (batches end : ℕ) (records batch : List Record) (all : List (List Record)) (tail : List ℕ) → batches ≤ length segment → length batch ≡ 0 → drop batches segment ≡ records_encoding 0 batch ++ (batches_encoding (0 + length batch) all ++ tail)
-    → IsClosed tail → NoneEmpty all → records ≡ batch ++ all_records all → AreRecords records → length records ≤ MAX_RECORDS → end + length tail ≡ length segment
+counted_from : (segment : List ℕ) (batches end : ℕ) (records batch : List Record) (all : List (List Record))
+    (tail : List ℕ) → batches ≤ length segment → length batch ≡ 0
+    → drop batches segment ≡ records_encoding 0 batch ++ (batches_encoding (0 + length batch) all ++ tail)
+    → IsClosed tail → NoneEmpty all → records ≡ batch ++ all_records all → AreRecords records
+    → length records ≤ MAX_RECORDS → end + length tail ≡ length segment
     → EncodesCounted (drop batches segment) records (end - batches) × (batches ≤ end) × (end ≤ length segment)
-counted_from segment batches end records (first ∷ batch) all tail inside none encoding closed some flat are room ended = absurd (omega arith)
+counted_from segment batches end records (first ∷ batch) all tail inside none encoding closed some flat are room ended =
+    absurd (omega arith)
 counted_from segment batches end records [] all tail inside none encoding closed some flat are room ended =
-    let long : length (drop batches segment) ≡ length (batches_encoding 0 all) + length tail = ap length encoding ∙ length-append (batches_encoding 0 all) tail in
+    let long : length (drop batches segment) ≡ length (batches_encoding 0 all) + length tail =
+    ap length encoding ∙ length-append (batches_encoding 0 all) tail in
     let left : length (drop batches segment) ≡ length segment - batches = length-drop batches segment in (
       record {
-        encoded = record { batches = all; rest = tail; encoding = encoding; closed = closed; none_empty = some; flat = flat; canonical = are; bounded = room };
+        encoded =
+            record {
+              batches = all;
+              rest = tail;
+              encoding = encoding;
+              closed = closed;
+              none_empty = some;
+              flat = flat;
+              canonical = are;
+              bounded = room;
+            };
         sized = omega arith;
       },
       omega arith,
       omega arith,
     )
 
-pub counted_first : (segment : List ℕ) (batches end : ℕ) (records : List Record) → batches ≤ length segment → EncodesFrom segment (first_place batches) records end
+pub counted_first : (segment : List ℕ) (batches end : ℕ) (records : List Record) → batches ≤ length segment
+    → EncodesFrom segment (first_place batches) records end
     → EncodesCounted (drop batches segment) records (end - batches) × (batches ≤ end) × (end ≤ length segment)
 counted_first segment batches end records inside encodes =
-    counted_from segment batches end records encodes.batch encodes.batches encodes.tail inside encodes.counted encodes.encoding encodes.closed encodes.none_empty encodes.flat encodes.canonical (omega (arith, encodes.bounded)) encodes.ended
+    counted_from segment batches end records encodes.batch encodes.batches encodes.tail inside encodes.counted
+    encodes.encoding encodes.closed encodes.none_empty encodes.flat encodes.canonical
+    (omega (arith, encodes.bounded)) encodes.ended
 
-pub first_encodes : (segment : List ℕ) (batches : ℕ) (records : List Record) → batches ≤ length segment → (encoded : EncodesBatches (drop batches segment) records)
+pub first_encodes : (segment : List ℕ) (batches : ℕ) (records : List Record) → batches ≤ length segment
+    → (encoded : EncodesBatches (drop batches segment) records)
     → EncodesFrom segment (first_place batches) records (length segment - length encoded.rest)
 first_encodes segment batches records inside encoded =
-    let long : length (drop batches segment) ≡ length (batches_encoding 0 encoded.batches) + length encoded.rest = ap length encoded.encoding ∙ length-append (batches_encoding 0 encoded.batches) encoded.rest in
+    let long : length (drop batches segment) ≡ length (batches_encoding 0 encoded.batches) + length encoded.rest =
+    ap length encoded.encoding ∙ length-append (batches_encoding 0 encoded.batches) encoded.rest in
     record {
       batch = [];
       batches = encoded.batches;
@@ -105,13 +138,29 @@ first_encodes segment batches records inside encoded =
       ended = omega (arith, length-drop batches segment);
     }
 
-pub never_replayed : (segment : List ℕ) (batches : ℕ) (old : State) → batches ≤ length segment → ((state : State) (count end : ℕ) → Replays segment (first_place batches) old state count end → ⊥)
-    → (records : List Record) (state : State) → EncodesBatches (drop batches segment) records → Run old records state → ⊥
+pub never_replayed : (segment : List ℕ) (batches : ℕ) (old : State) → batches ≤ length segment
+    → ((state : State) (count end : ℕ) → Replays segment (first_place batches) old state count end → ⊥)
+    → (records : List Record) (state : State) → EncodesBatches (drop batches segment) records → Run old records state
+    → ⊥
 never_replayed segment batches old inside none records state encoded run =
-    none state (length records) (length segment - length encoded.rest) (record { records = records; encoded = first_encodes segment batches records inside encoded; run = run; counted = omega arith })
+    none state (length records) (length segment - length encoded.rest)
+    (record {
+      records = records;
+      encoded = first_encodes segment batches records inside encoded;
+      run = run;
+      counted = omega arith;
+    })
 
 -- all that was replayed, from the first batch on
-pub replayed_all : (segment : List ℕ) (old new : State) (count end : ℕ) → 16 ≤ length segment → Replays segment (first_place 16) old new count end → ReplaysAll segment old new count end
+pub replayed_all : (segment : List ℕ) (old new : State) (count end : ℕ) → 16 ≤ length segment
+    → Replays segment (first_place 16) old new count end → ReplaysAll segment old new count end
 replayed_all segment old new count end inside replays =
     let counted = counted_first segment 16 end replays.records inside replays.encoded in
-    record { records = replays.records; encoded = counted.0; run = replays.run; counted = omega (arith, replays.counted); behind = counted.1; inside = counted.2 }
+    record {
+      records = replays.records;
+      encoded = counted.0;
+      run = replays.run;
+      counted = omega (arith, replays.counted);
+      behind = counted.1;
+      inside = counted.2;
+    }

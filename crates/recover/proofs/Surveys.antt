@@ -27,8 +27,10 @@ pub record TellOf (s : Slots) (e : ℕ) (a b c d : Option ℕ) : Type 0 where
 -- the same for two numbers that are 0 and 1
 abbrev pub TellBy : Slots → Option ℕ → Option ℕ → Option ℕ → Option ℕ → ℕ → ℕ → Type 0
 TellBy s a b c d n m =
-    Tells image_header n (slot_of s (if n == 0 then Image0 else Image1)) a × Tells image_header m (slot_of s (if m == 0 then Image0 else Image1)) b
-    × Tells segment_header_length n (slot_of s (if n == 0 then Segment0 else Segment1)) c × Tells segment_header_length m (slot_of s (if m == 0 then Segment0 else Segment1)) d
+    Tells image_header n (slot_of s (if n == 0 then Image0 else Image1)) a
+    × Tells image_header m (slot_of s (if m == 0 then Image0 else Image1)) b
+    × Tells segment_header_length n (slot_of s (if n == 0 then Segment0 else Segment1)) c
+    × Tells segment_header_length m (slot_of s (if m == 0 then Segment0 else Segment1)) d
 
 tell_of : (s : Slots) (e : ℕ) (a b c d : Option ℕ) → TellBy s a b c d (e % 2) ((e + 1) % 2) → TellOf s e a b c d
 tell_of s e a b c d t = record { image = t.0; other_image = t.1; segment = t.2; other_segment = t.3 }
@@ -36,27 +38,36 @@ tell_of s e a b c d t = record { image = t.0; other_image = t.1; segment = t.2; 
 pub tell_even : (s : Slots) (e : ℕ) (a b c d : Option ℕ) → e % 2 ≡ 0 → TellAll s a b c d → TellOf s e a b c d
 tell_even s e a b c d even t =
     let odd : (e + 1) % 2 ≡ 1 = omega arith in
-    tell_of s e a b c d (subst (λ n. TellBy s a b c d n ((e + 1) % 2)) (sym even) (subst (λ m. TellBy s a b c d 0 m) (sym odd) (t.image0, t.image1, t.segment0, t.segment1)))
+    tell_of s e a b c d (subst (λ n. TellBy s a b c d n ((e + 1) % 2)) (sym even)
+    (subst (λ m. TellBy s a b c d 0 m) (sym odd) (t.image0, t.image1, t.segment0, t.segment1)))
 
 pub tell_odd : (s : Slots) (e : ℕ) (a b c d : Option ℕ) → e % 2 ≡ 1 → TellAll s a b c d → TellOf s e b a d c
 tell_odd s e a b c d odd t =
     let even : (e + 1) % 2 ≡ 0 = omega arith in
-    tell_of s e b a d c (subst (λ n. TellBy s b a d c n ((e + 1) % 2)) (sym odd) (subst (λ m. TellBy s b a d c 1 m) (sym even) (t.image1, t.image0, t.segment1, t.segment0)))
+    tell_of s e b a d c (subst (λ n. TellBy s b a d c n ((e + 1) % 2)) (sym odd)
+    (subst (λ m. TellBy s b a d c 1 m) (sym even) (t.image1, t.image0, t.segment1, t.segment0)))
 
 -- the epoch that a slot is of is the only one
 told_epoch : (length number n e o : ℕ) (slot : List ℕ) → Tells length number slot (Some o) → IsOfEpoch n e slot → o ≡ e
-told_epoch length number n e o slot tells is = one_epoch o e tells.1.rest is.rest tells.1.fits is.fits (sym tells.1.encoding ∙ is.encoding)
+told_epoch length number n e o slot tells is =
+    one_epoch o e tells.1.rest is.rest tells.1.fits is.fits (sym tells.1.encoding ∙ is.encoding)
 
-encoded_epoch : (e : ℕ) (slot : List ℕ) (records : List Record) → e < 2 ^ 64 → EncodesSegment e slot records → IsOfEpoch (e % 2) e slot
-encoded_epoch e slot records fits encoded = record { rest = encoded.content; encoding = encoded.encoding; fits = fits; of_number = refl }
+encoded_epoch : (e : ℕ) (slot : List ℕ) (records : List Record) → e < 2 ^ 64 → EncodesSegment e slot records
+    → IsOfEpoch (e % 2) e slot
+encoded_epoch e slot records fits encoded =
+    record { rest = encoded.content; encoding = encoded.encoding; fits = fits; of_number = refl }
 
 -- if the disk encodes something, its epoch is the latest image's
 
-before_or_none : (e f : ℕ) (slot : List ℕ) (o : Option ℕ) → Tells image_header ((e + 1) % 2) slot o → IsLatest e o → IsOfEpoch ((e + 1) % 2) f slot → IsOpen image_header slot → f ≤ e
+before_or_none : (e f : ℕ) (slot : List ℕ) (o : Option ℕ) → Tells image_header ((e + 1) % 2) slot o → IsLatest e o
+    → IsOfEpoch ((e + 1) % 2) f slot → IsOpen image_header slot → f ≤ e
 before_or_none e f slot None told latest is is_open = absurd (told is_open)
-before_or_none e f slot (Some before) told latest is is_open = omega (arith, latest, told_epoch image_header ((e + 1) % 2) ((e + 1) % 2) f before slot told is)
+before_or_none e f slot (Some before) told latest is is_open =
+    omega (arith, latest, told_epoch image_header ((e + 1) % 2) ((e + 1) % 2) f before slot told is)
 
-at_most : (s : Slots) (e : ℕ) (other own_segment other_segment : Option ℕ) → TellOf s e (Some e) other own_segment other_segment → IsLatest e other → (base : State) (records : List Record) (stored : IsStored (as_written s) base records) → stored.epoch ≤ e
+at_most : (s : Slots) (e : ℕ) (other own_segment other_segment : Option ℕ)
+    → TellOf s e (Some e) other own_segment other_segment → IsLatest e other
+    → (base : State) (records : List Record) (stored : IsStored (as_written s) base records) → stored.epoch ≤ e
 at_most s e other own_segment other_segment tells latest base records stored =
     let f = stored.epoch in
     let image_is = image_header_is f ((as_written s).image (f % 2)) base stored.fits stored.image in
@@ -64,30 +75,48 @@ at_most s e other own_segment other_segment tells latest base records stored =
     elim (one_of_two e (f % 2) (omega arith)) as (λ _. f ≤ e) [
       | inl own ↦
           let here : IsOfEpoch (e % 2) f (slot_of s (image_slot e)) =
-          subst (IsOfEpoch (e % 2) f) (image_at s e) (subst (λ n. IsOfEpoch n f ((as_written s).image n)) own image_is) in
+          subst (IsOfEpoch (e % 2) f) (image_at s e)
+          (subst (λ n. IsOfEpoch n f ((as_written s).image n)) own image_is) in
           omega (arith, told_epoch image_header (e % 2) (e % 2) f e (slot_of s (image_slot e)) tells.image here)
       | inr next ↦
           let here : IsOfEpoch ((e + 1) % 2) f (slot_of s (image_slot (e + 1))) =
-          subst (IsOfEpoch ((e + 1) % 2) f) (image_at s (e + 1)) (subst (λ n. IsOfEpoch n f ((as_written s).image n)) next image_is) in
+          subst (IsOfEpoch ((e + 1) % 2) f) (image_at s (e + 1))
+          (subst (λ n. IsOfEpoch n f ((as_written s).image n)) next image_is) in
           let open_here : IsOpen image_header (slot_of s (image_slot (e + 1))) =
-          subst (IsOpen image_header) (image_at s (e + 1)) (subst (λ n. IsOpen image_header ((as_written s).image n)) next is_open) in
+          subst (IsOpen image_header) (image_at s (e + 1))
+          (subst (λ n. IsOpen image_header ((as_written s).image n)) next is_open) in
           before_or_none e f (slot_of s (image_slot (e + 1))) other tells.other_image latest here open_here
     ]
 
-pub epoch_is : (s : Slots) (e : ℕ) (other own_segment other_segment : Option ℕ) → TellOf s e (Some e) other own_segment other_segment → IsLatest e other → (base : State) (records : List Record) (stored : IsStored (as_written s) base records) → stored.epoch ≡ e
+pub epoch_is : (s : Slots) (e : ℕ) (other own_segment other_segment : Option ℕ)
+    → TellOf s e (Some e) other own_segment other_segment → IsLatest e other
+    → (base : State) (records : List Record) (stored : IsStored (as_written s) base records) → stored.epoch ≡ e
 epoch_is s e other own_segment other_segment tells latest base records stored =
-    let least : e ≤ stored.epoch = stored.latest (e % 2) e (omega arith) (subst (IsOpen image_header) (sym (image_at s e)) tells.image.0) (subst (IsOfEpoch (e % 2) e) (sym (image_at s e)) tells.image.1) in
+    let least : e ≤ stored.epoch =
+    stored.latest (e % 2) e (omega arith) (subst (IsOpen image_header) (sym (image_at s e)) tells.image.0)
+    (subst (IsOfEpoch (e % 2) e) (sym (image_at s e)) tells.image.1) in
     omega (arith, least, at_most s e other own_segment other_segment tells latest base records stored)
 
-own_told : (e : ℕ) (slot : List ℕ) (o : Option ℕ) (records : List Record) → Tells segment_header_length (e % 2) slot o → e < 2 ^ 64 → EncodesSegment e slot records → o ≡ Some e
+own_told : (e : ℕ) (slot : List ℕ) (o : Option ℕ) (records : List Record) → Tells segment_header_length (e % 2) slot o
+    → e < 2 ^ 64 → EncodesSegment e slot records → o ≡ Some e
 own_told e slot None records told fits encoded = absurd (told (segment_is_open e slot records encoded))
-own_told e slot (Some o) records told fits encoded = ap Some (told_epoch segment_header_length (e % 2) (e % 2) e o slot told (encoded_epoch e slot records fits encoded))
+own_told e slot (Some o) records told fits encoded =
+    ap Some (told_epoch segment_header_length (e % 2) (e % 2) e o slot told (encoded_epoch e slot records fits encoded))
 
-other_told : (e : ℕ) (slot : List ℕ) (o : Option ℕ) (next : List Record) → Tells segment_header_length ((e + 1) % 2) slot o → Continues e slot next → (o ≡ Some (e + 1)) ⊎ Adjoins e o
+other_told : (e : ℕ) (slot : List ℕ) (o : Option ℕ) (next : List Record)
+    → Tells segment_header_length ((e + 1) % 2) slot o → Continues e slot next → (o ≡ Some (e + 1)) ⊎ Adjoins e o
 other_told e slot None next told continues = inr tt
 other_told e slot (Some o) next told (inl closed) = absurd (closed.0 told.0)
-other_told e slot (Some o) next told (inr (inl before)) = inr (omega (arith, before.1, told_epoch segment_header_length ((e + 1) % 2) (before.0 % 2) before.0 o slot told before.2))
-other_told e slot (Some o) next told (inr (inr encoded)) = inl (ap Some (told_epoch segment_header_length ((e + 1) % 2) ((e + 1) % 2) (e + 1) o slot told (encoded_epoch (e + 1) slot next encoded.0 encoded.1)))
+other_told e slot (Some o) next told (inr (inl before)) =
+    inr (omega (
+      arith,
+      before.1,
+      told_epoch segment_header_length ((e + 1) % 2)
+          (before.0 % 2) before.0 o slot told before.2,
+    ))
+other_told e slot (Some o) next told (inr (inr encoded)) =
+    inl (ap Some (told_epoch segment_header_length ((e + 1) % 2) ((e + 1) % 2) (e + 1) o slot told
+    (encoded_epoch (e + 1) slot next encoded.0 encoded.1)))
 
 -- the parts of a store in use of this epoch, by slots
 pub record PartsOf (s : Slots) (e : ℕ) (base : State) (records : List Record) : Type 0 where
@@ -98,7 +127,8 @@ pub record PartsOf (s : Slots) (e : ℕ) (base : State) (records : List Record) 
   pub other : Continues e (slot_of s (segment_slot (e + 1))) next
   pub joined : records ≡ first ++ next
 
-pub parts_of : (s : Slots) (e : ℕ) (base : State) (records : List Record) (stored : IsStored (as_written s) base records) → stored.epoch ≡ e → PartsOf s e base records
+pub parts_of : (s : Slots) (e : ℕ) (base : State) (records : List Record)
+    (stored : IsStored (as_written s) base records) → stored.epoch ≡ e → PartsOf s e base records
 parts_of s e base records stored is =
     let moved : PartsOf s stored.epoch base records = record {
       first = stored.first;
@@ -112,26 +142,38 @@ parts_of s e base records stored is =
 
 -- a store whose latest image is open isn't new
 pub never_new : (s : Slots) (e : ℕ) → IsOpen image_header (slot_of s (image_slot e)) → IsNew (as_written s) → ⊥
-never_new s e is_open new = new.no_image (e % 2) (omega arith) (subst (IsOpen image_header) (sym (image_at s e)) is_open)
+never_new s e is_open new =
+    new.no_image (e % 2) (omega arith) (subst (IsOpen image_header) (sym (image_at s e)) is_open)
 
-pub told_damaged : (s : Slots) (e : ℕ) (other own_segment other_segment : Option ℕ) → TellOf s e (Some e) other own_segment other_segment → IsLatest e other
-    → (own_segment ≢ Some e) ⊎ ((other_segment ≢ Some (e + 1)) × (Adjoins e other_segment → ⊥)) → (base : State) (records : List Record) → Encodes (as_written s) base records → ⊥
-told_damaged s e other own_segment other_segment tells latest wrong base records encoded = elim encoded.reading as (λ _. ⊥) [
-  | inl new ↦ never_new s e tells.image.0 new.0
-  | inr stored ↦
-      let parts = parts_of s e base records stored (epoch_is s e other own_segment other_segment tells latest base records stored) in
-      elim wrong as (λ _. ⊥) [
-        | inl own ↦ own (own_told e (slot_of s (segment_slot e)) own_segment parts.first tells.segment tells.image.1.fits parts.segment)
-        | inr neither ↦ elim (other_told e (slot_of s (segment_slot (e + 1))) other_segment parts.next tells.other_segment parts.other) as (λ _. ⊥) [ inl next ↦ neither.0 next | inr before ↦ neither.1 before ]
-      ]
-]
+pub told_damaged : (s : Slots) (e : ℕ) (other own_segment other_segment : Option ℕ)
+    → TellOf s e (Some e) other own_segment other_segment → IsLatest e other
+    → (own_segment ≢ Some e) ⊎ ((other_segment ≢ Some (e + 1)) × (Adjoins e other_segment → ⊥))
+    → (base : State) (records : List Record) → Encodes (as_written s) base records → ⊥
+told_damaged s e other own_segment other_segment tells latest wrong base records encoded =
+    elim encoded.reading as (λ _. ⊥) [
+      | inl new ↦ never_new s e tells.image.0 new.0
+      | inr stored ↦
+          let parts =
+          parts_of s e base records stored
+          (epoch_is s e other own_segment other_segment tells latest base records stored) in
+          elim wrong as (λ _. ⊥) [
+            | inl own ↦ own (own_told e (slot_of s (segment_slot e)) own_segment parts.first tells.segment
+                tells.image.1.fits parts.segment)
+            | inr neither ↦ elim (other_told e
+                (slot_of s (segment_slot (e + 1))) other_segment parts.next tells.other_segment parts.other) as (λ _. ⊥)
+                [ inl next ↦ neither.0 next | inr before ↦ neither.1 before ]
+          ]
+    ]
 
 -- a store without an open image
 
 pub each_number : (P : ℕ → Type 0) → P 0 → P 1 → (number : ℕ) → number < 2 → P number
-each_number P first second number small = elim (one_of_two 0 number small) as (λ _. P number) [ inl zero_is ↦ subst P (sym zero_is) first | inr one_is ↦ subst P (sym one_is) second ]
+each_number P first second number small =
+    elim (one_of_two 0 number small) as (λ _. P number)
+    [ inl zero_is ↦ subst P (sym zero_is) first | inr one_is ↦ subst P (sym one_is) second ]
 
-no_open_image : (s : Slots) → (IsOpen image_header s.image0 → ⊥) → (IsOpen image_header s.image1 → ⊥) → (number : ℕ) → number < 2 → IsOpen image_header ((as_written s).image number) → ⊥
+no_open_image : (s : Slots) → (IsOpen image_header s.image0 → ⊥) → (IsOpen image_header s.image1 → ⊥) → (number : ℕ)
+    → number < 2 → IsOpen image_header ((as_written s).image number) → ⊥
 no_open_image s first second = each_number (λ n. IsOpen image_header ((as_written s).image n) → ⊥) first second
 
 second_none : (s : Slots) (o : Option ℕ) → Tells segment_header_length 1 s.segment1 o → IsNew (as_written s) → o ≡ None
@@ -140,36 +182,45 @@ second_none s (Some o) told new =
     let zero_is : o ≡ 0 = (new.unused 1 o (omega arith) told.0 told.1).0 in
     absurd (omega (arith, zero_is, told.1.of_number))
 
-first_none_or_0 : (s : Slots) (o : Option ℕ) → Tells segment_header_length 0 s.segment0 o → IsNew (as_written s) → (o ≡ None) ⊎ (o ≡ Some 0)
+first_none_or_0 : (s : Slots) (o : Option ℕ) → Tells segment_header_length 0 s.segment0 o → IsNew (as_written s)
+    → (o ≡ None) ⊎ (o ≡ Some 0)
 first_none_or_0 s None told new = inl refl
 first_none_or_0 s (Some o) told new = inr (ap Some (new.unused 0 o (omega arith) told.0 told.1).0)
 
-pub unused_damaged : (s : Slots) (segment0 segment1 : Option ℕ) → TellAll s None None segment0 segment1 → (segment1 ≢ None) ⊎ ((segment0 ≢ None) × (segment0 ≢ Some 0))
+pub unused_damaged : (s : Slots) (segment0 segment1 : Option ℕ) → TellAll s None None segment0 segment1
+    → (segment1 ≢ None) ⊎ ((segment0 ≢ None) × (segment0 ≢ Some 0))
     → (base : State) (records : List Record) → Encodes (as_written s) base records → ⊥
 unused_damaged s segment0 segment1 tells wrong base records encoded = elim encoded.reading as (λ _. ⊥) [
   | inl new ↦ elim wrong as (λ _. ⊥) [
     | inl second ↦ second (second_none s segment1 tells.segment1 new.0)
-    | inr first ↦ elim (first_none_or_0 s segment0 tells.segment0 new.0) as (λ _. ⊥) [ inl none ↦ first.0 none | inr zero_is ↦ first.1 zero_is ]
+    | inr first ↦ elim (first_none_or_0 s segment0 tells.segment0 new.0) as (λ _. ⊥)
+        [ inl none ↦ first.0 none | inr zero_is ↦ first.1 zero_is ]
   ]
-  | inr stored ↦ no_open_image s tells.image0 tells.image1 (stored.epoch % 2) (omega arith) (image_is_open stored.epoch ((as_written s).image (stored.epoch % 2)) base stored.image)
+  | inr stored ↦ no_open_image s tells.image0 tells.image1 (stored.epoch % 2) (omega arith)
+      (image_is_open stored.epoch ((as_written s).image (stored.epoch % 2)) base stored.image)
 ]
 
 -- headers
 
-of_version_one : (header number epoch : ℕ) (slot : List ℕ) → IsOfEpoch number epoch slot → HasOtherVersion header slot → ⊥
+of_version_one : (header number epoch : ℕ) (slot : List ℕ) → IsOfEpoch number epoch slot → HasOtherVersion header slot
+    → ⊥
 of_version_one header number epoch slot is other = other.1 (ap (λ (l : List ℕ). slice_index l 1) is.encoding)
 
 -- a header that no slot of its number may have
-foreign_fails : (header number : ℕ) (slot : List ℕ) (h : Header) → Says header slot h → IsForeign h number → (IsOpen header slot → (epoch : ℕ) × IsOfEpoch number epoch slot) → ⊥
+foreign_fails : (header number : ℕ) (slot : List ℕ) (h : Header) → Says header slot h → IsForeign h number
+    → (IsOpen header slot → (epoch : ℕ) × IsOfEpoch number epoch slot) → ⊥
 foreign_fails header number slot Closed says foreign fits = foreign
 foreign_fails header number slot (Open epoch) says foreign fits =
     let known = fits says.0 in
-    foreign (ap (λ e. e % 2) (one_epoch epoch known.0 says.1.rest known.1.rest says.1.fits known.1.fits (sym says.1.encoding ∙ known.1.encoding)) ∙ known.1.of_number)
-foreign_fails header number slot OtherVersion says foreign fits = let known = fits says.0 in of_version_one header number known.0 slot known.1 says
+    foreign (ap (λ e. e % 2) (one_epoch epoch known.0 says.1.rest known.1.rest says.1.fits known.1.fits
+    (sym says.1.encoding ∙ known.1.encoding)) ∙ known.1.of_number)
+foreign_fails header number slot OtherVersion says foreign fits =
+    let known = fits says.0 in of_version_one header number known.0 slot known.1 says
 foreign_fails header number slot Unreadable says foreign fits = let known = fits says.0 in says.2 number known.0 known.1
 
 pub foreign_damaged : (s : Slots) (image0 image1 segment0 segment1 : Header) → SayAll s image0 image1 segment0 segment1
-    → IsForeign image0 0 ⊎ (IsForeign image1 1 ⊎ (IsForeign segment0 0 ⊎ IsForeign segment1 1)) → (base : State) (records : List Record) → Encodes (as_written s) base records → ⊥
+    → IsForeign image0 0 ⊎ (IsForeign image1 1 ⊎ (IsForeign segment0 0 ⊎ IsForeign segment1 1))
+    → (base : State) (records : List Record) → Encodes (as_written s) base records → ⊥
 foreign_damaged s image0 image1 segment0 segment1 says foreign base records encoded =
     let zero_fits = encoded.headers 0 (omega arith) in
     let one_fits = encoded.headers 1 (omega arith) in
@@ -185,15 +236,21 @@ foreign_damaged s image0 image1 segment0 segment1 says foreign base records enco
     ]
 
 -- a header that fits the slot's number gives the slot's epoch
-pub says_tells : (header number : ℕ) (slot : List ℕ) (h : Header) (o : Option ℕ) → Says header slot h → ((o ≡ None) × (h ≡ Closed)) ⊎ ((epoch : ℕ) × (o ≡ Some epoch) × (h ≡ Open epoch) × (epoch % 2 ≡ number)) → Tells header number slot o
-says_tells header number slot h o says (inl none) = subst (Tells header number slot) (sym none.0) (subst (Says header slot) none.1 says)
+pub says_tells : (header number : ℕ) (slot : List ℕ) (h : Header) (o : Option ℕ) → Says header slot h
+    → ((o ≡ None) × (h ≡ Closed)) ⊎ ((epoch : ℕ) × (o ≡ Some epoch) × (h ≡ Open epoch) × (epoch % 2 ≡ number))
+    → Tells header number slot o
+says_tells header number slot h o says (inl none) =
+    subst (Tells header number slot) (sym none.0) (subst (Says header slot) none.1 says)
 says_tells header number slot h o says (inr some) =
     let said = subst (Says header slot) some.2 says in
-    subst (Tells header number slot) (sym some.1) (said.0, record { rest = said.1.rest; encoding = said.1.encoding; fits = said.1.fits; of_number = some.3 })
+    subst (Tells header number slot) (sym some.1)
+    (said.0, record { rest = said.1.rest; encoding = said.1.encoding; fits = said.1.fits; of_number = some.3 })
 
-pub tells_of : (header number : ℕ) (slot : List ℕ) (h : Header) (o : Option ℕ) → Says header slot h → IfSome o (λ epoch. (h ≡ Open epoch) × (epoch % 2 ≡ number)) → IfNone o (h ≡ Closed) → Tells header number slot o
+pub tells_of : (header number : ℕ) (slot : List ℕ) (h : Header) (o : Option ℕ) → Says header slot h
+    → IfSome o (λ epoch. (h ≡ Open epoch) × (epoch % 2 ≡ number)) → IfNone o (h ≡ Closed) → Tells header number slot o
 tells_of header number slot h None says some none = says_tells header number slot h None says (inl (refl, none))
-tells_of header number slot h (Some epoch) says some none = says_tells header number slot h (Some epoch) says (inr (epoch, refl, some.0, some.1))
+tells_of header number slot h (Some epoch) says some none =
+    says_tells header number slot h (Some epoch) says (inr (epoch, refl, some.0, some.1))
 
 -- epochs of the two slot numbers differ
 strictly : (s : Slots) (a b c d : Option ℕ) (e : ℕ) → TellAll s a b c d → e % 2 ≡ 1 → IsNoLater e a → IsLatest e a
@@ -206,13 +263,17 @@ first_tells s a b c d e tells is =
     let moved : TellAll s (Some e) b c d = subst (λ o. TellAll s o b c d) is tells in
     tell_even s e (Some e) b c d moved.image0.1.of_number moved
 
-pub second_tells : (s : Slots) (a b c d : Option ℕ) (e : ℕ) → TellAll s a b c d → b ≡ Some e → IsNoLater e a → TellOf s e (Some e) a d c × IsLatest e a
+pub second_tells : (s : Slots) (a b c d : Option ℕ) (e : ℕ) → TellAll s a b c d → b ≡ Some e → IsNoLater e a
+    → TellOf s e (Some e) a d c × IsLatest e a
 second_tells s a b c d e tells is no_later =
-    let moved : TellAll s a (Some e) c d = subst (λ o. TellAll s a o c d) is tells in
-    (tell_odd s e a (Some e) c d moved.image1.1.of_number moved, strictly s a (Some e) c d e moved moved.image1.1.of_number no_later)
+    let moved : TellAll s a (Some e) c d = subst (λ o. TellAll s a o c d) is tells in (
+      tell_odd s e a (Some e) c d moved.image1.1.of_number moved,
+      strictly s a (Some e) c d e moved moved.image1.1.of_number no_later,
+    )
 
 pub none_tell : (s : Slots) (a b c d : Option ℕ) → TellAll s a b c d → a ≡ None → b ≡ None → TellAll s None None c d
-none_tell s a b c d tells first second = subst (λ o. TellAll s None o c d) second (subst (λ o. TellAll s o b c d) first tells)
+none_tell s a b c d tells first second =
+    subst (λ o. TellAll s None o c d) second (subst (λ o. TellAll s o b c d) first tells)
 
 pub on_error : {T E P Q : Type 0} (r : Result T E) → (P → Q) → OnErr r P → OnErr r Q
 on_error (Ok x) f p = tt

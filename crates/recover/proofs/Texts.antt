@@ -21,27 +21,35 @@ use Rattle.snapshot.specs.declared.rows.Snapshot.{Snapshot}
 use Rattle.recover.specs.Loaded.{HoldsEncoding}
 
 -- bytes that follow their length are determined
-pub one_encoding : (a b x y : List ℕ) → length a < 2 ^ 64 → length b < 2 ^ 64 → long_word (length a) ++ (a ++ x) ≡ long_word (length b) ++ (b ++ y) → a ≡ b
+pub one_encoding : (a b x y : List ℕ) → length a < 2 ^ 64 → length b < 2 ^ 64
+    → long_word (length a) ++ (a ++ x) ≡ long_word (length b) ++ (b ++ y) → a ≡ b
 one_encoding a b x y fits fits_too is =
     let long : length a ≡ length b = same_long_word (length a) (length b) (a ++ x) (b ++ y) fits fits_too is in
     let behind : a ++ x ≡ b ++ y = ap (λ (l : List ℕ). drop 8 l) is in
     sym (take_at a x (length b) long) ∙ ap (take (length b)) behind ∙ take_at b y (length b) refl
 
 -- the image of a state, and its encoding
-pub image_after : (epoch : ℕ) (slot : List ℕ) (state : State) → HoldsImage epoch slot state → HoldsEncoding slot (image_encoding state)
+pub image_after : (epoch : ℕ) (slot : List ℕ) (state : State) → HoldsImage epoch slot state
+    → HoldsEncoding slot (image_encoding state)
 image_after epoch slot state image = record {
   rest = image.rest;
   fits = image.fits;
-  behind = ap (λ (l : List ℕ). drop 16 l) image.encoding ∙ append_assoc (long_word (length (image_encoding state))) (image_encoding state) image.rest;
+  behind =
+      ap (λ (l : List ℕ). drop 16 l) image.encoding
+      ∙ append_assoc (long_word (length (image_encoding state))) (image_encoding state) image.rest;
 }
 
-pub encoding_is_image : (number epoch : ℕ) (slot encoding : List ℕ) (state : State) → IsOfEpoch number epoch slot → HoldsEncoding slot encoding → IsImageOf encoding state → HoldsImage epoch slot state
+pub encoding_is_image : (number epoch : ℕ) (slot encoding : List ℕ) (state : State) → IsOfEpoch number epoch slot
+    → HoldsEncoding slot encoding → IsImageOf encoding state → HoldsImage epoch slot state
 encoding_is_image number epoch slot encoding state is holds image =
     let same : drop 16 slot ≡ is.rest = ap (λ (l : List ℕ). drop 16 l) is.encoding in
-    let whole : slot ≡ segment_header open_gate epoch ++ (long_word (length encoding) ++ (encoding ++ holds.rest)) = is.encoding ∙ ap (λ (l : List ℕ). segment_header open_gate epoch ++ l) (sym same ∙ holds.behind) in
+    let whole : slot ≡ segment_header open_gate epoch ++ (long_word (length encoding) ++ (encoding ++ holds.rest)) =
+    is.encoding ∙ ap (λ (l : List ℕ). segment_header open_gate epoch ++ l) (sym same ∙ holds.behind) in
     record {
       rest = holds.rest;
-      encoding = whole ∙ ap (λ (l : List ℕ). segment_header open_gate epoch ++ l) (sym (append_assoc (long_word (length encoding)) encoding holds.rest))
+      encoding =
+          whole ∙ ap (λ (l : List ℕ). segment_header open_gate epoch ++ l)
+          (sym (append_assoc (long_word (length encoding)) encoding holds.rest))
           ∙ ap (λ (t : List ℕ). (open_gate ∷ image_content epoch t) ++ holds.rest) image.encoding_is;
       fits = subst (λ (t : List ℕ). length t < 2 ^ 64) image.encoding_is holds.fits;
       lawful = image.lawful;
@@ -50,31 +58,45 @@ encoding_is_image number epoch slot encoding state is holds image =
     }
 
 -- a word that is read after a slot's header
-pub word_read : (slot buffer old behind : List ℕ) (n size : ℕ) → 24 ≤ length slot → length old ≡ 8 → n ≡ min (length old) (length slot - 16) → buffer ≡ take n (drop 16 slot) ++ drop n old → buffer ≡ long_word size ++ behind
+pub word_read : (slot buffer old behind : List ℕ) (n size : ℕ) → 24 ≤ length slot → length old ≡ 8
+    → n ≡ min (length old) (length slot - 16) → buffer ≡ take n (drop 16 slot) ++ drop n old
+    → buffer ≡ long_word size ++ behind
     → (rest : List ℕ) × (drop 16 slot ≡ long_word size ++ rest)
 word_read slot buffer old behind n size long one count bytes found =
     let all : n ≡ 8 = omega (arith, long, one, count) in
     let none : drop 8 old ≡ [] = nothing (drop 8 old) (omega (arith, length-drop 8 old, one)) in
-    let front : buffer ≡ take 8 (drop 16 slot) = bytes ∙ (λ i. take (all i) (drop 16 slot) ++ drop (all i) old) ∙ ap (λ (l : List ℕ). take 8 (drop 16 slot) ++ l) none ∙ append-nil (take 8 (drop 16 slot)) in
-    (behind ++ drop 8 (drop 16 slot), sym (take-append-drop 8 (drop 16 slot)) ∙ ap (λ (l : List ℕ). l ++ drop 8 (drop 16 slot)) (sym front ∙ found) ∙ append_assoc (long_word size) behind (drop 8 (drop 16 slot)))
+    let front : buffer ≡ take 8 (drop 16 slot) =
+    bytes ∙ (λ i. take (all i) (drop 16 slot) ++ drop (all i) old) ∙ ap
+    (λ (l : List ℕ). take 8 (drop 16 slot) ++ l) none ∙ append-nil (take 8 (drop 16 slot)) in (
+      behind ++ drop 8 (drop 16 slot),
+      sym (take-append-drop 8 (drop 16 slot)) ∙ ap (λ (l : List ℕ). l ++ drop 8 (drop 16 slot)) (sym front ∙ found)
+          ∙ append_assoc (long_word size) behind (drop 8 (drop 16 slot)),
+    )
   where
     nothing : (l : List ℕ) → length l ≡ 0 → l ≡ []
     nothing [] is = refl
     nothing (x ∷ l) is = absurd (omega (arith, is))
 
 -- an encoding that is read after a slot's whole header
-pub encoding_read : (slot buffer old rest : List ℕ) (n size : ℕ) → drop 16 slot ≡ long_word size ++ rest → size < 2 ^ 64 → size ≤ length slot - 24 → 24 ≤ length slot → length old ≡ size → n ≡ min (length old) (length slot - 24)
+pub encoding_read : (slot buffer old rest : List ℕ) (n size : ℕ) → drop 16 slot ≡ long_word size ++ rest → size < 2 ^ 64
+    → size ≤ length slot - 24 → 24 ≤ length slot → length old ≡ size → n ≡ min (length old) (length slot - 24)
     → buffer ≡ take n (drop 24 slot) ++ drop n old → HoldsEncoding slot buffer
 encoding_read slot buffer old rest n size word fits room long made count bytes =
     let all : n ≡ size = omega (arith, room, long, made, count) in
     let none : drop size old ≡ [] = nothing (drop size old) (omega (arith, length-drop size old, made)) in
-    let front : buffer ≡ take size (drop 24 slot) = bytes ∙ (λ i. take (all i) (drop 24 slot) ++ drop (all i) old) ∙ ap (λ (l : List ℕ). take size (drop 24 slot) ++ l) none ∙ append-nil (take size (drop 24 slot)) in
-    let sized : length buffer ≡ size = omega (arith, ap length front, length-take size (drop 24 slot), length-drop 24 slot, room, long) in
+    let front : buffer ≡ take size (drop 24 slot) =
+    bytes ∙ (λ i. take (all i) (drop 24 slot) ++ drop (all i) old) ∙ ap
+    (λ (l : List ℕ). take size (drop 24 slot) ++ l) none ∙ append-nil (take size (drop 24 slot)) in
+    let sized : length buffer ≡ size =
+    omega (arith, ap length front, length-take size (drop 24 slot), length-drop 24 slot, room, long) in
     let behind : drop 24 slot ≡ rest = drop_more slot ∙ ap (λ (l : List ℕ). drop 8 l) word in
     record {
       rest = drop size (drop 24 slot);
       fits = omega (arith, sized, fits);
-      behind = word ∙ ap (λ (l : List ℕ). long_word size ++ l) (sym behind ∙ sym (take-append-drop size (drop 24 slot)) ∙ ap (λ (l : List ℕ). l ++ drop size (drop 24 slot)) (sym front))
+      behind =
+          word ∙ ap (λ (l : List ℕ). long_word size ++ l)
+          (sym behind ∙ sym (take-append-drop size (drop 24 slot)) ∙ ap
+          (λ (l : List ℕ). l ++ drop size (drop 24 slot)) (sym front))
           ∙ ap (λ (k : ℕ). long_word k ++ (buffer ++ drop size (drop 24 slot))) (sym sized);
     }
   where
@@ -90,10 +112,12 @@ encoding_read slot buffer old rest n size word fits room long made count bytes =
 pub image_fits : (encoding : List ℕ) (state : State) → IsImageOf encoding state → FitsImage (snapshot_of state)
 image_fits encoding state is = lawful_snapshots_fit state is.lawful is.short
 
-pub image_as_rows : (encoding : List ℕ) (state : State) → IsImageOf encoding state → encoding ≡ snapshot_encoding (snapshot_of state)
+pub image_as_rows : (encoding : List ℕ) (state : State) → IsImageOf encoding state
+    → encoding ≡ snapshot_encoding (snapshot_of state)
 image_as_rows encoding state is = is.encoding_is ∙ sym (image_of_state state)
 
-pub rows_are_image : (encoding : List ℕ) (snapshot : Snapshot) (state : State) → encoding ≡ snapshot_encoding snapshot → snapshot ≡ snapshot_of state → IsLawfulSnapshot snapshot → IsImageOf encoding state
+pub rows_are_image : (encoding : List ℕ) (snapshot : Snapshot) (state : State) → encoding ≡ snapshot_encoding snapshot
+    → snapshot ≡ snapshot_of state → IsLawfulSnapshot snapshot → IsImageOf encoding state
 rows_are_image encoding snapshot state is same lawful =
     let one : lawful.state ≡ state = one_state lawful.state state (sym lawful.same ∙ same) in
     record {
@@ -103,23 +127,38 @@ rows_are_image encoding snapshot state is same lawful =
       short = subst ShortQueues one lawful.short;
     }
 
-pub lawful_rows : (encoding : List ℕ) (snapshot : Snapshot) (state : State) → snapshot ≡ snapshot_of state → IsImageOf encoding state → IsLawfulSnapshot snapshot
-lawful_rows encoding snapshot state same is = record { state = state; same = same; lawful = is.lawful; acyclic = is.acyclic; short = is.short }
+pub lawful_rows : (encoding : List ℕ) (snapshot : Snapshot) (state : State) → snapshot ≡ snapshot_of state
+    → IsImageOf encoding state → IsLawfulSnapshot snapshot
+lawful_rows encoding snapshot state same is =
+    record { state = state; same = same; lawful = is.lawful; acyclic = is.acyclic; short = is.short }
 
 -- a vector that was filled to its end
-pub filled : (buffer items : List ℕ) (len : ℕ) → len ≡ length buffer → take len (buffer ++ drop (length buffer) items) ≡ buffer
+pub filled : (buffer items : List ℕ) (len : ℕ) → len ≡ length buffer
+    → take len (buffer ++ drop (length buffer) items) ≡ buffer
 filled buffer items len is = take_at buffer (drop (length buffer) items) len (sym is)
 
-pub read_length : (slot buffer old : List ℕ) (n : ℕ) → n ≡ min (length old) (length slot - 24) → buffer ≡ take n (drop 24 slot) ++ drop n old → length buffer ≡ length old
+pub read_length : (slot buffer old : List ℕ) (n : ℕ) → n ≡ min (length old) (length slot - 24)
+    → buffer ≡ take n (drop 24 slot) ++ drop n old → length buffer ≡ length old
 read_length slot buffer old n count bytes =
-    omega (arith, ap length bytes, length-append (take n (drop 24 slot)) (drop n old), length-take n (drop 24 slot), length-drop 24 slot, length-drop n old, count)
+    omega (
+      arith,
+      ap length bytes,
+      length-append (take n (drop 24 slot)) (drop n old),
+      length-take n (drop 24 slot),
+      length-drop 24 slot,
+      length-drop n old,
+      count,
+    )
 
 -- the encoding that stands in a slot with an image is the image's
-pub encoding_of_image : (epoch : ℕ) (slot encoding : List ℕ) (state : State) → HoldsEncoding slot encoding → HoldsImage epoch slot state → IsImageOf encoding state
+pub encoding_of_image : (epoch : ℕ) (slot encoding : List ℕ) (state : State) → HoldsEncoding slot encoding
+    → HoldsImage epoch slot state → IsImageOf encoding state
 encoding_of_image epoch slot encoding state holds image =
     let own = image_after epoch slot state image in
     record {
-      encoding_is = one_encoding encoding (image_encoding state) holds.rest own.rest holds.fits own.fits (sym holds.behind ∙ own.behind);
+      encoding_is =
+          one_encoding encoding (image_encoding state) holds.rest own.rest holds.fits own.fits
+          (sym holds.behind ∙ own.behind);
       lawful = image.lawful;
       acyclic = image.acyclic;
       short = image.short;

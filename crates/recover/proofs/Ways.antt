@@ -42,12 +42,17 @@ same_self s gates = ((λ state found. found), gates)
 pub same_then : (s mid c : Slots) → RecoverSame s mid → StandForSame mid c → StandForSame s c
 same_then s mid c first second = ((λ state found. second.0 state (first state found)), second.1)
 
-pub still_same : (old new : View) → IsAtRest old → HaveLastGates old.seen → Passes old new (MayLeave old) → Passes old new (StandForSame old.seen)
-still_same old new rest gates time = passes_as old new (MayLeave old) (StandForSame old.seen) time (λ c left. subst (StandForSame old.seen) (sym (rest c left)) (same_self old.seen gates))
+pub still_same : (old new : View) → IsAtRest old → HaveLastGates old.seen → Passes old new (MayLeave old)
+    → Passes old new (StandForSame old.seen)
+still_same old new rest gates time =
+    passes_as old new (MayLeave old) (StandForSame old.seen) time
+    (λ c left. subst (StandForSame old.seen) (sym (rest c left)) (same_self old.seen gates))
 
-pub same_after : (old mid new : View) → Passes old mid (StandForSame old.seen) → RecoverSame old.seen mid.seen → Passes mid new (StandForSame mid.seen) → Passes old new (StandForSame old.seen)
+pub same_after : (old mid new : View) → Passes old mid (StandForSame old.seen) → RecoverSame old.seen mid.seen
+    → Passes mid new (StandForSame mid.seen) → Passes old new (StandForSame old.seen)
 same_after old mid new first between second =
-    passes_then old mid new (StandForSame old.seen) (StandForSame mid.seen) (StandForSame old.seen) first second (λ c same. same) (λ c same. same_then old.seen mid.seen c between same)
+    passes_then old mid new (StandForSame old.seen) (StandForSame mid.seen) (StandForSame old.seen) first second
+    (λ c same. same) (λ c same. same_then old.seen mid.seen c between same)
 
 pub recover_self : (s : Slots) → RecoverSame s s
 recover_self s state found = found
@@ -57,11 +62,14 @@ recover_as s c is = subst (RecoverSame s) (sym is) (recover_self s)
 
 -- last gates of slots of which one is changed
 
-pub gates_alongside_image : (s : Slots) (x : List ℕ) (e : ℕ) → HaveLastGates s → HaveLastGates (with_slot s (image_slot e) x)
+pub gates_alongside_image : (s : Slots) (x : List ℕ) (e : ℕ) → HaveLastGates s
+    → HaveLastGates (with_slot s (image_slot e) x)
 gates_alongside_image s x e gates = by_parity (λ a b c d. HaveLastGates (with_slot s a x)) gates gates e
 
-pub gates_with_segment : (s : Slots) (x : List ℕ) (e : ℕ) → HaveLastGates s → HasLastGate x → HaveLastGates (with_slot s (segment_slot e) x)
-gates_with_segment s x e gates own = by_parity (λ a b c d. HaveLastGates (with_slot s c x)) (own, gates.1) (gates.0, own) e
+pub gates_with_segment : (s : Slots) (x : List ℕ) (e : ℕ) → HaveLastGates s → HasLastGate x
+    → HaveLastGates (with_slot s (segment_slot e) x)
+gates_with_segment s x e gates own =
+    by_parity (λ a b c d. HaveLastGates (with_slot s c x)) (own, gates.1) (gates.0, own) e
 
 pub own_last_gate : (s : Slots) (e : ℕ) → HaveLastGates s → HasLastGate (slot_of s (segment_slot e))
 own_last_gate s e gates = by_parity (λ a b c d. HasLastGate (slot_of s c)) gates.0 gates.1 e
@@ -69,22 +77,44 @@ own_last_gate s e gates = by_parity (λ a b c d. HasLastGate (slot_of s c)) gate
 -- what a segment that was replayed encodes
 
 header_apart : (n e : ℕ) (slot : List ℕ) → IsOfEpoch n e slot → slot ≡ segment_header open_gate e ++ drop 16 slot
-header_apart n e slot is = is.encoding ∙ ap (λ (l : List ℕ). segment_header open_gate e ++ l) (sym (ap (λ (l : List ℕ). drop 16 l) is.encoding))
+header_apart n e slot is =
+    is.encoding ∙ ap (λ (l : List ℕ). segment_header open_gate e ++ l)
+    (sym (ap (λ (l : List ℕ). drop 16 l) is.encoding))
 
-pub replayed_encodes : (n e : ℕ) (slot : List ℕ) (old new : State) (count end : ℕ) → IsOfEpoch n e slot → (r : ReplaysAll slot old new count end) → EncodesSegment e slot r.records
-replayed_encodes n e slot old new count end is r = record { content = drop 16 slot; encoding = header_apart n e slot is; encoded = r.encoded.encoded }
+pub replayed_encodes : (n e : ℕ) (slot : List ℕ) (old new : State) (count end : ℕ) → IsOfEpoch n e slot
+    → (r : ReplaysAll slot old new count end) → EncodesSegment e slot r.records
+replayed_encodes n e slot old new count end is r =
+    record { content = drop 16 slot; encoding = header_apart n e slot is; encoded = r.encoded.encoded }
 
 -- the parts of a store in use
 
-pub one_of_parts : (s : Slots) (e : ℕ) (base : State) (records : List Record) → Uses s e false → HoldsImage e (slot_of s (image_slot e)) base → EncodesSegment e (slot_of s (segment_slot e)) records → InOne s e base records
-one_of_parts s e base records used image segment = record { fits = used.fits; image = image; segment = segment; other_image = used.other_image; other_segment = used.other }
+pub one_of_parts : (s : Slots) (e : ℕ) (base : State) (records : List Record) → Uses s e false
+    → HoldsImage e (slot_of s (image_slot e)) base → EncodesSegment e (slot_of s (segment_slot e)) records
+    → InOne s e base records
+one_of_parts s e base records used image segment =
+    record {
+      fits = used.fits;
+      image = image;
+      segment = segment;
+      other_image = used.other_image;
+      other_segment = used.other;
+    }
 
-pub two_of_parts : (s : Slots) (e : ℕ) (base : State) (first next : List Record) → Uses s e true → HoldsImage e (slot_of s (image_slot e)) base → EncodesSegment e (slot_of s (segment_slot e)) first
+pub two_of_parts : (s : Slots) (e : ℕ) (base : State) (first next : List Record) → Uses s e true
+    → HoldsImage e (slot_of s (image_slot e)) base → EncodesSegment e (slot_of s (segment_slot e)) first
     → EncodesSegment (e + 1) (slot_of s (segment_slot (e + 1))) next → InTwo s e base first next
-two_of_parts s e base first next used image segment more = record { fits = used.other.0; image = image; segment = segment; other_image = used.other_image; next_segment = more }
+two_of_parts s e base first next used image segment more =
+    record {
+      fits = used.other.0;
+      image = image;
+      segment = segment;
+      other_image = used.other_image;
+      next_segment = more;
+    }
 
 -- the epoch in use is that of what is stored
-at_most : (s : Slots) (e : ℕ) (follows : Bool) → Uses s e follows → (base : State) (records : List Record) (stored : IsStored (as_written s) base records) → stored.epoch ≤ e
+at_most : (s : Slots) (e : ℕ) (follows : Bool) → Uses s e follows
+    → (base : State) (records : List Record) (stored : IsStored (as_written s) base records) → stored.epoch ≤ e
 at_most s e follows used base records stored =
     let f = stored.epoch in
     let image_is = image_header_is f ((as_written s).image (f % 2)) base stored.fits stored.image in
@@ -92,22 +122,37 @@ at_most s e follows used base records stored =
     elim (one_of_two e (f % 2) (omega arith)) as (λ _. f ≤ e) [
       | inl own ↦
           let here : IsOfEpoch (e % 2) f (slot_of s (image_slot e)) =
-          subst (IsOfEpoch (e % 2) f) (image_at s e) (subst (λ n. IsOfEpoch n f ((as_written s).image n)) own image_is) in
-          omega (arith, one_epoch f e here.rest used.image.rest here.fits used.image.fits (sym here.encoding ∙ used.image.encoding))
+          subst (IsOfEpoch (e % 2) f) (image_at s e)
+          (subst (λ n. IsOfEpoch n f ((as_written s).image n)) own image_is) in
+          omega (
+            arith,
+            one_epoch f e here.rest used.image.rest here.fits used.image.fits
+                (sym here.encoding ∙ used.image.encoding),
+          )
       | inr next ↦
           let here : IsOfEpoch ((e + 1) % 2) f (slot_of s (image_slot (e + 1))) =
-          subst (IsOfEpoch ((e + 1) % 2) f) (image_at s (e + 1)) (subst (λ n. IsOfEpoch n f ((as_written s).image n)) next image_is) in
+          subst (IsOfEpoch ((e + 1) % 2) f) (image_at s (e + 1))
+          (subst (λ n. IsOfEpoch n f ((as_written s).image n)) next image_is) in
           let open_here : IsOpen image_header (slot_of s (image_slot (e + 1))) =
-          subst (IsOpen image_header) (image_at s (e + 1)) (subst (λ n. IsOpen image_header ((as_written s).image n)) next is_open) in
+          subst (IsOpen image_header) (image_at s (e + 1))
+          (subst (λ n. IsOpen image_header ((as_written s).image n)) next is_open) in
           elim used.other_image as (λ _. f ≤ e) [
             | inl shut ↦ absurd (shut open_here)
-            | inr before ↦ omega (arith, before.1, one_epoch f before.0 here.rest before.2.rest here.fits before.2.fits (sym here.encoding ∙ before.2.encoding))
+            | inr before ↦ omega (
+              arith,
+              before.1,
+              one_epoch f before.0 here.rest before.2.rest here.fits before.2.fits
+                  (sym here.encoding ∙ before.2.encoding),
+            )
           ]
     ]
 
-epoch_in_use : (s : Slots) (e : ℕ) (follows : Bool) → Uses s e follows → (base : State) (records : List Record) (stored : IsStored (as_written s) base records) → stored.epoch ≡ e
+epoch_in_use : (s : Slots) (e : ℕ) (follows : Bool) → Uses s e follows
+    → (base : State) (records : List Record) (stored : IsStored (as_written s) base records) → stored.epoch ≡ e
 epoch_in_use s e follows used base records stored =
-    let least : e ≤ stored.epoch = stored.latest (e % 2) e (omega arith) (subst (IsOpen image_header) (sym (image_at s e)) used.image_open) (subst (IsOfEpoch (e % 2) e) (sym (image_at s e)) used.image) in
+    let least : e ≤ stored.epoch =
+    stored.latest (e % 2) e (omega arith) (subst (IsOpen image_header) (sym (image_at s e)) used.image_open)
+    (subst (IsOfEpoch (e % 2) e) (sym (image_at s e)) used.image) in
     omega (arith, least, at_most s e follows used base records stored)
 
 -- What is recovered from a store in use, by its parts.
@@ -122,102 +167,164 @@ pub record RunsIn (s : Slots) (e : ℕ) (state : State) : Type 0 where
   pub run : Run base first mid
   pub more : Run mid next state
 
-pub runs_in : (s : Slots) (e : ℕ) (follows : Bool) (state : State) → Uses s e follows → Recovered (as_written s) state → RunsIn s e state
+pub runs_in : (s : Slots) (e : ℕ) (follows : Bool) (state : State) → Uses s e follows → Recovered (as_written s) state
+    → RunsIn s e state
 runs_in s e follows state used found = elim found.encoded.reading as (λ _. RunsIn s e state) [
   | inl new ↦ absurd (never_new s e used.image_open new.0)
   | inr stored ↦
-      let parts = parts_of s e found.base found.records stored (epoch_in_use s e follows used found.base found.records stored) in
-      let split = run_split found.base state parts.first parts.next (subst (λ (l : List Record). Run found.base l state) parts.joined found.run) in
-      record { base = found.base; mid = split.0; first = parts.first; next = parts.next; image = parts.image; segment = parts.segment; other = parts.other; run = split.1; more = split.2 }
+      let parts =
+      parts_of s e found.base found.records stored
+      (epoch_in_use s e follows used found.base found.records stored) in
+      let split =
+      run_split found.base state parts.first parts.next
+      (subst (λ (l : List Record). Run found.base l state) parts.joined found.run) in
+      record {
+        base = found.base;
+        mid = split.0;
+        first = parts.first;
+        next = parts.next;
+        image = parts.image;
+        segment = parts.segment;
+        other = parts.other;
+        run = split.1;
+        more = split.2;
+      }
 ]
 
 -- the records of the segment that follows
-pub next_encodes : (s : Slots) (e : ℕ) (next : List Record) → Uses s e true → Continues e (slot_of s (segment_slot (e + 1))) next → EncodesSegment (e + 1) (slot_of s (segment_slot (e + 1))) next
-next_encodes s e next used (inl closed) = absurd (closed.0 (subst (IsOpen segment_header_length) (sym used.other.1.encoding) (omega arith, refl)))
-next_encodes s e next used (inr (inl before)) = absurd (omega (arith, before.1, one_epoch before.0 (e + 1) before.2.rest used.other.1.rest before.2.fits used.other.1.fits (sym before.2.encoding ∙ used.other.1.encoding)))
+pub next_encodes : (s : Slots) (e : ℕ) (next : List Record) → Uses s e true
+    → Continues e (slot_of s (segment_slot (e + 1))) next
+    → EncodesSegment (e + 1) (slot_of s (segment_slot (e + 1))) next
+next_encodes s e next used (inl closed) =
+    absurd (closed.0 (subst (IsOpen segment_header_length) (sym used.other.1.encoding) (omega arith, refl)))
+next_encodes s e next used (inr (inl before)) =
+    absurd (omega (
+      arith,
+      before.1,
+      one_epoch before.0 (e + 1) before.2.rest used.other.1.rest before.2.fits used.other.1.fits
+          (sym before.2.encoding ∙ used.other.1.encoding),
+    ))
 next_encodes s e next used (inr (inr encoded)) = encoded.1
 
 -- one run from one image
 
 one_base : (e : ℕ) (slot : List ℕ) (one other : State) → HoldsImage e slot one → HoldsImage e slot other → one ≡ other
 one_base e slot one other first second =
-    let whole : (open_gate ∷ image_content e (image_encoding one)) ++ first.rest ≡ (open_gate ∷ image_content e (image_encoding other)) ++ second.rest = sym first.encoding ∙ second.encoding in
-    let encodings : image_encoding one ++ first.rest ≡ image_encoding other ++ second.rest = ap (λ (l : List ℕ). drop 24 l) whole in
-    (image_once one other first.rest second.rest (lawful_is_encodable one first.lawful first.short) (lawful_is_encodable other second.lawful second.short) encodings).0
+    let whole : (open_gate ∷ image_content e (image_encoding one)) ++ first.rest
+    ≡ (open_gate ∷ image_content e (image_encoding other)) ++ second.rest = sym first.encoding ∙ second.encoding in
+    let encodings : image_encoding one ++ first.rest ≡ image_encoding other ++ second.rest =
+    ap (λ (l : List ℕ). drop 24 l) whole in
+    (image_once one other first.rest second.rest (lawful_is_encodable one first.lawful first.short)
+    (lawful_is_encodable other second.lawful second.short) encodings).0
 
 records_fit : (records : List Record) → AreRecords records → FitCalls records
 records_fit [] are = tt
 records_fit (first ∷ records) are = (are.0.call.fits, records_fit records are.1)
 
 -- an epoch's image and segment lead to only one state
-pub one_read : (s : Slots) (e n : ℕ) (state other : State) (count end : ℕ) → IsOfEpoch n e (slot_of s (segment_slot e)) → ReadsOne s e state count end → (runs : RunsIn s e other) → runs.mid ≡ state
+pub one_read : (s : Slots) (e n : ℕ) (state other : State) (count end : ℕ) → IsOfEpoch n e (slot_of s (segment_slot e))
+    → ReadsOne s e state count end → (runs : RunsIn s e other) → runs.mid ≡ state
 one_read s e n state other count end is r runs =
     let segment = slot_of s (segment_slot e) in
     let base : runs.base ≡ r.base = one_base e (slot_of s (image_slot e)) runs.base r.base runs.image r.image in
     let encoded = replayed_encodes n e segment r.base state count end is r.replays in
-    let records : runs.first ≡ r.replays.records = one_segment e segment runs.first r.replays.records runs.segment encoded in
-    one_run r.base r.replays.records runs.mid state (records_fit r.replays.records r.replays.encoded.encoded.canonical) r.image.lawful r.image.acyclic
-    (subst (λ (b : State). Run b r.replays.records runs.mid) base (subst (λ (l : List Record). Run runs.base l runs.mid) records runs.run)) r.replays.run
+    let records : runs.first ≡ r.replays.records =
+    one_segment e segment runs.first r.replays.records runs.segment encoded in
+    one_run r.base r.replays.records runs.mid state
+    (records_fit r.replays.records r.replays.encoded.encoded.canonical) r.image.lawful r.image.acyclic
+    (subst (λ (b : State). Run b r.replays.records runs.mid) base
+    (subst (λ (l : List Record). Run runs.base l runs.mid) records runs.run)) r.replays.run
 
 -- nothing is recovered if there is no image, or no run of records
 pub read_damaged : (s : Slots) (e : ℕ) (follows : Bool) → Uses s e follows
-    → ((base state : State) (records : List Record) → HoldsImage e (slot_of s (image_slot e)) base → EncodesSegment e (slot_of s (segment_slot e)) records → Run base records state → ⊥)
+    → ((base state : State) (records : List Record) → HoldsImage e (slot_of s (image_slot e)) base
+    → EncodesSegment e (slot_of s (segment_slot e)) records → Run base records state → ⊥)
     → (state : State) → Recovered (as_written s) state → ⊥
-read_damaged s e follows used none state found = let runs = runs_in s e follows state used found in none runs.base runs.mid runs.first runs.image runs.segment runs.run
+read_damaged s e follows used none state found =
+    let runs = runs_in s e follows state used found in
+    none runs.base runs.mid runs.first runs.image runs.segment runs.run
 
 -- nor if the segment that follows has no run of records
 pub next_damaged : (s : Slots) (e : ℕ) (mid : State) (count end : ℕ) → Uses s e true → ReadsOne s e mid count end
-    → ((records : List Record) (state : State) → EncodesBatches (drop 16 (slot_of s (segment_slot (e + 1)))) records → Run mid records state → ⊥)
+    → ((records : List Record) (state : State) → EncodesBatches (drop 16 (slot_of s (segment_slot (e + 1)))) records
+    → Run mid records state → ⊥)
     → (state : State) → Recovered (as_written s) state → ⊥
 next_damaged s e mid count end used read none state found =
     let runs = runs_in s e true state used found in
     let encoded = next_encodes s e runs.next used runs.other in
     let same : runs.mid ≡ mid = one_read s e (e % 2) mid state count end used.segment read runs in
-    none runs.next state (subst (λ (l : List ℕ). EncodesBatches l runs.next) (sym (ap (λ (l : List ℕ). drop 16 l) encoded.encoding)) encoded.encoded) (subst (λ (m : State). Run m runs.next state) same runs.more)
+    none runs.next state (subst (λ (l : List ℕ). EncodesBatches l runs.next)
+    (sym (ap (λ (l : List ℕ). drop 16 l) encoded.encoding)) encoded.encoded)
+    (subst (λ (m : State). Run m runs.next state) same runs.more)
 
 -- the segment in use is ended
 
-own_gate : (n e : ℕ) (slot : List ℕ) (old new : State) (count end : ℕ) → IsOfEpoch n e slot → HasLastGate slot → (r : ReplaysAll slot old new count end) → 0 < length r.encoded.encoded.rest
+own_gate : (n e : ℕ) (slot : List ℕ) (old new : State) (count end : ℕ) → IsOfEpoch n e slot → HasLastGate slot
+    → (r : ReplaysAll slot old new count end) → 0 < length r.encoded.encoded.rest
 unfolding replayed_encodes
 own_gate n e slot old new count end is has r = has e r.records (replayed_encodes n e slot old new count end is r)
 
-pub gate_inside : (n e : ℕ) (slot : List ℕ) (old new : State) (count end : ℕ) → IsOfEpoch n e slot → HasLastGate slot → ReplaysAll slot old new count end → end < length slot
+pub gate_inside : (n e : ℕ) (slot : List ℕ) (old new : State) (count end : ℕ) → IsOfEpoch n e slot → HasLastGate slot
+    → ReplaysAll slot old new count end → end < length slot
 gate_inside n e slot old new count end is has r =
-    omega (arith, own_gate n e slot old new count end is has r, r.encoded.sized, ap length (header_apart n e slot is), length-append (segment_header open_gate e) (drop 16 slot), r.behind)
+    omega (
+      arith,
+      own_gate n e slot old new count end is has r,
+      r.encoded.sized,
+      ap length (header_apart n e slot is),
+      length-append (segment_header open_gate e) (drop 16 slot),
+      r.behind,
+    )
 
-pub ended_one : (s : Slots) (e : ℕ) (base state : State) (count end : ℕ) (x : List ℕ) → IsOfEpoch (e % 2) e (slot_of s (segment_slot e)) → (r : ReplaysAll (slot_of s (segment_slot e)) base state count end) → InOne s e base r.records
-    → x ≡ take (end + 1) (slot_of s (segment_slot e) ++ closed_gate ∷ []) → IsInUse e x r.records × InOne (with_slot s (segment_slot e) x) e base r.records
+pub ended_one : (s : Slots) (e : ℕ) (base state : State) (count end : ℕ) (x : List ℕ)
+    → IsOfEpoch (e % 2) e (slot_of s (segment_slot e))
+    → (r : ReplaysAll (slot_of s (segment_slot e)) base state count end) → InOne s e base r.records
+    → x ≡ take (end + 1) (slot_of s (segment_slot e) ++ closed_gate ∷ []) → IsInUse e x r.records
+    × InOne (with_slot s (segment_slot e) x) e base r.records
 ended_one s e base state count end x is r one cut =
     let slot = slot_of s (segment_slot e) in
-    let used = ended_in_use e slot (drop 16 slot) x r.records (end - 16) end (header_apart (e % 2) e slot is) r.encoded (omega (arith, r.behind)) cut in
+    let used =
+    ended_in_use e slot (drop 16 slot) x r.records (end - 16) end (header_apart (e % 2) e slot is) r.encoded
+    (omega (arith, r.behind)) cut in
     (used, one_segment_changed s e base r.records r.records x one (in_use_encodes e x r.records used))
 
-pub ending_same : (old new : View) (e : ℕ) (base state : State) (count end : ℕ) → IsAtRest old → HaveLastGates old.seen → IsOfEpoch (e % 2) e (slot_of old.seen (segment_slot e))
+pub ending_same : (old new : View) (e : ℕ) (base state : State) (count end : ℕ) → IsAtRest old → HaveLastGates old.seen
+    → IsOfEpoch (e % 2) e (slot_of old.seen (segment_slot e))
     → (r : ReplaysAll (slot_of old.seen (segment_slot e)) base state count end) → InOne old.seen e base r.records
-    → Passes old new (DiffersIn old.seen (segment_slot e) (λ after. take (end + 1) after ≡ take (end + 1) (slot_of old.seen (segment_slot e)))) → Passes old new (StandForSame old.seen)
+    → Passes old new (DiffersIn old.seen (segment_slot e)
+    (λ after. take (end + 1) after ≡ take (end + 1) (slot_of old.seen (segment_slot e))))
+    → Passes old new (StandForSame old.seen)
 ending_same old new e base state count end rest gates is r one time =
     let slot = segment_slot e in
     let segment = slot_of old.seen slot in
     let own = own_gate (e % 2) e segment base state count end is (own_last_gate old.seen e gates) r in
-    passes_as old new (DiffersIn old.seen slot (λ after. take (end + 1) after ≡ take (end + 1) segment)) (StandForSame old.seen) time (λ c differs.
+    passes_as old new (DiffersIn old.seen slot (λ after. take (end + 1) after ≡ take (end + 1) segment))
+    (StandForSame old.seen) time (λ c differs.
     let x = slot_of c slot in
-    let known = cut_encodes e segment (drop 16 segment) x r.records (end - 16) end (header_apart (e % 2) e segment is) r.encoded (omega (arith, r.behind)) own differs.0 in
+    let known =
+    cut_encodes e segment (drop 16 segment) x r.records (end - 16) end (header_apart (e % 2) e segment is) r.encoded
+    (omega (arith, r.behind)) own differs.0 in
     subst (StandForSame old.seen) (sym differs.1) (
       same_by_one old.seen (with_slot old.seen slot x) state (one_recovered old.seen e base state r.records one r.run)
-          (one_recovered (with_slot old.seen slot x) e base state r.records (one_segment_changed old.seen e base r.records r.records x one known.0) r.run),
+          (one_recovered (with_slot old.seen slot x) e base state r.records
+          (one_segment_changed old.seen e base r.records r.records x one known.0) r.run),
       gates_with_segment old.seen x e gates (has_gate e x r.records known.0 known.1),
     ))
 
 -- the next image is written
 
-pub image_same : (old new : View) (e : ℕ) (base mid state : State) (first next : List Record) (content : List ℕ) → IsAtRest old → HaveLastGates old.seen → InTwo old.seen e base first next → Run base first mid → Run mid next state
-    → HoldsImage (e + 1) content mid → Recovered (as_written old.seen) state → Passes old new (Follows old (image_slot (e + 1)) (IsRemade 24 content)) → Passes old new (StandForSame old.seen)
+pub image_same : (old new : View) (e : ℕ) (base mid state : State) (first next : List Record) (content : List ℕ)
+    → IsAtRest old → HaveLastGates old.seen → InTwo old.seen e base first next → Run base first mid → Run mid next state
+    → HoldsImage (e + 1) content mid → Recovered (as_written old.seen) state
+    → Passes old new (Follows old (image_slot (e + 1)) (IsRemade 24 content)) → Passes old new (StandForSame old.seen)
 image_same old new e base mid state first next content rest gates two run more image found time =
     let slot = image_slot (e + 1) in
-    passes_as old new (DiffersIn old.seen slot (IsRemade 24 content (slot_of old.seen slot))) (StandForSame old.seen) (rest_called slot old new (IsRemade 24 content) rest time) (λ c differs.
+    passes_as old new (DiffersIn old.seen slot (IsRemade 24 content (slot_of old.seen slot))) (StandForSame old.seen)
+    (rest_called slot old new (IsRemade 24 content) rest time) (λ c differs.
     let x = slot_of c slot in
     subst (StandForSame old.seen) (sym differs.1) (
-      same_by_one old.seen (with_slot old.seen slot x) state found (next_image old.seen e base mid state first next x content two run more image differs.0),
+      same_by_one old.seen (with_slot old.seen slot x) state found
+          (next_image old.seen e base mid state first next x content two run more image differs.0),
       gates_alongside_image old.seen x (e + 1) gates,
     ))
 
@@ -228,26 +335,37 @@ pub record OneParts (s : Slots) (e : ℕ) (state : State) (count end : ℕ) : Ty
   pub replays : ReplaysAll (slot_of s (segment_slot e)) base state count end
   pub one : InOne s e base replays.records
 
-pub one_parts : (s : Slots) (e : ℕ) (state : State) (count end : ℕ) → Uses s e false → ReadsOne s e state count end → OneParts s e state count end
+pub one_parts : (s : Slots) (e : ℕ) (state : State) (count end : ℕ) → Uses s e false → ReadsOne s e state count end
+    → OneParts s e state count end
 one_parts s e state count end used read = record {
   base = read.base;
   header = used.segment;
   replays = read.replays;
-  one = one_of_parts s e read.base read.replays.records used read.image (replayed_encodes (e % 2) e (slot_of s (segment_slot e)) read.base state count end used.segment read.replays);
+  one =
+      one_of_parts s e read.base read.replays.records used read.image
+      (replayed_encodes (e % 2) e (slot_of s (segment_slot e)) read.base state count end used.segment read.replays);
 }
 
-pub one_found : (s : Slots) (e : ℕ) (state : State) (count end : ℕ) → OneParts s e state count end → Recovered (as_written s) state
-one_found s e state count end parts = one_recovered s e parts.base state parts.replays.records parts.one parts.replays.run
+pub one_found : (s : Slots) (e : ℕ) (state : State) (count end : ℕ) → OneParts s e state count end
+    → Recovered (as_written s) state
+one_found s e state count end parts =
+    one_recovered s e parts.base state parts.replays.records parts.one parts.replays.run
 
-pub one_ending : (old new : View) (e : ℕ) (state : State) (count end : ℕ) → IsAtRest old → HaveLastGates old.seen → OneParts old.seen e state count end
-    → (end < length (slot_of old.seen (segment_slot e)) → Passes old new (DiffersIn old.seen (segment_slot e) (λ after. take (end + 1) after ≡ take (end + 1) (slot_of old.seen (segment_slot e)))))
+pub one_ending : (old new : View) (e : ℕ) (state : State) (count end : ℕ) → IsAtRest old → HaveLastGates old.seen
+    → OneParts old.seen e state count end
+    → (end < length (slot_of old.seen (segment_slot e))
+    → Passes old new (DiffersIn old.seen (segment_slot e)
+    (λ after. take (end + 1) after ≡ take (end + 1) (slot_of old.seen (segment_slot e)))))
     → Passes old new (StandForSame old.seen)
 one_ending old new e state count end rest gates parts time =
     let segment = slot_of old.seen (segment_slot e) in
     ending_same old new e parts.base state count end rest gates parts.header parts.replays parts.one
-    (time (gate_inside (e % 2) e segment parts.base state count end parts.header (own_last_gate old.seen e gates) parts.replays))
+    (time (gate_inside (e % 2) e segment parts.base state count end parts.header
+    (own_last_gate old.seen e gates) parts.replays))
 
-pub one_kept : (s : Slots) (new : View) (e : ℕ) (state : State) (count end : ℕ) → OneParts s e state count end → IsAtRest new → new.seen ≡ with_slot s (segment_slot e) (take (end + 1) (slot_of s (segment_slot e) ++ closed_gate ∷ []))
+pub one_kept : (s : Slots) (new : View) (e : ℕ) (state : State) (count end : ℕ) → OneParts s e state count end
+    → IsAtRest new → new.seen ≡ with_slot s (segment_slot e)
+    (take (end + 1) (slot_of s (segment_slot e) ++ closed_gate ∷ []))
     → IsKept new (record { epoch = e; records = count }) state
 one_kept s new e state count end parts rest is =
     let x : List ℕ = take (end + 1) (slot_of s (segment_slot e) ++ closed_gate ∷ []) in
@@ -257,7 +375,9 @@ one_kept s new e state count end parts rest is =
       base = parts.base;
       records = parts.replays.records;
       stands = subst (λ (t : Slots). InOne t e parts.base parts.replays.records) (sym is) ended.1;
-      in_use = subst (λ (l : List ℕ). IsInUse e l parts.replays.records) (sym (ap (λ (t : Slots). slot_of t (segment_slot e)) is ∙ own_bytes (segment_slot e) s x)) ended.0;
+      in_use =
+          subst (λ (l : List ℕ). IsInUse e l parts.replays.records)
+          (sym (ap (λ (t : Slots). slot_of t (segment_slot e)) is ∙ own_bytes (segment_slot e) s x)) ended.0;
       run = parts.replays.run;
       counted = parts.replays.counted;
     }
@@ -273,7 +393,8 @@ pub record NextParts (s : Slots) (e : ℕ) (content : List ℕ) (state : State) 
   pub two : InTwo s e base first replays.records
   pub image : HoldsImage (e + 1) content mid
 
-pub next_parts : (s : Slots) (e : ℕ) (content : List ℕ) (mid state : State) (number stop count end : ℕ) → Uses s e true → ReadsOne s e mid number stop → ReplaysAll (slot_of s (segment_slot (e + 1))) mid state count end
+pub next_parts : (s : Slots) (e : ℕ) (content : List ℕ) (mid state : State) (number stop count end : ℕ) → Uses s e true
+    → ReadsOne s e mid number stop → ReplaysAll (slot_of s (segment_slot (e + 1))) mid state count end
     → HoldsImage (e + 1) content mid → NextParts s e content state count end
 next_parts s e content mid state number stop count end used read replays image = record {
   base = read.base;
@@ -282,27 +403,39 @@ next_parts s e content mid state number stop count end used read replays image =
   header = used.other.1;
   run = read.replays.run;
   replays = replays;
-  two = two_of_parts s e read.base read.replays.records replays.records used read.image (replayed_encodes (e % 2) e (slot_of s (segment_slot e)) read.base mid number stop used.segment read.replays)
-      (replayed_encodes ((e + 1) % 2) (e + 1) (slot_of s (segment_slot (e + 1))) mid state count end used.other.1 replays);
+  two =
+      two_of_parts s e read.base read.replays.records replays.records used read.image
+      (replayed_encodes (e % 2) e (slot_of s (segment_slot e)) read.base mid number stop used.segment read.replays)
+      (replayed_encodes ((e + 1) % 2) (e + 1)
+      (slot_of s (segment_slot (e + 1))) mid state count end used.other.1 replays);
   image = image;
 }
 
-pub next_found : (s : Slots) (e : ℕ) (content : List ℕ) (state : State) (count end : ℕ) → NextParts s e content state count end → Recovered (as_written s) state
-next_found s e content state count end parts = two_recovered s e parts.base parts.mid state parts.first parts.replays.records parts.two parts.run parts.replays.run
+pub next_found : (s : Slots) (e : ℕ) (content : List ℕ) (state : State) (count end : ℕ)
+    → NextParts s e content state count end → Recovered (as_written s) state
+next_found s e content state count end parts =
+    two_recovered s e parts.base parts.mid state parts.first parts.replays.records parts.two parts.run parts.replays.run
 
-pub next_writing : (old new : View) (e : ℕ) (content : List ℕ) (state : State) (count end : ℕ) → IsAtRest old → HaveLastGates old.seen → NextParts old.seen e content state count end
+pub next_writing : (old new : View) (e : ℕ) (content : List ℕ) (state : State) (count end : ℕ) → IsAtRest old
+    → HaveLastGates old.seen → NextParts old.seen e content state count end
     → Passes old new (Follows old (image_slot (e + 1)) (IsRemade 24 content)) → Passes old new (StandForSame old.seen)
 next_writing old new e content state count end rest gates parts time =
-    image_same old new e parts.base parts.mid state parts.first parts.replays.records content rest gates parts.two parts.run parts.replays.run parts.image (next_found old.seen e content state count end parts) time
+    image_same old new e parts.base parts.mid state parts.first parts.replays.records content rest gates parts.two
+    parts.run parts.replays.run parts.image (next_found old.seen e content state count end parts) time
 
 -- the image stands in its slot
-pub next_written : (s new : Slots) (e : ℕ) (content : List ℕ) (state : State) (count end : ℕ) → NextParts s e content state count end → new ≡ with_slot s (image_slot (e + 1)) content → OneParts new (e + 1) state count end
+pub next_written : (s new : Slots) (e : ℕ) (content : List ℕ) (state : State) (count end : ℕ)
+    → NextParts s e content state count end → new ≡ with_slot s (image_slot (e + 1)) content
+    → OneParts new (e + 1) state count end
 next_written s new e content state count end parts is =
-    let same : slot_of new (segment_slot (e + 1)) ≡ slot_of s (segment_slot (e + 1)) = ap (λ (t : Slots). slot_of t (segment_slot (e + 1))) is ∙ (alongside_image s content e).2 in
+    let same : slot_of new (segment_slot (e + 1)) ≡ slot_of s (segment_slot (e + 1)) =
+    ap (λ (t : Slots). slot_of t (segment_slot (e + 1))) is ∙ (alongside_image s content e).2 in
     let replays : ReplaysAll (slot_of new (segment_slot (e + 1))) parts.mid state count end =
     record {
       records = parts.replays.records;
-      encoded = subst (λ (l : List ℕ). EncodesCounted (drop 16 l) parts.replays.records (end - 16)) (sym same) parts.replays.encoded;
+      encoded =
+          subst (λ (l : List ℕ). EncodesCounted (drop 16 l) parts.replays.records (end - 16))
+          (sym same) parts.replays.encoded;
       run = parts.replays.run;
       counted = parts.replays.counted;
       behind = parts.replays.behind;
@@ -312,18 +445,26 @@ next_written s new e content state count end parts is =
       base = parts.mid;
       header = subst (IsOfEpoch ((e + 1) % 2) (e + 1)) (sym same) parts.header;
       replays = replays;
-      one = subst (λ (t : Slots). InOne t (e + 1) parts.mid parts.replays.records) (sym is) (two_finished s e parts.base parts.mid parts.first parts.replays.records content parts.two parts.image);
+      one =
+          subst (λ (t : Slots). InOne t (e + 1) parts.mid parts.replays.records) (sym is)
+          (two_finished s e parts.base parts.mid parts.first parts.replays.records content parts.two parts.image);
     }
 
-pub next_ending : (old mid new : View) (e : ℕ) (content : List ℕ) (state : State) (count end : ℕ) → IsAtRest old → IsAtRest mid → HaveLastGates old.seen → NextParts old.seen e content state count end
-    → mid.seen ≡ with_slot old.seen (image_slot (e + 1)) content → Passes old mid (Follows old (image_slot (e + 1)) (IsRemade 24 content))
-    → (end < length (slot_of mid.seen (segment_slot (e + 1))) → Passes mid new (DiffersIn mid.seen (segment_slot (e + 1)) (λ after. take (end + 1) after ≡ take (end + 1) (slot_of mid.seen (segment_slot (e + 1))))))
+pub next_ending : (old mid new : View) (e : ℕ) (content : List ℕ) (state : State) (count end : ℕ) → IsAtRest old
+    → IsAtRest mid → HaveLastGates old.seen → NextParts old.seen e content state count end
+    → mid.seen ≡ with_slot old.seen (image_slot (e + 1)) content
+    → Passes old mid (Follows old (image_slot (e + 1)) (IsRemade 24 content))
+    → (end < length (slot_of mid.seen (segment_slot (e + 1)))
+    → Passes mid new (DiffersIn mid.seen (segment_slot (e + 1))
+    (λ after. take (end + 1) after ≡ take (end + 1) (slot_of mid.seen (segment_slot (e + 1))))))
     → Passes old new (StandForSame old.seen)
 next_ending old mid new e content state count end rest at_rest gates parts is first second =
     let one = next_written old.seen mid.seen e content state count end parts is in
     same_after old mid new (next_writing old mid e content state count end rest gates parts first)
-    (same_by_one old.seen mid.seen state (next_found old.seen e content state count end parts) (one_found mid.seen (e + 1) state count end one))
-    (one_ending mid new (e + 1) state count end at_rest (subst HaveLastGates (sym is) (gates_alongside_image old.seen content (e + 1) gates)) one second)
+    (same_by_one old.seen mid.seen state (next_found old.seen e content state count end parts)
+    (one_found mid.seen (e + 1) state count end one))
+    (one_ending mid new (e + 1) state count end at_rest
+    (subst HaveLastGates (sym is) (gates_alongside_image old.seen content (e + 1) gates)) one second)
 
 -- what is read without a write
 
@@ -340,35 +481,62 @@ new_reads s unused new = record {
 latest_in_use : (s : Slots) (e : ℕ) (follows : Bool) → Uses s e follows → IsLatestEpoch s e
 latest_in_use s e follows used = inr (used.image_open, used.image, used.other_image)
 
-pub one_reads : (s : Slots) (e : ℕ) (state : State) (count end : ℕ) → Uses s e false → ReadsOne s e state count end → Reads s e count state
+pub one_reads : (s : Slots) (e : ℕ) (state : State) (count end : ℕ) → Uses s e false → ReadsOne s e state count end
+    → Reads s e count state
 one_reads s e state count end used read =
     let parts = one_parts s e state count end used read in
-    record { latest = latest_in_use s e false used; base = parts.base; records = parts.replays.records; encoded = one_encodes s e parts.base parts.replays.records parts.one; run = parts.replays.run; counted = parts.replays.counted }
+    record {
+      latest = latest_in_use s e false used;
+      base = parts.base;
+      records = parts.replays.records;
+      encoded = one_encodes s e parts.base parts.replays.records parts.one;
+      run = parts.replays.run;
+      counted = parts.replays.counted;
+    }
 
-pub two_reads : (s : Slots) (e : ℕ) (mid state : State) (number stop count end : ℕ) → Uses s e true → ReadsOne s e mid number stop → ReplaysAll (slot_of s (segment_slot (e + 1))) mid state count end → Reads s e (number + count) state
+pub two_reads : (s : Slots) (e : ℕ) (mid state : State) (number stop count end : ℕ) → Uses s e true
+    → ReadsOne s e mid number stop → ReplaysAll (slot_of s (segment_slot (e + 1))) mid state count end
+    → Reads s e (number + count) state
 two_reads s e mid state number stop count end used read replays =
-    let two = two_of_parts s e read.base read.replays.records replays.records used read.image (replayed_encodes (e % 2) e (slot_of s (segment_slot e)) read.base mid number stop used.segment read.replays)
-    (replayed_encodes ((e + 1) % 2) (e + 1) (slot_of s (segment_slot (e + 1))) mid state count end used.other.1 replays) in
+    let two =
+    two_of_parts s e read.base read.replays.records replays.records used read.image
+    (replayed_encodes (e % 2) e (slot_of s (segment_slot e)) read.base mid number stop used.segment
+    read.replays)
+    (replayed_encodes ((e + 1) % 2) (e + 1) (slot_of s (segment_slot (e + 1))) mid state count end used.other.1 replays)
+    in
     record {
       latest = latest_in_use s e true used;
       base = read.base;
       records = read.replays.records ++ replays.records;
       encoded = two_encodes s e read.base read.replays.records replays.records two;
       run = run_join read.base mid state read.replays.records replays.records read.replays.run replays.run;
-      counted = omega (arith, read.replays.counted, replays.counted, length-append read.replays.records replays.records);
+      counted =
+          omega (arith, read.replays.counted, replays.counted, length-append read.replays.records replays.records);
     }
 
 -- no run begins from the state of an image whose segment encodes none
-pub no_run : (e : ℕ) (image_bytes segment_bytes : List ℕ) (read base state : State) (records : List Record) → HoldsImage e image_bytes read → HoldsImage e image_bytes base → EncodesSegment e segment_bytes records → Run base records state
+pub no_run : (e : ℕ) (image_bytes segment_bytes : List ℕ) (read base state : State) (records : List Record)
+    → HoldsImage e image_bytes read → HoldsImage e image_bytes base → EncodesSegment e segment_bytes records
+    → Run base records state
     → ((rs : List Record) (s : State) → EncodesBatches (drop 16 segment_bytes) rs → Run read rs s → ⊥) → ⊥
 no_run e image_bytes segment_bytes read base state records one other encoded run none =
-    none records state (subst (λ (l : List ℕ). EncodesBatches l records) (sym (ap (λ (l : List ℕ). drop 16 l) encoded.encoding)) encoded.encoded)
+    none records state (subst (λ (l : List ℕ). EncodesBatches l records)
+    (sym (ap (λ (l : List ℕ). drop 16 l) encoded.encoding)) encoded.encoded)
     (subst (λ (b : State). Run b records state) (one_base e image_bytes base read other one) run)
 
 -- what was read of an epoch
-pub reads_one : (s : Slots) (e : ℕ) (base state : State) (count end : ℕ) → HoldsImage e (slot_of s (image_slot e)) base → ReplaysAll (slot_of s (segment_slot e)) base state count end → ReadsOne s e state count end
+pub reads_one : (s : Slots) (e : ℕ) (base state : State) (count end : ℕ) → HoldsImage e (slot_of s (image_slot e)) base
+    → ReplaysAll (slot_of s (segment_slot e)) base state count end → ReadsOne s e state count end
 reads_one s e base state count end image replays = record { base = base; image = image; replays = replays }
 
 -- two segments hold no more records than a word counts
-pub two_few : (s : Slots) (e : ℕ) (mid state : State) (number stop count end : ℕ) → ReadsOne s e mid number stop → ReplaysAll (slot_of s (segment_slot (e + 1))) mid state count end → number + count < 2 ^ 64
-two_few s e mid state number stop count end read replays = omega (arith, read.replays.counted, read.replays.encoded.encoded.bounded, replays.counted, replays.encoded.encoded.bounded)
+pub two_few : (s : Slots) (e : ℕ) (mid state : State) (number stop count end : ℕ) → ReadsOne s e mid number stop
+    → ReplaysAll (slot_of s (segment_slot (e + 1))) mid state count end → number + count < 2 ^ 64
+two_few s e mid state number stop count end read replays =
+    omega (
+      arith,
+      read.replays.counted,
+      read.replays.encoded.encoded.bounded,
+      replays.counted,
+      replays.encoded.encoded.bounded,
+    )

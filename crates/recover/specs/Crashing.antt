@@ -12,7 +12,9 @@ use Rattle.store_layout.specs.Standing.{as_written}
 -- After the batches of an open segment, or after its header if it has none, stands a byte: a gate that isn't open. Each
 -- segment that a server leaves is like that. A segment that isn't open needs no such byte.
 abbrev pub HasLastGate : List ℕ → Type 0
-HasLastGate segment = (epoch : ℕ) (records : List Record) → (segment_is : EncodesSegment epoch segment records) → 0 < length segment_is.encoded.rest
+HasLastGate segment =
+    (epoch : ℕ) (records : List Record) → (segment_is : EncodesSegment epoch segment records)
+    → 0 < length segment_is.encoded.rest
 
 -- both segments have it
 abbrev pub HaveLastGates : Slots → Type 0
@@ -35,5 +37,6 @@ LeavesSame before c = MayLeave before c ⊎ StandForSame before.seen c
 -- has its last gate too.
 abbrev pub AppendKeepsGate : Type 0
 AppendKeepsGate =
-    (epoch : ℕ) (old new : List ℕ) (records batch : List Record) → IsInUse epoch old records → 0 < length batch → AreRecords batch → length records + length batch ≤ MAX_RECORDS
+    (epoch : ℕ) (old new : List ℕ) (records batch : List Record) → IsInUse epoch old records → 0 < length batch
+    → AreRecords batch → length records + length batch ≤ MAX_RECORDS
     → IsMidAppend old (batch_encoding (length records) batch) new → HasLastGate new

@@ -25,7 +25,9 @@ pub record ReadsOne (slots : Slots) (epoch : ℕ) (state : State) (count end : �
 abbrev pub IsLatestEpoch : Slots → ℕ → Type 0
 IsLatestEpoch slots epoch =
     (((number : ℕ) → number < 2 → IsOpen image_header ((as_written slots).image number) → ⊥) × (epoch ≡ 0))
-    ⊎ (IsOpen image_header (slot_of slots (image_slot epoch)) × IsOfEpoch (epoch % 2) epoch (slot_of slots (image_slot epoch)) × IsPassedImage epoch (slot_of slots (image_slot (epoch + 1))))
+    ⊎ (IsOpen image_header (slot_of slots (image_slot epoch))
+    × IsOfEpoch (epoch % 2) epoch (slot_of slots (image_slot epoch))
+    × IsPassedImage epoch (slot_of slots (image_slot (epoch + 1))))
 
 -- What slots encode: the epoch of the image, `count` records in the segments, and the state after them.
 pub record Reads (slots : Slots) (epoch count : ℕ) (state : State) : Type 0 where

@@ -15,11 +15,13 @@ abbrev pub Says : ℕ → List ℕ → Header → Type 0
 Says length slot Closed = IsOpen length slot → ⊥
 Says length slot (Open epoch) = IsOpen length slot × IsOfEpoch (epoch % 2) epoch slot
 Says length slot OtherVersion = HasOtherVersion length slot
-Says length slot Unreadable = IsOpen length slot × (HasOtherVersion length slot → ⊥) × ((number epoch : ℕ) → IsOfEpoch number epoch slot → ⊥)
+Says length slot Unreadable =
+    IsOpen length slot × (HasOtherVersion length slot → ⊥) × ((number epoch : ℕ) → IsOfEpoch number epoch slot → ⊥)
 
 -- A slot of this number isn't open, or it is open and of this epoch.
 abbrev pub Tells : ℕ → ℕ → List ℕ → Option ℕ → Type 0
-Tells length number slot found = MatchOption found (IsOpen length slot → ⊥) (λ epoch. IsOpen length slot × IsOfEpoch number epoch slot)
+Tells length number slot found =
+    MatchOption found (IsOpen length slot → ⊥) (λ epoch. IsOpen length slot × IsOfEpoch number epoch slot)
 
 -- A header that no slot of this number may have.
 abbrev pub IsForeign : Header → ℕ → Type 0

@@ -13,5 +13,6 @@ pub record OpenedValue (D : Type 0) : Type 0 where
 
 abbrev pub opened_code : {D : Type 0} → Coded D → Coded (OpenedValue D)
 opened_code {D = D} code =
-    code_by (State × (D × (ℕ × ℕ))) (coded× state_code (coded× code (coded× coded_ℕ coded_ℕ))) (λ o. (o.kernel, (o.disk, (o.segment.epoch, o.segment.records))))
+    code_by (State × (D × (ℕ × ℕ))) (coded× state_code (coded× code (coded× coded_ℕ coded_ℕ)))
+    (λ o. (o.kernel, (o.disk, (o.segment.epoch, o.segment.records))))
     (λ p. record { kernel = p.0; disk = p.1.0; segment = record { epoch = p.1.1.0; records = p.1.1.1 } }) (λ _. refl)

@@ -39,7 +39,8 @@ pub record IsUnused (slots : Slots) : Type 0 where
 
 -- the next segment is open, or the other segment slot is passed over
 abbrev pub OtherSegment : Slots → ℕ → Bool → Type 0
-OtherSegment slots epoch true = (epoch + 1 < 2 ^ 64) × IsOfEpoch ((epoch + 1) % 2) (epoch + 1) (slot_of slots (segment_slot (epoch + 1)))
+OtherSegment slots epoch true =
+    (epoch + 1 < 2 ^ 64) × IsOfEpoch ((epoch + 1) % 2) (epoch + 1) (slot_of slots (segment_slot (epoch + 1)))
 OtherSegment slots epoch false = IsPassedSegment epoch (slot_of slots (segment_slot (epoch + 1)))
 
 -- The image of an epoch is open, and no later one; its segment is open, and the other one follows or is passed over.

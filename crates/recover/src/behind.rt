@@ -34,7 +34,9 @@ pub(crate) fn write_after<D: Disk, T: Drop>(
         ≡ with_slot (D.view disk.old).seen (slot_of_epoch image.now.epoch) (open_image image.now.epoch image.now.encoding)) }
     ensures synced { D.honest → OnOk result (IsSynced (D.view disk.new) (slot_of_epoch image.now.epoch)) }
     ensures any_moment { D.honest → IsSynced (D.view disk.old) (slot_of_epoch image.now.epoch)
-        → Passes (D.view disk.old) (D.view disk.new) (Follows (D.view disk.old) (slot_of_epoch image.now.epoch) (IsRemade 24 (open_image image.now.epoch image.now.encoding))) }
+        → Passes (D.view disk.old) (D.view disk.new)
+        (Follows (D.view disk.old) (slot_of_epoch image.now.epoch)
+        (IsRemade 24 (open_image image.now.epoch image.now.encoding))) }
     ensures failures { CountsFailure (D.failed_calls disk.old) (D.failed_calls disk.new) result }
 {
     let written = image.write(disk);

@@ -34,13 +34,16 @@ pub(crate) fn read_epoch<D: Disk>(
     ensures read { D.honest → IfOk result (λ r. ReadsOne (D.view disk.old).seen epoch r.0 r.1 r.2) }
     ensures damaged { D.honest → IsErrOf result StoreFault.Damaged → (base state : State) → (records : List Record)
         → HoldsImage epoch (slot_of (D.view disk.old).seen (slot_of_image epoch)) base
-        → EncodesSegment epoch (slot_of (D.view disk.old).seen (slot_of_segment epoch)) records → Run base records state → ⊥ }
+        → EncodesSegment epoch (slot_of (D.view disk.old).seen (slot_of_segment epoch)) records → Run base records state
+        → ⊥ }
     ensures seen { D.honest → (D.view disk.new).seen ≡ (D.view disk.old).seen }
     ensures time { D.honest → Passes (D.view disk.old) (D.view disk.new) (MayLeave (D.view disk.old)) }
     ensures quiet { OnOk result (D.failed_calls disk.new ≡ D.failed_calls disk.old) }
-    ensures still { OnErr result ((result ≡ Err StoreFault.Device) ⊎ (D.failed_calls disk.new ≡ D.failed_calls disk.old)) }
+    ensures still { OnErr result ((result ≡ Err StoreFault.Device)
+        ⊎ (D.failed_calls disk.new ≡ D.failed_calls disk.old)) }
     ensures device { IsErrOf result StoreFault.Device → D.failed_calls disk.new ≡ one_more (D.failed_calls disk.old) }
-    ensures faults { OnErr result ((result ≡ Err StoreFault.Device) ⊎ ((result ≡ Err StoreFault.Damaged) ⊎ (result ≡ Err StoreFault.NoMemory))) }
+    ensures faults { OnErr result ((result ≡ Err StoreFault.Device)
+        ⊎ ((result ≡ Err StoreFault.Damaged) ⊎ (result ≡ Err StoreFault.NoMemory))) }
 {
     let base = load_image(alloc, disk, image_slot(epoch))?;
     replay_segment(alloc, base, disk, segment_slot(epoch))
@@ -48,7 +51,9 @@ pub(crate) fn read_epoch<D: Disk>(
 
 /// Whether segment 0 has an open batch.
 fn has_batch<D: Disk>(disk: &mut D) -> Result<bool, DiskFault>
-    ensures batch { D.honest → IfOk result (λ has. MatchBool has (IsClosed (drop 16 (D.view disk.old).seen.segment0) → ⊥) (IsClosed (drop 16 (D.view disk.old).seen.segment0))) }
+    ensures batch { D.honest → IfOk result
+        (λ has. MatchBool has (IsClosed (drop 16 (D.view disk.old).seen.segment0) → ⊥)
+        (IsClosed (drop 16 (D.view disk.old).seen.segment0))) }
     ensures seen { D.honest → (D.view disk.new).seen ≡ (D.view disk.old).seen }
     ensures time { D.honest → Passes (D.view disk.old) (D.view disk.new) (MayLeave (D.view disk.old)) }
     ensures failures { CountsFailure (D.failed_calls disk.old) (D.failed_calls disk.new) result }
@@ -69,7 +74,8 @@ pub(crate) fn have_no_batch<D: Disk>(disk: &mut D, segment: Header) -> Result<()
     ensures seen { D.honest → (D.view disk.new).seen ≡ (D.view disk.old).seen }
     ensures time { D.honest → Passes (D.view disk.old) (D.view disk.new) (MayLeave (D.view disk.old)) }
     ensures quiet { OnOk result (D.failed_calls disk.new ≡ D.failed_calls disk.old) }
-    ensures still { OnErr result ((result ≡ Err StoreFault.Device) ⊎ (D.failed_calls disk.new ≡ D.failed_calls disk.old)) }
+    ensures still { OnErr result ((result ≡ Err StoreFault.Device)
+        ⊎ (D.failed_calls disk.new ≡ D.failed_calls disk.old)) }
     ensures device { IsErrOf result StoreFault.Device → D.failed_calls disk.new ≡ one_more (D.failed_calls disk.old) }
     ensures faults { OnErr result ((result ≡ Err StoreFault.Device) ⊎ (result ≡ Err StoreFault.Damaged)) }
 {

@@ -19,7 +19,8 @@ use words::take_long_word;
 fn encoding_length<D: Disk>(disk: &mut D, slot: Slot) -> Result<u64, DiskFault>
     requires { D.honest → IsOpen 24 (slot_of (D.view disk.old).seen slot) }
     ensures fits { IfOk result (λ size. size < 2 ^ 64) }
-    ensures length { D.honest → IfOk result (λ size. (rest : List ℕ) × (drop 16 (slot_of (D.view disk.old).seen slot) ≡ long_word size ++ rest)) }
+    ensures length { D.honest → IfOk result
+        (λ size. (rest : List ℕ) × (drop 16 (slot_of (D.view disk.old).seen slot) ≡ long_word size ++ rest)) }
     ensures seen { D.honest → (D.view disk.new).seen ≡ (D.view disk.old).seen }
     ensures time { D.honest → Passes (D.view disk.old) (D.view disk.new) (MayLeave (D.view disk.old)) }
     ensures failures { CountsFailure (D.failed_calls disk.old) (D.failed_calls disk.new) result }
@@ -37,14 +38,18 @@ fn encoding_length<D: Disk>(disk: &mut D, slot: Slot) -> Result<u64, DiskFault>
 /// `Damaged`: the slot ends within it.
 fn read_encoding<D: Disk>(alloc: Global, disk: &mut D, slot: Slot) -> Result<Vec<u8>, StoreFault>
     requires { D.honest → IsOpen 24 (slot_of (D.view disk.old).seen slot) }
-    ensures encoding { D.honest → IfOk result (λ encoding. HoldsEncoding (slot_of (D.view disk.old).seen slot) encoding.items) }
-    ensures damaged { D.honest → IsErrOf result StoreFault.Damaged → (encoding : List ℕ) → HoldsEncoding (slot_of (D.view disk.old).seen slot) encoding → ⊥ }
+    ensures encoding { D.honest → IfOk result
+        (λ encoding. HoldsEncoding (slot_of (D.view disk.old).seen slot) encoding.items) }
+    ensures damaged { D.honest → IsErrOf result StoreFault.Damaged → (encoding : List ℕ)
+        → HoldsEncoding (slot_of (D.view disk.old).seen slot) encoding → ⊥ }
     ensures seen { D.honest → (D.view disk.new).seen ≡ (D.view disk.old).seen }
     ensures time { D.honest → Passes (D.view disk.old) (D.view disk.new) (MayLeave (D.view disk.old)) }
     ensures quiet { OnOk result (D.failed_calls disk.new ≡ D.failed_calls disk.old) }
-    ensures still { OnErr result ((result ≡ Err StoreFault.Device) ⊎ (D.failed_calls disk.new ≡ D.failed_calls disk.old)) }
+    ensures still { OnErr result ((result ≡ Err StoreFault.Device)
+        ⊎ (D.failed_calls disk.new ≡ D.failed_calls disk.old)) }
     ensures device { IsErrOf result StoreFault.Device → D.failed_calls disk.new ≡ one_more (D.failed_calls disk.old) }
-    ensures faults { OnErr result ((result ≡ Err StoreFault.Device) ⊎ ((result ≡ Err StoreFault.Damaged) ⊎ (result ≡ Err StoreFault.NoMemory))) }
+    ensures faults { OnErr result ((result ≡ Err StoreFault.Device)
+        ⊎ ((result ≡ Err StoreFault.Damaged) ⊎ (result ≡ Err StoreFault.NoMemory))) }
 {
     let size = encoding_length(disk, slot)?;
     let room = disk.length(slot).saturating_sub(IMAGE_HEADER as u64);
@@ -85,16 +90,19 @@ pub(crate) fn load_image<D: Disk>(
     slot: Slot,
 ) -> Result<Kernel, StoreFault>
     requires { D.honest → IsOpen 24 (slot_of (D.view disk.old).seen slot) }
-    ensures image { D.honest → IfOk result (λ kernel. (number epoch : ℕ) → IsOfEpoch number epoch (slot_of (D.view disk.old).seen slot)
+    ensures image { D.honest → IfOk result
+        (λ kernel. (number epoch : ℕ) → IsOfEpoch number epoch (slot_of (D.view disk.old).seen slot)
         → HoldsImage epoch (slot_of (D.view disk.old).seen slot) kernel) }
     ensures damaged { D.honest → IsErrOf result StoreFault.Damaged → (epoch : ℕ) (state : State)
         → HoldsImage epoch (slot_of (D.view disk.old).seen slot) state → ⊥ }
     ensures seen { D.honest → (D.view disk.new).seen ≡ (D.view disk.old).seen }
     ensures time { D.honest → Passes (D.view disk.old) (D.view disk.new) (MayLeave (D.view disk.old)) }
     ensures quiet { OnOk result (D.failed_calls disk.new ≡ D.failed_calls disk.old) }
-    ensures still { OnErr result ((result ≡ Err StoreFault.Device) ⊎ (D.failed_calls disk.new ≡ D.failed_calls disk.old)) }
+    ensures still { OnErr result ((result ≡ Err StoreFault.Device)
+        ⊎ (D.failed_calls disk.new ≡ D.failed_calls disk.old)) }
     ensures device { IsErrOf result StoreFault.Device → D.failed_calls disk.new ≡ one_more (D.failed_calls disk.old) }
-    ensures faults { OnErr result ((result ≡ Err StoreFault.Device) ⊎ ((result ≡ Err StoreFault.Damaged) ⊎ (result ≡ Err StoreFault.NoMemory))) }
+    ensures faults { OnErr result ((result ≡ Err StoreFault.Device)
+        ⊎ ((result ≡ Err StoreFault.Damaged) ⊎ (result ≡ Err StoreFault.NoMemory))) }
 {
     let encoding = read_encoding(alloc, disk, slot)?;
     let kernel = state_of(alloc, &encoding)?;

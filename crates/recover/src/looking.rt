@@ -36,11 +36,13 @@ fn look_new<D: Disk>(alloc: Global, disk: &mut D, segment0: Header) -> Result<Ke
     requires unused { D.honest → IsUnused (D.view disk.old).seen }
     requires says { D.honest → Says 16 (D.view disk.old).seen.segment0 segment0 }
     ensures reads { D.honest → IfOk result (Reads (D.view disk.old).seen 0 0) }
-    ensures damaged { D.honest → IsErrOf result StoreFault.Damaged → (state : State) → Recovered (as_written (D.view disk.old).seen) state → ⊥ }
+    ensures damaged { D.honest → IsErrOf result StoreFault.Damaged → (state : State)
+        → Recovered (as_written (D.view disk.old).seen) state → ⊥ }
     ensures seen { D.honest → (D.view disk.new).seen ≡ (D.view disk.old).seen }
     ensures quiet { OnOk result (D.failed_calls disk.new ≡ D.failed_calls disk.old) }
     ensures device { IsErrOf result StoreFault.Device → D.failed_calls disk.new ≡ one_more (D.failed_calls disk.old) }
-    ensures faults { OnErr result ((result ≡ Err StoreFault.Device) ⊎ ((result ≡ Err StoreFault.Damaged) ⊎ (result ≡ Err StoreFault.NoMemory))) }
+    ensures faults { OnErr result ((result ≡ Err StoreFault.Device)
+        ⊎ ((result ≡ Err StoreFault.Damaged) ⊎ (result ≡ Err StoreFault.NoMemory))) }
 {
     have_no_batch(disk, segment0)?;
     let kernel = Kernel::opening(alloc)?;
@@ -57,11 +59,13 @@ fn look_in_use<D: Disk>(
     requires used { D.honest → IsInUse (D.view disk.old).seen epoch follows }
     requires fits { FitsNext (Survey.InUse epoch follows) }
     ensures reads { D.honest → IfOk result (λ r. Reads (D.view disk.old).seen epoch r.1 r.0) }
-    ensures damaged { D.honest → IsErrOf result StoreFault.Damaged → (state : State) → Recovered (as_written (D.view disk.old).seen) state → ⊥ }
+    ensures damaged { D.honest → IsErrOf result StoreFault.Damaged → (state : State)
+        → Recovered (as_written (D.view disk.old).seen) state → ⊥ }
     ensures seen { D.honest → (D.view disk.new).seen ≡ (D.view disk.old).seen }
     ensures quiet { OnOk result (D.failed_calls disk.new ≡ D.failed_calls disk.old) }
     ensures device { IsErrOf result StoreFault.Device → D.failed_calls disk.new ≡ one_more (D.failed_calls disk.old) }
-    ensures faults { OnErr result ((result ≡ Err StoreFault.Device) ⊎ ((result ≡ Err StoreFault.Damaged) ⊎ (result ≡ Err StoreFault.NoMemory))) }
+    ensures faults { OnErr result ((result ≡ Err StoreFault.Device)
+        ⊎ ((result ≡ Err StoreFault.Damaged) ⊎ (result ≡ Err StoreFault.NoMemory))) }
 {
     let (kernel, first, _) = read_epoch(alloc, disk, epoch)?;
     if !follows {
@@ -75,7 +79,8 @@ fn look_in_use<D: Disk>(
 fn find<D: Disk>(alloc: Global, disk: &mut D) -> Result<(u64, u64, Kernel), StoreFault>
     ensures reads { D.honest → IfOk result (λ r. Reads (D.view disk.old).seen r.0 r.1 r.2) }
     ensures seen { D.honest → (D.view disk.new).seen ≡ (D.view disk.old).seen }
-    ensures version { D.honest → IsErrOf result StoreFault.Version → IsOtherVersion (as_written (D.view disk.old).seen) }
+    ensures version { D.honest → IsErrOf result StoreFault.Version
+        → IsOtherVersion (as_written (D.view disk.old).seen) }
     ensures damaged { D.honest → IsErrOf result StoreFault.Damaged → IsDamaged (as_written (D.view disk.old).seen) }
     ensures faults { OnErr result ((result ≡ Err StoreFault.Device) ⊎ ((result ≡ Err StoreFault.Damaged)
         ⊎ ((result ≡ Err StoreFault.NoMemory) ⊎ (result ≡ Err StoreFault.Version)))) }
@@ -111,7 +116,8 @@ fn into_rows(alloc: Global, kernel: Kernel) -> Result<Snapshot, AllocError>
 pub fn look<D: Disk>(alloc: Global, disk: &mut D) -> Result<Looked, StoreFault>
     ensures state { IfOk result (λ look. IsLook D.honest (D.view disk.old).seen look) }
     ensures seen { D.honest → (D.view disk.new).seen ≡ (D.view disk.old).seen }
-    ensures version { D.honest → IsErrOf result StoreFault.Version → IsOtherVersion (as_written (D.view disk.old).seen) }
+    ensures version { D.honest → IsErrOf result StoreFault.Version
+        → IsOtherVersion (as_written (D.view disk.old).seen) }
     ensures damaged { D.honest → IsErrOf result StoreFault.Damaged → IsDamaged (as_written (D.view disk.old).seen) }
     ensures faults { OnErr result ((result ≡ Err StoreFault.Device) ⊎ ((result ≡ Err StoreFault.Damaged)
         ⊎ ((result ≡ Err StoreFault.NoMemory) ⊎ (result ≡ Err StoreFault.Version)))) }

@@ -26,10 +26,12 @@ pub(crate) fn sync_all<D: Disk>(disk: &mut D) -> Result<(), DiskFault>
 
 /// Makes an epoch's segment, without a record.
 pub(crate) fn make_segment<D: Disk>(disk: &mut D, epoch: u64) -> Result<Segment, DiskFault>
-    ensures made { D.honest → OnOk result ((D.view disk.new).seen ≡ with_slot (D.view disk.old).seen (slot_of_epoch epoch) (empty_segment epoch)) }
+    ensures made { D.honest → OnOk result
+        ((D.view disk.new).seen ≡ with_slot (D.view disk.old).seen (slot_of_epoch epoch) (empty_segment epoch)) }
     ensures synced { D.honest → OnOk result (IsSynced (D.view disk.new) (slot_of_epoch epoch)) }
     ensures any_moment { D.honest → IsSynced (D.view disk.old) (slot_of_epoch epoch)
-        → Passes (D.view disk.old) (D.view disk.new) (Follows (D.view disk.old) (slot_of_epoch epoch) (IsRemade 16 (empty_segment epoch))) }
+        → Passes (D.view disk.old) (D.view disk.new)
+        (Follows (D.view disk.old) (slot_of_epoch epoch) (IsRemade 16 (empty_segment epoch))) }
     ensures segment { IfOk result (λ segment. segment ≡ record { epoch = epoch; records = 0 }) }
     ensures failures { CountsFailure (D.failed_calls disk.old) (D.failed_calls disk.new) result }
 {

@@ -95,16 +95,20 @@ fn begin<D: Disk>(
     requires says { D.honest → Says 16 (D.view disk.old).seen.segment0 segment0 }
     ensures state { D.honest → IfOk result (λ r. Recovered (as_written (D.view disk.old).seen) r.0) }
     ensures kept { D.honest → IfOk result (λ r. IsKept (D.view disk.new) r.1 r.0) }
-    ensures damaged { D.honest → IsErrOf result StoreFault.Damaged → (state : State) → Recovered (as_written (D.view disk.old).seen) state → ⊥ }
-    ensures unchanged { D.honest → OnErr result ((result ≡ Err StoreFault.Device) ⊎ ((D.view disk.new).seen ≡ (D.view disk.old).seen)) }
+    ensures damaged { D.honest → IsErrOf result StoreFault.Damaged → (state : State)
+        → Recovered (as_written (D.view disk.old).seen) state → ⊥ }
+    ensures unchanged { D.honest → OnErr result
+        ((result ≡ Err StoreFault.Device) ⊎ ((D.view disk.new).seen ≡ (D.view disk.old).seen)) }
     ensures untouched { D.honest → OnErr result ((result ≡ Err StoreFault.Device)
         ⊎ Passes (D.view disk.old) (D.view disk.new) (MayLeave (D.view disk.old))) }
     ensures any_moment { D.honest → HaveLastGates (D.view disk.old).seen
         → Passes (D.view disk.old) (D.view disk.new) (StandForSame (D.view disk.old).seen) }
     ensures quiet { OnOk result (D.failed_calls disk.new ≡ D.failed_calls disk.old) }
-    ensures still { OnErr result ((result ≡ Err StoreFault.Device) ⊎ (D.failed_calls disk.new ≡ D.failed_calls disk.old)) }
+    ensures still { OnErr result ((result ≡ Err StoreFault.Device)
+        ⊎ (D.failed_calls disk.new ≡ D.failed_calls disk.old)) }
     ensures device { IsErrOf result StoreFault.Device → D.failed_calls disk.new ≡ one_more (D.failed_calls disk.old) }
-    ensures faults { OnErr result ((result ≡ Err StoreFault.Device) ⊎ ((result ≡ Err StoreFault.Damaged) ⊎ (result ≡ Err StoreFault.NoMemory))) }
+    ensures faults { OnErr result ((result ≡ Err StoreFault.Device)
+        ⊎ ((result ≡ Err StoreFault.Damaged) ⊎ (result ≡ Err StoreFault.NoMemory))) }
 {
     have_no_batch(disk, segment0)?;
     let kernel = Kernel::opening(alloc)?;
@@ -119,16 +123,20 @@ fn go_on<D: Disk>(alloc: Global, disk: &mut D, epoch: u64) -> Result<(Kernel, Se
     requires used { D.honest → IsInUse (D.view disk.old).seen epoch false }
     ensures state { D.honest → IfOk result (λ r. Recovered (as_written (D.view disk.old).seen) r.0) }
     ensures kept { D.honest → IfOk result (λ r. IsKept (D.view disk.new) r.1 r.0) }
-    ensures damaged { D.honest → IsErrOf result StoreFault.Damaged → (state : State) → Recovered (as_written (D.view disk.old).seen) state → ⊥ }
-    ensures unchanged { D.honest → OnErr result ((result ≡ Err StoreFault.Device) ⊎ ((D.view disk.new).seen ≡ (D.view disk.old).seen)) }
+    ensures damaged { D.honest → IsErrOf result StoreFault.Damaged → (state : State)
+        → Recovered (as_written (D.view disk.old).seen) state → ⊥ }
+    ensures unchanged { D.honest → OnErr result
+        ((result ≡ Err StoreFault.Device) ⊎ ((D.view disk.new).seen ≡ (D.view disk.old).seen)) }
     ensures untouched { D.honest → OnErr result ((result ≡ Err StoreFault.Device)
         ⊎ Passes (D.view disk.old) (D.view disk.new) (MayLeave (D.view disk.old))) }
     ensures any_moment { D.honest → HaveLastGates (D.view disk.old).seen
         → Passes (D.view disk.old) (D.view disk.new) (StandForSame (D.view disk.old).seen) }
     ensures quiet { OnOk result (D.failed_calls disk.new ≡ D.failed_calls disk.old) }
-    ensures still { OnErr result ((result ≡ Err StoreFault.Device) ⊎ (D.failed_calls disk.new ≡ D.failed_calls disk.old)) }
+    ensures still { OnErr result ((result ≡ Err StoreFault.Device)
+        ⊎ (D.failed_calls disk.new ≡ D.failed_calls disk.old)) }
     ensures device { IsErrOf result StoreFault.Device → D.failed_calls disk.new ≡ one_more (D.failed_calls disk.old) }
-    ensures faults { OnErr result ((result ≡ Err StoreFault.Device) ⊎ ((result ≡ Err StoreFault.Damaged) ⊎ (result ≡ Err StoreFault.NoMemory))) }
+    ensures faults { OnErr result ((result ≡ Err StoreFault.Device)
+        ⊎ ((result ≡ Err StoreFault.Damaged) ⊎ (result ≡ Err StoreFault.NoMemory))) }
 {
     let (kernel, records, end) = read_epoch(alloc, disk, epoch)?;
     let kernel = end_after(disk, segment_slot(epoch), end, kernel)?;
@@ -146,16 +154,20 @@ fn go_on_next<D: Disk>(
     requires fits { epoch + 1 < 2 ^ 64 }
     ensures state { D.honest → IfOk result (λ r. Recovered (as_written (D.view disk.old).seen) r.0) }
     ensures kept { D.honest → IfOk result (λ r. IsKept (D.view disk.new) r.1 r.0) }
-    ensures damaged { D.honest → IsErrOf result StoreFault.Damaged → (state : State) → Recovered (as_written (D.view disk.old).seen) state → ⊥ }
-    ensures unchanged { D.honest → OnErr result ((result ≡ Err StoreFault.Device) ⊎ ((D.view disk.new).seen ≡ (D.view disk.old).seen)) }
+    ensures damaged { D.honest → IsErrOf result StoreFault.Damaged → (state : State)
+        → Recovered (as_written (D.view disk.old).seen) state → ⊥ }
+    ensures unchanged { D.honest → OnErr result
+        ((result ≡ Err StoreFault.Device) ⊎ ((D.view disk.new).seen ≡ (D.view disk.old).seen)) }
     ensures untouched { D.honest → OnErr result ((result ≡ Err StoreFault.Device)
         ⊎ Passes (D.view disk.old) (D.view disk.new) (MayLeave (D.view disk.old))) }
     ensures any_moment { D.honest → HaveLastGates (D.view disk.old).seen
         → Passes (D.view disk.old) (D.view disk.new) (StandForSame (D.view disk.old).seen) }
     ensures quiet { OnOk result (D.failed_calls disk.new ≡ D.failed_calls disk.old) }
-    ensures still { OnErr result ((result ≡ Err StoreFault.Device) ⊎ (D.failed_calls disk.new ≡ D.failed_calls disk.old)) }
+    ensures still { OnErr result ((result ≡ Err StoreFault.Device)
+        ⊎ (D.failed_calls disk.new ≡ D.failed_calls disk.old)) }
     ensures device { IsErrOf result StoreFault.Device → D.failed_calls disk.new ≡ one_more (D.failed_calls disk.old) }
-    ensures faults { OnErr result ((result ≡ Err StoreFault.Device) ⊎ ((result ≡ Err StoreFault.Damaged) ⊎ (result ≡ Err StoreFault.NoMemory))) }
+    ensures faults { OnErr result ((result ≡ Err StoreFault.Device)
+        ⊎ ((result ≡ Err StoreFault.Damaged) ⊎ (result ≡ Err StoreFault.NoMemory))) }
 {
     let (base, _, _) = read_epoch(alloc, disk, epoch)?;
     let (base, image) = with_image(alloc, base, epoch + 1)?;
@@ -198,15 +210,18 @@ fn read_synced<D: Disk>(disk: &mut D) -> Result<Headers, DiskFault>
 fn load<D: Disk>(alloc: Global, disk: &mut D) -> Result<(Kernel, Segment), StoreFault>
     ensures state { D.honest → IfOk result (λ r. Recovered (as_written (D.view disk.old).seen) r.0) }
     ensures kept { D.honest → IfOk result (λ r. IsKept (D.view disk.new) r.1 r.0) }
-    ensures version { D.honest → IsErrOf result StoreFault.Version → IsOtherVersion (as_written (D.view disk.old).seen) }
+    ensures version { D.honest → IsErrOf result StoreFault.Version
+        → IsOtherVersion (as_written (D.view disk.old).seen) }
     ensures damaged { D.honest → IsErrOf result StoreFault.Damaged → IsDamaged (as_written (D.view disk.old).seen) }
-    ensures unchanged { D.honest → OnErr result ((result ≡ Err StoreFault.Device) ⊎ ((D.view disk.new).seen ≡ (D.view disk.old).seen)) }
+    ensures unchanged { D.honest → OnErr result
+        ((result ≡ Err StoreFault.Device) ⊎ ((D.view disk.new).seen ≡ (D.view disk.old).seen)) }
     ensures untouched { D.honest → OnErr result ((result ≡ Err StoreFault.Device)
         ⊎ Passes (D.view disk.old) (D.view disk.new) (MayLeave (D.view disk.old))) }
     ensures any_moment { D.honest → HaveLastGates (D.view disk.old).seen
         → Passes (D.view disk.old) (D.view disk.new) (LeavesSame (D.view disk.old)) }
     ensures quiet { OnOk result (D.failed_calls disk.new ≡ D.failed_calls disk.old) }
-    ensures still { OnErr result ((result ≡ Err StoreFault.Device) ⊎ (D.failed_calls disk.new ≡ D.failed_calls disk.old)) }
+    ensures still { OnErr result ((result ≡ Err StoreFault.Device)
+        ⊎ (D.failed_calls disk.new ≡ D.failed_calls disk.old)) }
     ensures device { IsErrOf result StoreFault.Device → D.failed_calls disk.new ≡ one_more (D.failed_calls disk.old) }
     ensures faults { OnErr result ((result ≡ Err StoreFault.Device) ⊎ ((result ≡ Err StoreFault.Damaged)
         ⊎ ((result ≡ Err StoreFault.NoMemory) ⊎ (result ≡ Err StoreFault.Version)))) }
@@ -232,15 +247,19 @@ fn load<D: Disk>(alloc: Global, disk: &mut D) -> Result<(Kernel, Segment), Store
 /// another version. `NoMemory`: out of memory.
 pub fn open<D: Disk>(alloc: Global, disk: D) -> Result<Opened<D>, (StoreFault, D)>
     ensures state { D.honest → IfOk result (λ opened. Recovered (as_written (D.view disk).seen) opened.kernel) }
-    ensures version { D.honest → IfErr result (λ fault. fault.0 ≡ StoreFault.Version → IsOtherVersion (as_written (D.view disk).seen)) }
-    ensures damaged { D.honest → IfErr result (λ fault. fault.0 ≡ StoreFault.Damaged → IsDamaged (as_written (D.view disk).seen)) }
+    ensures version { D.honest → IfErr result
+        (λ fault. fault.0 ≡ StoreFault.Version → IsOtherVersion (as_written (D.view disk).seen)) }
+    ensures damaged { D.honest → IfErr result
+        (λ fault. fault.0 ≡ StoreFault.Damaged → IsDamaged (as_written (D.view disk).seen)) }
     ensures faults { IfErr result (λ fault. (fault.0 ≡ StoreFault.Device) ⊎ ((fault.0 ≡ StoreFault.Damaged)
         ⊎ ((fault.0 ≡ StoreFault.NoMemory) ⊎ (fault.0 ≡ StoreFault.Version)))) }
     ensures quiet { IfOk result (λ opened. D.failed_calls opened.disk ≡ D.failed_calls disk) }
     ensures still { IfErr result (λ fault. fault.0 ≢ StoreFault.Device → D.failed_calls fault.1 ≡ D.failed_calls disk) }
-    ensures device { IfErr result (λ fault. fault.0 ≡ StoreFault.Device → D.failed_calls fault.1 ≡ one_more (D.failed_calls disk)) }
+    ensures device { IfErr result (λ fault. fault.0 ≡ StoreFault.Device
+        → D.failed_calls fault.1 ≡ one_more (D.failed_calls disk)) }
     // A fault that isn't the device's leaves the slots as they were, and their post-crash contents too.
-    ensures unchanged { D.honest → IfErr result (λ fault. fault.0 ≢ StoreFault.Device → (D.view fault.1).seen ≡ (D.view disk).seen) }
+    ensures unchanged { D.honest → IfErr result
+        (λ fault. fault.0 ≢ StoreFault.Device → (D.view fault.1).seen ≡ (D.view disk).seen) }
     ensures untouched { D.honest → IfErr result (λ fault. fault.0 ≢ StoreFault.Device
         → Passes (D.view disk) (D.view fault.1) (MayLeave (D.view disk))) }
     // Whatever a crash leaves, at any moment of the call and also if it fails, might have been left before, or it
@@ -256,7 +275,8 @@ pub fn open<D: Disk>(alloc: Global, disk: D) -> Result<Opened<D>, (StoreFault, D
     ensures kept { D.honest → IfOk result (λ opened. IsKept (D.view opened.disk) opened.segment opened.kernel) }
     // What slots stand for is what opening them returns. A store that stands for a state isn't reported as damaged or
     // of another version.
-    ensures same { D.honest → IfOk result (λ opened. (state : State) → Recovered (as_written (D.view disk).seen) state → opened.kernel ≡ state) }
+    ensures same { D.honest → IfOk result
+        (λ opened. (state : State) → Recovered (as_written (D.view disk).seen) state → opened.kernel ≡ state) }
     ensures opens { D.honest → IfErr result (λ fault. (state : State) → Recovered (as_written (D.view disk).seen) state
         → (fault.0 ≢ StoreFault.Damaged) × (fault.0 ≢ StoreFault.Version)) }
 {

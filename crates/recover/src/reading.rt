@@ -22,8 +22,10 @@ use std::alloc::Global;
 /// `Damaged`: the record is no step of the machine. `NoMemory`: out of memory.
 fn replay_one(kernel: Kernel, entry: Record) -> Result<Kernel, StoreFault>
     ensures step { IfOk result (λ state. Step kernel entry.space entry.call entry.reply state) }
-    ensures only { IfOk result (λ state. (other : State) → Step kernel entry.space entry.call entry.reply other → other ≡ state) }
-    ensures damaged { IsErrOf result StoreFault.Damaged → (state : State) → Step kernel entry.space entry.call entry.reply state → ⊥ }
+    ensures only { IfOk result (λ state. (other : State) → Step kernel entry.space entry.call entry.reply other
+        → other ≡ state) }
+    ensures damaged { IsErrOf result StoreFault.Damaged → (state : State)
+        → Step kernel entry.space entry.call entry.reply state → ⊥ }
     ensures faults { OnErr result ((result ≡ Err StoreFault.Damaged) ⊎ (result ≡ Err StoreFault.NoMemory)) }
 {
     match kernel.replay(&entry) {
@@ -52,9 +54,11 @@ fn replay_all<D: Disk>(
     ensures seen { D.honest → (D.view disk.new).seen ≡ (D.view disk.old).seen }
     ensures time { D.honest → Passes (D.view disk.old) (D.view disk.new) (MayLeave (D.view disk.old)) }
     ensures quiet { OnOk result (D.failed_calls disk.new ≡ D.failed_calls disk.old) }
-    ensures still { OnErr result ((result ≡ Err StoreFault.Device) ⊎ (D.failed_calls disk.new ≡ D.failed_calls disk.old)) }
+    ensures still { OnErr result ((result ≡ Err StoreFault.Device)
+        ⊎ (D.failed_calls disk.new ≡ D.failed_calls disk.old)) }
     ensures device { IsErrOf result StoreFault.Device → D.failed_calls disk.new ≡ one_more (D.failed_calls disk.old) }
-    ensures faults { OnErr result ((result ≡ Err StoreFault.Device) ⊎ ((result ≡ Err StoreFault.Damaged) ⊎ (result ≡ Err StoreFault.NoMemory))) }
+    ensures faults { OnErr result ((result ≡ Err StoreFault.Device)
+        ⊎ ((result ≡ Err StoreFault.Damaged) ⊎ (result ≡ Err StoreFault.NoMemory))) }
 {
     let mut state = kernel;
     loop {
@@ -81,9 +85,11 @@ pub(crate) fn replay_segment<D: Disk>(
     ensures seen { D.honest → (D.view disk.new).seen ≡ (D.view disk.old).seen }
     ensures time { D.honest → Passes (D.view disk.old) (D.view disk.new) (MayLeave (D.view disk.old)) }
     ensures quiet { OnOk result (D.failed_calls disk.new ≡ D.failed_calls disk.old) }
-    ensures still { OnErr result ((result ≡ Err StoreFault.Device) ⊎ (D.failed_calls disk.new ≡ D.failed_calls disk.old)) }
+    ensures still { OnErr result ((result ≡ Err StoreFault.Device)
+        ⊎ (D.failed_calls disk.new ≡ D.failed_calls disk.old)) }
     ensures device { IsErrOf result StoreFault.Device → D.failed_calls disk.new ≡ one_more (D.failed_calls disk.old) }
-    ensures faults { OnErr result ((result ≡ Err StoreFault.Device) ⊎ ((result ≡ Err StoreFault.Damaged) ⊎ (result ≡ Err StoreFault.NoMemory))) }
+    ensures faults { OnErr result ((result ≡ Err StoreFault.Device)
+        ⊎ ((result ≡ Err StoreFault.Damaged) ⊎ (result ≡ Err StoreFault.NoMemory))) }
 {
     let made = RecordReader::new(alloc, disk, slot, SEGMENT_HEADER as u64, PIECE);
     let (base, mut reader) = both(kernel, made)?;

@@ -129,7 +129,8 @@ fn survey_open(
 fn have_one_version(headers: &Headers) -> Result<(), StoreFault>
     ensures none { OnOk result ((headers.now.image0 ≢ Header.OtherVersion) × (headers.now.image1 ≢ Header.OtherVersion)
         × (headers.now.segment0 ≢ Header.OtherVersion) × (headers.now.segment1 ≢ Header.OtherVersion)) }
-    ensures some { OnErr result ((headers.now.image0 ≡ Header.OtherVersion) ⊎ ((headers.now.image1 ≡ Header.OtherVersion)
+    ensures some { OnErr result ((headers.now.image0 ≡ Header.OtherVersion)
+        ⊎ ((headers.now.image1 ≡ Header.OtherVersion)
         ⊎ ((headers.now.segment0 ≡ Header.OtherVersion) ⊎ (headers.now.segment1 ≡ Header.OtherVersion)))) }
     ensures faults { OnErr result (result ≡ Err StoreFault.Version) }
 {
@@ -150,9 +151,11 @@ fn have_one_version(headers: &Headers) -> Result<(), StoreFault>
 
 /// What a store is, by the headers of its slots, if none is of another version.
 fn survey_headers(headers: &Headers) -> Result<Survey, StoreFault>
-    ensures surveyed { (slots : Slots) → SayAll slots headers.now.image0 headers.now.image1 headers.now.segment0 headers.now.segment1
+    ensures surveyed { (slots : Slots)
+        → SayAll slots headers.now.image0 headers.now.image1 headers.now.segment0 headers.now.segment1
         → IfOk result (Surveys slots) }
-    ensures damaged { (slots : Slots) → SayAll slots headers.now.image0 headers.now.image1 headers.now.segment0 headers.now.segment1
+    ensures damaged { (slots : Slots)
+        → SayAll slots headers.now.image0 headers.now.image1 headers.now.segment0 headers.now.segment1
         → OnErr result ((base : State) → (records : List Record) → Encodes (as_written slots) base records → ⊥) }
     ensures fits { IfOk result FitsNext }
     ensures faults { OnErr result (result ≡ Err StoreFault.Damaged) }
@@ -169,16 +172,22 @@ fn survey_headers(headers: &Headers) -> Result<Survey, StoreFault>
 /// `Version`: an open slot is of another version. `Damaged`: an open slot is of an epoch with the other number, or the
 /// slots are not as a server leaves them.
 pub(crate) fn survey_store(headers: &Headers) -> Result<Survey, StoreFault>
-    ensures surveyed { (slots : Slots) → SayAll slots headers.now.image0 headers.now.image1 headers.now.segment0 headers.now.segment1
+    ensures surveyed { (slots : Slots)
+        → SayAll slots headers.now.image0 headers.now.image1 headers.now.segment0 headers.now.segment1
         → IfOk result (Surveys slots) }
-    ensures one_version { (slots : Slots) → SayAll slots headers.now.image0 headers.now.image1 headers.now.segment0 headers.now.segment1
+    ensures one_version { (slots : Slots)
+        → SayAll slots headers.now.image0 headers.now.image1 headers.now.segment0 headers.now.segment1
         → OnOk result (IsOtherVersion (as_written slots) → ⊥) }
-    ensures version { (slots : Slots) → SayAll slots headers.now.image0 headers.now.image1 headers.now.segment0 headers.now.segment1
+    ensures version { (slots : Slots)
+        → SayAll slots headers.now.image0 headers.now.image1 headers.now.segment0 headers.now.segment1
         → IsErrOf result StoreFault.Version → IsOtherVersion (as_written slots) }
-    ensures no_other { (slots : Slots) → SayAll slots headers.now.image0 headers.now.image1 headers.now.segment0 headers.now.segment1
+    ensures no_other { (slots : Slots)
+        → SayAll slots headers.now.image0 headers.now.image1 headers.now.segment0 headers.now.segment1
         → IsErrOf result StoreFault.Damaged → IsOtherVersion (as_written slots) → ⊥ }
-    ensures damaged { (slots : Slots) → SayAll slots headers.now.image0 headers.now.image1 headers.now.segment0 headers.now.segment1
-        → IsErrOf result StoreFault.Damaged → (base : State) → (records : List Record) → Encodes (as_written slots) base records → ⊥ }
+    ensures damaged { (slots : Slots)
+        → SayAll slots headers.now.image0 headers.now.image1 headers.now.segment0 headers.now.segment1
+        → IsErrOf result StoreFault.Damaged → (base : State) → (records : List Record)
+        → Encodes (as_written slots) base records → ⊥ }
     ensures fits { IfOk result FitsNext }
     ensures faults { OnErr result ((result ≡ Err StoreFault.Version) ⊎ (result ≡ Err StoreFault.Damaged)) }
 {

@@ -30,25 +30,36 @@ begun own peer = record {
   counted = refl;
 }
 
-frames-push : (exchanges : Exchanges) (exchange : List ℕ × List ℕ) → AreFrames exchanges → AreFrames (exchange ∷ []) → AreFrames (exchanges ++ exchange ∷ [])
+frames-push : (exchanges : Exchanges) (exchange : List ℕ × List ℕ) → AreFrames exchanges → AreFrames (exchange ∷ [])
+    → AreFrames (exchanges ++ exchange ∷ [])
 frames-push [] exchange so_far is = is
 frames-push (first ∷ exchanges) exchange so_far is = (so_far.0, so_far.1, frames-push exchanges exchange so_far.2 is)
 
-requests_encoding-push : (exchanges : Exchanges) (exchange : List ℕ × List ℕ) → requests_encoding exchanges ++ frame_encoding exchange.0 ≡ requests_encoding (exchanges ++ exchange ∷ [])
+requests_encoding-push : (exchanges : Exchanges) (exchange : List ℕ × List ℕ)
+    → requests_encoding exchanges ++ frame_encoding exchange.0 ≡ requests_encoding (exchanges ++ exchange ∷ [])
 requests_encoding-push [] exchange = sym (append-nil (frame_encoding exchange.0))
-requests_encoding-push (first ∷ exchanges) exchange = append_assoc (frame_encoding first.0) (requests_encoding exchanges) (frame_encoding exchange.0) ∙ ap (λ l. frame_encoding first.0 ++ l) (requests_encoding-push exchanges exchange)
+requests_encoding-push (first ∷ exchanges) exchange =
+    append_assoc (frame_encoding first.0) (requests_encoding exchanges) (frame_encoding exchange.0) ∙ ap
+    (λ l. frame_encoding first.0 ++ l) (requests_encoding-push exchanges exchange)
 
-replies_encoding-push : (exchanges : Exchanges) (exchange : List ℕ × List ℕ) → replies_encoding exchanges ++ frame_encoding exchange.1 ≡ replies_encoding (exchanges ++ exchange ∷ [])
+replies_encoding-push : (exchanges : Exchanges) (exchange : List ℕ × List ℕ)
+    → replies_encoding exchanges ++ frame_encoding exchange.1 ≡ replies_encoding (exchanges ++ exchange ∷ [])
 replies_encoding-push [] exchange = sym (append-nil (frame_encoding exchange.1))
-replies_encoding-push (first ∷ exchanges) exchange = append_assoc (frame_encoding first.1) (replies_encoding exchanges) (frame_encoding exchange.1) ∙ ap (λ l. frame_encoding first.1 ++ l) (replies_encoding-push exchanges exchange)
+replies_encoding-push (first ∷ exchanges) exchange =
+    append_assoc (frame_encoding first.1) (replies_encoding exchanges) (frame_encoding exchange.1) ∙ ap
+    (λ l. frame_encoding first.1 ++ l) (replies_encoding-push exchanges exchange)
 
-nothing_waits : (waiting : List ℕ) (exchanges : Exchanges) (exchange : List ℕ × List ℕ) → [] ≡ waiting_after waiting (exchanges ++ exchange ∷ [])
+nothing_waits : (waiting : List ℕ) (exchanges : Exchanges) (exchange : List ℕ × List ℕ)
+    → [] ≡ waiting_after waiting (exchanges ++ exchange ∷ [])
 nothing_waits waiting [] exchange = refl
 nothing_waits waiting (first ∷ exchanges) exchange = refl
 
 -- one more frame
-pub goes_on : (own peer own_mid peer_mid own_now peer_now : Side) (count : ℕ) (request reply : List ℕ) → Going own peer own_mid peer_mid count → IsTaken own_mid.left request own_now.left → Appends peer_mid.written peer_now.written (frame_encoding request) → peer_now.waiting ≡ []
-    → IsTaken peer_mid.left reply peer_now.left → Appends own_mid.written own_now.written (frame_encoding reply) → own_now.waiting ≡ [] → Going own peer own_now peer_now (count + 1)
+pub goes_on : (own peer own_mid peer_mid own_now peer_now : Side) (count : ℕ) (request reply : List ℕ)
+    → Going own peer own_mid peer_mid count → IsTaken own_mid.left request own_now.left
+    → Appends peer_mid.written peer_now.written (frame_encoding request) → peer_now.waiting ≡ []
+    → IsTaken peer_mid.left reply peer_now.left → Appends own_mid.written own_now.written (frame_encoding reply)
+    → own_now.waiting ≡ [] → Going own peer own_now peer_now (count + 1)
 goes_on own peer own_mid peer_mid own_now peer_now count request reply so_far asked sent sent_on answered told told_on =
     let exchange : List ℕ × List ℕ = (request, reply) in
     let before = so_far.exchanged in
@@ -58,33 +69,47 @@ goes_on own peer own_mid peer_mid own_now peer_now count request reply so_far as
       exchanges = so_far.exchanges ++ exchange ∷ [];
       exchanged = record {
         frames = frames-push so_far.exchanges exchange before.frames (asked.fits, answered.fits, tt);
-        read = subst (Consumes own.left own_now.left) requests (Consumes-trans own.left own_mid.left own_now.left _ _ before.read asked.taken);
-        sent = subst (Appends peer.written peer_now.written) requests (Appends-trans peer.written peer_mid.written peer_now.written _ _ before.sent sent);
+        read =
+            subst (Consumes own.left own_now.left) requests
+            (Consumes-trans own.left own_mid.left own_now.left _ _ before.read asked.taken);
+        sent =
+            subst (Appends peer.written peer_now.written) requests
+            (Appends-trans peer.written peer_mid.written peer_now.written _ _ before.sent sent);
         sent_on = sent_on ∙ nothing_waits peer.waiting so_far.exchanges exchange;
-        heard = subst (Consumes peer.left peer_now.left) replies (Consumes-trans peer.left peer_mid.left peer_now.left _ _ before.heard answered.taken);
-        told = subst (Appends own.written own_now.written) replies (Appends-trans own.written own_mid.written own_now.written _ _ before.told told);
+        heard =
+            subst (Consumes peer.left peer_now.left) replies
+            (Consumes-trans peer.left peer_mid.left peer_now.left _ _ before.heard answered.taken);
+        told =
+            subst (Appends own.written own_now.written) replies
+            (Appends-trans own.written own_mid.written own_now.written _ _ before.told told);
         told_on = told_on ∙ nothing_waits own.waiting so_far.exchanges exchange;
       };
       counted = omega (arith, so_far.counted, length-append so_far.exchanges (exchange ∷ []));
     }
 
 -- as the clause of the result says
-ended_as : (own peer own_new peer_new : Side) (fault : WireFault) (result : Result (Unit {0}) WireFault) → result ≡ Err fault → Ends own peer own_new peer_new (Err fault) → Ends own peer own_new peer_new result
+ended_as : (own peer own_new peer_new : Side) (fault : WireFault) (result : Result (Unit {0}) WireFault)
+    → result ≡ Err fault → Ends own peer own_new peer_new (Err fault) → Ends own peer own_new peer_new result
 ended_as own peer own_new peer_new fault result is ends = subst (Ends own peer own_new peer_new) (sym is) ends
 
-pub ends_telling : (own peer own_mid peer_mid own_new peer_new : Side) (count : ℕ) (request reply : List ℕ) (fault : WireFault) (result : Result (Unit {0}) WireFault) → Going own peer own_mid peer_mid count → IsTaken own_mid.left request own_new.left
-    → Appends peer_mid.written peer_new.written (frame_encoding request) → peer_new.waiting ≡ [] → IsTaken peer_mid.left reply peer_new.left → AppendsPart own_mid.written own_new.written (frame_encoding reply) → fault ≡ Device → result ≡ Err fault → Ends own peer own_new peer_new result
-ends_telling own peer own_mid peer_mid own_new peer_new count request reply fault result so_far taken sent sent_on answered part device is = ended_as own peer own_new peer_new fault result is (inr (inr (inr (inl (record {
-  exchanges = so_far.exchanges;
-  own_mid = own_mid;
-  peer_mid = peer_mid;
-  exchanged = so_far.exchanged;
-  request = request;
-  taken = taken;
-  sent = sent;
-  sent_on = sent_on;
-  reply = reply;
-  answered = answered;
-  part = part;
-  fault_is = device;
-})))))
+pub ends_telling : (own peer own_mid peer_mid own_new peer_new : Side) (count : ℕ) (request reply : List ℕ)
+    (fault : WireFault) (result : Result (Unit {0}) WireFault) → Going own peer own_mid peer_mid count
+    → IsTaken own_mid.left request own_new.left
+    → Appends peer_mid.written peer_new.written (frame_encoding request) → peer_new.waiting ≡ []
+    → IsTaken peer_mid.left reply peer_new.left → AppendsPart own_mid.written own_new.written (frame_encoding reply)
+    → fault ≡ Device → result ≡ Err fault → Ends own peer own_new peer_new result
+ends_telling own peer own_mid peer_mid own_new peer_new count request reply fault result so_far taken sent sent_on
+    answered part device is = ended_as own peer own_new peer_new fault result is (inr (inr (inr (inl (record {
+      exchanges = so_far.exchanges;
+      own_mid = own_mid;
+      peer_mid = peer_mid;
+      exchanged = so_far.exchanged;
+      request = request;
+      taken = taken;
+      sent = sent;
+      sent_on = sent_on;
+      reply = reply;
+      answered = answered;
+      part = part;
+      fault_is = device;
+    })))))

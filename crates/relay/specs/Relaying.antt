@@ -36,7 +36,8 @@ replies_encoding (exchange ∷ exchanges) = frame_encoding exchange.1 ++ replies
 -- each is a frame's content
 abbrev pub AreFrames : Exchanges → Type 0
 AreFrames [] = ⊤
-AreFrames (exchange ∷ exchanges) = IsContentLength (length exchange.0) × IsContentLength (length exchange.1) × AreFrames exchanges
+AreFrames (exchange ∷ exchanges) =
+    IsContentLength (length exchange.0) × IsContentLength (length exchange.1) × AreFrames exchanges
 
 -- what waits for a flush after some exchanges: nothing, if there was at least one
 abbrev pub waiting_after : List ℕ → Exchanges → List ℕ
@@ -136,4 +137,5 @@ module _ (own peer own_new peer_new : Side) where
 
   abbrev pub Ends : Result (Unit {0}) WireFault → Type 0
   Ends (Ok done) = RelaysAll
-  Ends (Err fault) = StopsReading fault ⊎ (StopsSending fault ⊎ (StopsHearing fault ⊎ (StopsTelling fault ⊎ StopsAtMost fault)))
+  Ends (Err fault) =
+      StopsReading fault ⊎ (StopsSending fault ⊎ (StopsHearing fault ⊎ (StopsTelling fault ⊎ StopsAtMost fault)))

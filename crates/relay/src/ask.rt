@@ -27,7 +27,8 @@ pub fn run_client<N: Net, I: Read, O: Write + Drop, E: Write>(
 ) -> u8
     // The status and the line of errors are those of how the run ended. A writer of errors that fails has a part of the
     // line.
-    ensures ended { (end : RelayEnd) × (result ≡ status_of end) × AppendsPart (E.contents errors.old) (E.contents errors.new) (line_of end)
+    ensures ended { (end : RelayEnd) × (result ≡ status_of end)
+        × AppendsPart (E.contents errors.old) (E.contents errors.new) (line_of end)
         × EndsClient (side (I.remaining input.old) (writer_contents O.contents output.old) (writer_buffer output.old))
         (side (I.remaining input.new) (writer_contents O.contents output.new) (writer_buffer output.new)) (option_map (λ texts. length texts.now) words.entry) end }
 {
@@ -44,7 +45,8 @@ pub fn ask_peer<N: Net, I: Read, O: Write + Drop>(
     input: &mut I,
     output: &mut BufWriter<O>,
 ) -> RelayEnd
-    ensures ended { EndsClient (side (I.remaining input.old) (writer_contents O.contents output.old) (writer_buffer output.old))
+    ensures ended { EndsClient (side (I.remaining input.old) (writer_contents O.contents output.old)
+        (writer_buffer output.old))
         (side (I.remaining input.new) (writer_contents O.contents output.new) (writer_buffer output.new)) (option_map (λ texts. length texts.now) words.entry) result }
 {
     let Some([socket]) = words else {

@@ -21,7 +21,8 @@ pub fn relay<I: Read, O: Write + Drop, P: Read, S: Write + Drop>(
     requests: &mut BufWriter<S>,
 ) -> Result<(), WireFault>
     // All that was read and written on both sides, by how it ended.
-    ensures ended { Ends (side (I.remaining input.old) (writer_contents O.contents output.old) (writer_buffer output.old))
+    ensures ended { Ends (side (I.remaining input.old) (writer_contents O.contents output.old)
+        (writer_buffer output.old))
         (side (P.remaining replies.old) (writer_contents S.contents requests.old) (writer_buffer requests.old))
         (side (I.remaining input.new) (writer_contents O.contents output.new) (writer_buffer output.new))
         (side (P.remaining replies.new) (writer_contents S.contents requests.new) (writer_buffer requests.new)) result }
@@ -49,7 +50,8 @@ fn next_request<I: Read>(alloc: Global, input: &mut I) -> Result<Option<Frame>, 
 /// The peer's next frame. If the peer ends before it, that is `Short`.
 pub fn next_reply<P: Read>(alloc: Global, replies: &mut P) -> Result<Frame, WireFault>
     ensures found { IfOk result (λ frame. IsTaken (P.remaining replies.old) frame.content (P.remaining replies.new)) }
-    ensures unanswered { IfErr result (λ fault. IsUnanswered (P.remaining replies.old) fault (P.remaining replies.new)) }
+    ensures unanswered { IfErr result
+        (λ fault. IsUnanswered (P.remaining replies.old) fault (P.remaining replies.new)) }
 {
     match next_request(alloc, replies) {
         Ok(Some(reply)) => Ok(reply),
@@ -60,9 +62,11 @@ pub fn next_reply<P: Read>(alloc: Global, replies: &mut P) -> Result<Frame, Wire
 
 /// Writes a frame, and flushes it.
 pub fn send<W: Write + Drop>(writer: &mut BufWriter<W>, frame: &Frame) -> Result<(), WireFault>
-    ensures ok { OnOk result (Appends (writer_contents W.contents writer.old) (writer_contents W.contents writer.new) (frame_encoding frame.now.content)) }
+    ensures ok { OnOk result (Appends (writer_contents W.contents writer.old) (writer_contents W.contents writer.new)
+        (frame_encoding frame.now.content)) }
     ensures flushed { OnOk result (writer_buffer writer.new ≡ []) }
-    ensures part { OnErr result (AppendsPart (writer_contents W.contents writer.old) (writer_contents W.contents writer.new) (frame_encoding frame.now.content)) }
+    ensures part { OnErr result (AppendsPart (writer_contents W.contents writer.old)
+        (writer_contents W.contents writer.new) (frame_encoding frame.now.content)) }
     ensures err { IfErr result (λ fault. fault ≡ WireFault.Device) }
 {
     write_frame(writer, frame)?;

@@ -10,13 +10,16 @@ use Rattle.ipc_model.specs.rights.CopyOut.{names_after}
 use Rattle.ipc_laws.specs.MapSums.{insert-same}
 use Rattle.ipc_model.specs.state.State.{State, Names, with_names}
 
-no_names_after : (names : Names) (kind : RightKind) (port : PortInMessage) (name : ℕ) → ((serial : ℕ) → port ≡ in_message.Live serial → ⊥) → names_after names kind port name ≡ names
+no_names_after : (names : Names) (kind : RightKind) (port : PortInMessage) (name : ℕ)
+    → ((serial : ℕ) → port ≡ in_message.Live serial → ⊥) → names_after names kind port name ≡ names
 no_names_after names kind in_message.Null name none = refl
 no_names_after names kind in_message.Dead name none = refl
 no_names_after names kind (in_message.Live serial) name none = absurd (none serial refl)
 
-pub unmoved : (state : State) (space : ℕ) (names : Names) (kind : RightKind) (port : PortInMessage) (name : ℕ) → ((serial : ℕ) → port ≡ in_message.Live serial → ⊥)
+pub unmoved : (state : State) (space : ℕ) (names : Names) (kind : RightKind) (port : PortInMessage) (name : ℕ)
+    → ((serial : ℕ) → port ≡ in_message.Live serial → ⊥)
     → finmap.get state.spaces space ≡ Some names → state ≡ with_names state space (names_after names kind port name)
 unmoved state space names kind port name none there =
     ap (λ (spaces : FinMap nat_cmp Names). record state { spaces = spaces })
-    (sym (insert-same state.spaces space names there) ∙ ap (λ (n : Names). finmap.insert state.spaces space n) (sym (no_names_after names kind port name none)))
+    (sym (insert-same state.spaces space names there) ∙ ap
+    (λ (n : Names). finmap.insert state.spaces space n) (sym (no_names_after names kind port name none)))

@@ -16,11 +16,14 @@ use Rattle.ipc_laws.specs.MapSums.{insert-insert, insert-same}
 use Rattle.rights.specs.Fitting.{Fits, fits_first, fits_later, room_for_one}
 
 pub record OnTheWay (start now : Names) (rights rest : List CarriedRight) (wanted left given : List ℕ) : Type 0 where
-  pub arrives : (others : List ℕ) (last : Names) → Arrives now rest others last → Arrives start rights (given ++ others) last
+  pub arrives : (others : List ℕ) (last : Names) → Arrives now rest others last
+      → Arrives start rights (given ++ others) last
   pub fits : (named : List ℕ) × Fits start now named rest
   pub wants : (last : Names) → Arrives start rights wanted last → (wanted ≡ given ++ left) × Arrives now rest left last
 
-pub way_first : (names : Names) (rights : List CarriedRight) (wanted given : List ℕ) → given ≡ [] → finmap.len names + names_needed names [] rights ≤ MAX_NAMES → OnTheWay names names rights rights wanted wanted given
+pub way_first : (names : Names) (rights : List CarriedRight) (wanted given : List ℕ) → given ≡ []
+    → finmap.len names + names_needed names [] rights ≤ MAX_NAMES
+    → OnTheWay names names rights rights wanted wanted given
 way_first names rights wanted given none room = record {
   arrives = λ others last arrives. subst (λ (l : List ℕ). Arrives names rights (l ++ others) last) (sym none) arrives;
   fits = ([], fits_first names rights room);
@@ -28,32 +31,49 @@ way_first names rights wanted given none room = record {
 }
 
 -- what is required of the right that arrives, and of those after it
-wanted_front : (left later : List ℕ) (shown : Option ℕ) (n : ℕ) (others : List ℕ) → MatchOption shown ((left ≡ []) × (later ≡ [])) (λ first. left ≡ first ∷ later) → left ≡ n ∷ others → (shown ≡ Some n) × (later ≡ others)
+wanted_front : (left later : List ℕ) (shown : Option ℕ) (n : ℕ) (others : List ℕ)
+    → MatchOption shown ((left ≡ []) × (later ≡ [])) (λ first. left ≡ first ∷ later) → left ≡ n ∷ others
+    → (shown ≡ Some n) × (later ≡ others)
 wanted_front left later None n others front is = absurd (cc (sym front.0 ∙ is))
 wanted_front left later (Some first) n others front is =
     let joined : first ∷ later ≡ n ∷ others = sym front ∙ is in
     (ap (λ k. Some k) (same_head first n later others joined), same_tail first n later others joined)
 
-pub way_more : (start now after : Names) (rights rest behind : List CarriedRight) (wanted left later given added : List ℕ) (right : CarriedRight) (name : ℕ) (shown : Option ℕ) → OnTheWay start now rights rest wanted left given
-    → rest ≡ right ∷ behind → MayArrive now right.kind right.port name → after ≡ names_after now right.kind right.port name → added ≡ given ++ name ∷ []
+pub way_more : (start now after : Names) (rights rest behind : List CarriedRight)
+    (wanted left later given added : List ℕ) (right : CarriedRight) (name : ℕ) (shown : Option ℕ)
+    → OnTheWay start now rights rest wanted left given
+    → rest ≡ right ∷ behind → MayArrive now right.kind right.port name
+    → after ≡ names_after now right.kind right.port name → added ≡ given ++ name ∷ []
     → MatchOption shown ((left ≡ []) × (later ≡ [])) (λ first. left ≡ first ∷ later)
     → ((n : ℕ) → shown ≡ Some n → MayArrive now right.kind right.port n → name ≡ n)
     → OnTheWay start after rights behind wanted later added
-way_more start now after rights rest behind wanted left later given added right name shown way is may after_is added_is front prefers =
+way_more start now after rights rest behind wanted left later given added right name shown way is may after_is added_is
+    front prefers =
     subst (λ (a : Names). OnTheWay start a rights behind wanted later added) (sym after_is)
     (subst (λ (g : List ℕ). OnTheWay start next rights behind wanted later g) (sym added_is)
     (record {
-      arrives = λ others last arrives. subst (λ (l : List ℕ). Arrives start rights l last) (sym (append_assoc given (name ∷ []) others))
-          (way.arrives (name ∷ others) last (subst (λ (l : List CarriedRight). Arrives now l (name ∷ others) last) (sym is) (name, others, refl, may, arrives)));
-      fits = (_, fits_later start now way.fits.0 right behind name (subst (λ (l : List CarriedRight). Fits start now way.fits.0 l) is way.fits.1) may);
+      arrives =
+          λ others last arrives. subst (λ (l : List ℕ). Arrives start rights l last)
+          (sym (append_assoc given (name ∷ []) others))
+          (way.arrives (name ∷ others) last
+          (subst (λ (l : List CarriedRight). Arrives now l (name ∷ others) last) (sym is)
+          (name, others, refl, may, arrives)));
+      fits = (
+        _,
+        fits_later start now way.fits.0 right behind name
+            (subst (λ (l : List CarriedRight). Fits start now way.fits.0 l) is way.fits.1) may,
+      );
       wants = λ last arrives.
           let had = way.wants last arrives in
           let first = subst (λ (l : List CarriedRight). Arrives now l left last) is had.1 in
           let shown_is = wanted_front left later shown first.0 first.1 front first.2 in
           let name_is : name ≡ first.0 = prefers first.0 shown_is.0 first.3 in (
-            had.0 ∙ ap (λ (l : List ℕ). given ++ l) (first.2 ∙ ap (λ (n : ℕ). n ∷ first.1) (sym name_is) ∙ ap (λ (l : List ℕ). name ∷ l) (sym shown_is.1)) ∙ sym (append_assoc given (name ∷ []) later),
+            had.0 ∙ ap (λ (l : List ℕ). given ++ l)
+                (first.2 ∙ ap (λ (n : ℕ). n ∷ first.1) (sym name_is) ∙ ap (λ (l : List ℕ). name ∷ l) (sym shown_is.1))
+                ∙ sym (append_assoc given (name ∷ []) later),
             subst (λ (n : ℕ). Arrives (names_after now right.kind right.port n) behind later last) (sym name_is)
-                (subst (λ (l : List ℕ). Arrives (names_after now right.kind right.port first.0) behind l last) (sym shown_is.1) first.4),
+                (subst (λ (l : List ℕ). Arrives (names_after now right.kind right.port first.0) behind l last)
+                (sym shown_is.1) first.4),
           );
     }))
   where
@@ -61,17 +81,24 @@ way_more start now after rights rest behind wanted left later given added right 
     next = names_after now right.kind right.port name
 
 -- there is room for the next one
-pub way_room : (start now : Names) (rights rest behind : List CarriedRight) (wanted left given : List ℕ) (right : CarriedRight) → OnTheWay start now rights rest wanted left given → rest ≡ right ∷ behind
-    → (name serial : ℕ) → right.port ≡ in_message.Live serial → MayArrive now right.kind right.port name → finmap.get now name ≡ None → finmap.len now < MAX_NAMES
+pub way_room : (start now : Names) (rights rest behind : List CarriedRight) (wanted left given : List ℕ)
+    (right : CarriedRight) → OnTheWay start now rights rest wanted left given → rest ≡ right ∷ behind
+    → (name serial : ℕ) → right.port ≡ in_message.Live serial → MayArrive now right.kind right.port name
+    → finmap.get now name ≡ None → finmap.len now < MAX_NAMES
 way_room start now rights rest behind wanted left given right way is name serial live may free =
-    room_for_one start now way.fits.0 right behind name serial live (subst (λ (l : List CarriedRight). Fits start now way.fits.0 l) is way.fits.1) may free
+    room_for_one start now way.fits.0 right behind name serial live
+    (subst (λ (l : List CarriedRight). Fits start now way.fits.0 l) is way.fits.1) may free
 
 -- all have arrived
-pub way_last : (start now : Names) (rights rest : List CarriedRight) (wanted left given : List ℕ) → OnTheWay start now rights rest wanted left given → rest ≡ [] → Arrives start rights given now
+pub way_last : (start now : Names) (rights rest : List CarriedRight) (wanted left given : List ℕ)
+    → OnTheWay start now rights rest wanted left given → rest ≡ [] → Arrives start rights given now
 way_last start now rights rest wanted left given way none =
-    subst (λ (l : List ℕ). Arrives start rights l now) (append-nil given) (way.arrives [] now (subst (λ (l : List CarriedRight). Arrives now l [] now) (sym none) (refl, refl)))
+    subst (λ (l : List ℕ). Arrives start rights l now) (append-nil given)
+    (way.arrives [] now (subst (λ (l : List CarriedRight). Arrives now l [] now) (sym none) (refl, refl)))
 
-pub way_wanted : (start now : Names) (rights rest : List CarriedRight) (wanted left given : List ℕ) → OnTheWay start now rights rest wanted left given → rest ≡ [] → (last : Names) → Arrives start rights wanted last → given ≡ wanted
+pub way_wanted : (start now : Names) (rights rest : List CarriedRight) (wanted left given : List ℕ)
+    → OnTheWay start now rights rest wanted left given → rest ≡ [] → (last : Names) → Arrives start rights wanted last
+    → given ≡ wanted
 way_wanted start now rights rest wanted left given way none last arrives =
     let had = way.wants last arrives in
     let ended = subst (λ (l : List CarriedRight). Arrives now l left last) none had.1 in
@@ -83,35 +110,50 @@ abbrev or_none : Option Names → Names
 or_none None = finmap.empty
 or_none (Some names) = names
 
-pub there_is : (state : State) (space : ℕ) → is_some (finmap.get state.spaces space) ≡ true → finmap.get state.spaces space ≡ Some (names_in state space)
+pub there_is : (state : State) (space : ℕ) → is_some (finmap.get state.spaces space) ≡ true
+    → finmap.get state.spaces space ≡ Some (names_in state space)
 there_is state space there = by_case (finmap.get state.spaces space) refl there
   where
-    by_case : (o : Option Names) → finmap.get state.spaces space ≡ o → is_some o ≡ true → finmap.get state.spaces space ≡ Some (names_in state space)
+    by_case : (o : Option Names) → finmap.get state.spaces space ≡ o → is_some o ≡ true
+        → finmap.get state.spaces space ≡ Some (names_in state space)
     by_case None is some = absurd (cc some)
     by_case (Some names) is some = is ∙ ap (λ k. Some k) (sym (ap or_none is))
 
 -- MACH_PORT_NULL and MACH_PORT_DEAD change nothing
-pub unchanged : (state : State) (space : ℕ) (right : CarriedRight) (name : ℕ) → is_some (finmap.get state.spaces space) ≡ true → names_after (names_in state space) right.kind right.port name ≡ names_in state space
+pub unchanged : (state : State) (space : ℕ) (right : CarriedRight) (name : ℕ)
+    → is_some (finmap.get state.spaces space) ≡ true
+    → names_after (names_in state space) right.kind right.port name ≡ names_in state space
     → state ≡ with_names state space (names_after (names_in state space) right.kind right.port name)
 unchanged state space right name there same =
-    ap (λ (spaces : FinMap nat_cmp Names). record state { spaces = spaces }) (sym (insert-same state.spaces space (names_in state space) (there_is state space there) ∙ refl) ∙ ap (λ (n : Names). finmap.insert state.spaces space n) (sym same))
+    ap (λ (spaces : FinMap nat_cmp Names). record state { spaces = spaces })
+    (sym (insert-same state.spaces space (names_in state space) (there_is state space there) ∙ refl) ∙ ap
+    (λ (n : Names). finmap.insert state.spaces space n) (sym same))
 
 -- the names of a space that got these rights
-pub names_got : (state new : State) (space : ℕ) (names : Names) → new ≡ with_names state space names → names_in new space ≡ names
+pub names_got : (state new : State) (space : ℕ) (names : Names) → new ≡ with_names state space names
+    → names_in new space ≡ names
 names_got state new space names is =
     ap (λ (s : State). names_in s space) is ∙ ap or_none (get-here state.spaces space names)
 
-pub there_too : (state new : State) (space : ℕ) (names : Names) → new ≡ with_names state space names → is_some (finmap.get new.spaces space) ≡ true
-there_too state new space names is = ap (λ (s : State). is_some (finmap.get s.spaces space)) is ∙ ap is_some (get-here state.spaces space names)
+pub there_too : (state new : State) (space : ℕ) (names : Names) → new ≡ with_names state space names
+    → is_some (finmap.get new.spaces space) ≡ true
+there_too state new space names is =
+    ap (λ (s : State). is_some (finmap.get s.spaces space)) is ∙ ap is_some (get-here state.spaces space names)
 
 -- at first no name has changed
-pub got_first : (state : State) (space : ℕ) → is_some (finmap.get state.spaces space) ≡ true → state ≡ with_names state space (names_in state space)
-got_first state space there = ap (λ (spaces : FinMap nat_cmp Names). record state { spaces = spaces }) (sym (insert-same state.spaces space (names_in state space) (there_is state space there)))
+pub got_first : (state : State) (space : ℕ) → is_some (finmap.get state.spaces space) ≡ true
+    → state ≡ with_names state space (names_in state space)
+got_first state space there =
+    ap (λ (spaces : FinMap nat_cmp Names). record state { spaces = spaces })
+    (sym (insert-same state.spaces space (names_in state space) (there_is state space there)))
 
 -- names that changed twice
-pub got_later : (state now after : State) (space : ℕ) (names : Names) → now ≡ with_names state space (names_in now space) → after ≡ with_names now space names → after ≡ with_names state space (names_in after space)
+pub got_later : (state now after : State) (space : ℕ) (names : Names)
+    → now ≡ with_names state space (names_in now space) → after ≡ with_names now space names
+    → after ≡ with_names state space (names_in after space)
 got_later state now after space names before is =
     is
     ∙ ap (λ (s : State). with_names s space names) before
-    ∙ ap (λ (spaces : FinMap nat_cmp Names). record state { spaces = spaces }) (insert-insert state.spaces space (names_in now space) names)
+    ∙ ap (λ (spaces : FinMap nat_cmp Names). record state { spaces = spaces })
+    (insert-insert state.spaces space (names_in now space) names)
     ∙ ap (with_names state space) (sym (names_got now after space names is))

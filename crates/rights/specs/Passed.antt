@@ -4,4 +4,19 @@ pub use Rattle.ipc_state.specs.Live.{carries_live, is_live, is_live_port, is_liv
 pub use Rattle.ipc_state.specs.Running.{Running}
 pub use Rattle.ipc_state.specs.SetNames.{member_names, member_under}
 pub use Rattle.ipc_state.specs.There.{changed_there, or_empty}
-pub use Rattle.ipc_state.specs.Passed.{AreFewReferences, IsNextEntry, PortNumbers, entries_from, from_end, from_first, from_next, lives_in, messages_at, messages_in, numbers_of, seen_message, seen_right, under_other_name}
+pub use Rattle.ipc_state.specs.Passed.{
+  AreFewReferences,
+  IsNextEntry,
+  PortNumbers,
+  entries_from,
+  from_end,
+  from_first,
+  from_next,
+  lives_in,
+  messages_at,
+  messages_in,
+  numbers_of,
+  seen_message,
+  seen_right,
+  under_other_name,
+}

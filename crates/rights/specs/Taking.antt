@@ -9,4 +9,5 @@ use Rattle.ipc_model.specs.state.State.{State}
 -- to be taken, everything is as before.
 abbrev pub Takes : Option Taken → State → List Effect → Option CarriedRight → State → List Effect → Type 0
 Takes None old waiting right new after = (right ≡ None) × (new ≡ old) × (after ≡ waiting)
-Takes (Some taken) old waiting right new after = (right ≡ Some taken.right) × (new ≡ taken.state) × (after ≡ waiting ++ taken.notices)
+Takes (Some taken) old waiting right new after =
+    (right ≡ Some taken.right) × (new ≡ taken.state) × (after ≡ waiting ++ taken.notices)

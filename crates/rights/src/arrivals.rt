@@ -16,7 +16,8 @@ use std::alloc::AllocError;
 /// itself.
 pub fn arrival_needed(state: &IpcState, space: u32, right: CarriedRight, wanted: Option<u32>) -> u32
     ensures may { MayArrive (names_in state.now.current space) right.kind right.port result }
-    ensures wanted { (shown : ℕ) → wanted ≡ Some shown → MayArrive (names_in state.now.current space) right.kind right.port shown → result ≡ shown }
+    ensures wanted { (shown : ℕ) → wanted ≡ Some shown
+        → MayArrive (names_in state.now.current space) right.kind right.port shown → result ≡ shown }
 {
     match wanted {
         Some(name) if may_arrive(state, space, right, name) => name,
@@ -32,8 +33,12 @@ fn put_arrived(
     name: u32,
 ) -> Result<(), AllocError>
     requires there { IsSome (map.get state.old.current.spaces space) }
-    requires room { (serial : ℕ) → right.port ≡ in_message.Live serial → map.get (names_in state.old.current space) name ≡ None → map.len (names_in state.old.current space) < MAX_NAMES }
-    ensures ok { OnOk result (state.new.current ≡ with_names state.old.current space (names_after (names_in state.old.current space) right.kind right.port name)) }
+    requires room { (serial : ℕ) → right.port ≡ in_message.Live serial
+        → map.get (names_in state.old.current space) name ≡ None
+        → map.len (names_in state.old.current space) < MAX_NAMES }
+    ensures ok { OnOk result (state.new.current
+        ≡ with_names state.old.current space
+        (names_after (names_in state.old.current space) right.kind right.port name)) }
     ensures before { state.new.before ≡ state.old.before }
 {
     match right.port {
@@ -51,11 +56,16 @@ fn arrive_one(
     wanted: Option<u32>,
 ) -> Result<u32, AllocError>
     requires there { IsSome (map.get state.old.current.spaces space) }
-    requires room { (name serial : ℕ) → right.port ≡ in_message.Live serial → MayArrive (names_in state.old.current space) right.kind right.port name
-        → map.get (names_in state.old.current space) name ≡ None → map.len (names_in state.old.current space) < MAX_NAMES }
+    requires room { (name serial : ℕ) → right.port ≡ in_message.Live serial
+        → MayArrive (names_in state.old.current space) right.kind right.port name
+        → map.get (names_in state.old.current space) name ≡ None
+        → map.len (names_in state.old.current space) < MAX_NAMES }
     ensures may { IfOk result (λ name. MayArrive (names_in state.old.current space) right.kind right.port name) }
-    ensures ok { IfOk result (λ name. state.new.current ≡ with_names state.old.current space (names_after (names_in state.old.current space) right.kind right.port name)) }
-    ensures wanted { IfOk result (λ name. (shown : ℕ) → wanted ≡ Some shown → MayArrive (names_in state.old.current space) right.kind right.port shown → name ≡ shown) }
+    ensures ok { IfOk result (λ name. state.new.current
+        ≡ with_names state.old.current space
+        (names_after (names_in state.old.current space) right.kind right.port name)) }
+    ensures wanted { IfOk result (λ name. (shown : ℕ) → wanted ≡ Some shown
+        → MayArrive (names_in state.old.current space) right.kind right.port shown → name ≡ shown) }
     ensures before { state.new.before ≡ state.old.before }
 {
     let name = arrival_needed(state, space, right, wanted);
@@ -65,7 +75,8 @@ fn arrive_one(
 
 /// The first of the preferred names, if there is one, and those after it.
 fn front(wanted: &[u32]) -> (Option<u32>, &[u32])
-    ensures { MatchOption result.0 ((wanted.now ≡ []) × (result.1.now ≡ [])) (λ first. wanted.now ≡ first ∷ result.1.now) }
+    ensures { MatchOption result.0 ((wanted.now ≡ []) × (result.1.now ≡ []))
+        (λ first. wanted.now ≡ first ∷ result.1.now) }
 {
     match wanted.split_first() {
         Some((first, behind)) => (Some(*first), behind),
@@ -84,10 +95,14 @@ pub fn arrive(
 ) -> Result<(), AllocError>
     requires none { given.old.items ≡ [] }
     requires there { IsSome (map.get state.old.current.spaces space) }
-    requires room { map.len (names_in state.old.current space) + names_needed (names_in state.old.current space) [] rights.now ≤ MAX_NAMES }
-    ensures arrives { OnOk result (Arrives (names_in state.old.current space) rights.now given.new.items (names_in state.new.current space)) }
-    ensures ok { OnOk result (state.new.current ≡ with_names state.old.current space (names_in state.new.current space)) }
-    ensures wanted { OnOk result ((last : Names) → Arrives (names_in state.old.current space) rights.now wanted.now last → given.new.items ≡ wanted.now) }
+    requires room { map.len (names_in state.old.current space) + names_needed (names_in state.old.current space)
+        [] rights.now ≤ MAX_NAMES }
+    ensures arrives { OnOk result (Arrives (names_in state.old.current space) rights.now given.new.items
+        (names_in state.new.current space)) }
+    ensures ok { OnOk result (state.new.current
+        ≡ with_names state.old.current space (names_in state.new.current space)) }
+    ensures wanted { OnOk result ((last : Names) → Arrives (names_in state.old.current space) rights.now wanted.now last
+        → given.new.items ≡ wanted.now) }
     ensures before { state.new.before ≡ state.old.before }
 {
     let mut rest = rights;

@@ -22,7 +22,9 @@ pub fn take_right(
     disposition: Disposition,
     effects: &mut Effects,
 ) -> Result<Option<CarriedRight>, AllocError>
-    ensures taken { IfOk result (λ right. Takes (copy_in state.old.current space name disposition) state.old.current effects.old right state.new.current effects.new) }
+    ensures taken { IfOk result
+        (λ right. Takes (copy_in state.old.current space name disposition) state.old.current effects.old right
+        state.new.current effects.new) }
     ensures before { state.new.before ≡ state.old.before }
 {
     let Some(entry) = state.entry(space, name) else {
@@ -73,7 +75,9 @@ fn take_from_port(
 ) -> Result<Option<CarriedRight>, AllocError>
     requires named { IsSome (entry_at state.old.current space name) }
     requires few { AreFewReferences (Entry.Port rights) }
-    ensures taken { IfOk result (λ right. Takes (taken_of_port state.old.current space name disposition rights) state.old.current effects.old right state.new.current effects.new) }
+    ensures taken { IfOk result
+        (λ right. Takes (taken_of_port state.old.current space name disposition rights) state.old.current effects.old
+        right state.new.current effects.new) }
     ensures before { state.new.before ≡ state.old.before }
 {
     match disposition {
@@ -101,7 +105,9 @@ fn move_receive(
 ) -> Result<Option<CarriedRight>, AllocError>
     requires named { IsSome (entry_at state.old.current space name) }
     requires few { AreFewReferences (Entry.Port rights) }
-    ensures taken { IfOk result (λ right. Takes (taken_of_port state.old.current space name Disposition.MoveReceive rights) state.old.current effects.old right state.new.current effects.new) }
+    ensures taken { IfOk result
+        (λ right. Takes (taken_of_port state.old.current space name Disposition.MoveReceive rights) state.old.current
+        effects.old right state.new.current effects.new) }
     ensures before { state.new.before ≡ state.old.before }
 {
     if !rights.receive {
@@ -144,7 +150,9 @@ fn move_send(
 ) -> Result<Option<CarriedRight>, AllocError>
     requires named { IsSome (entry_at state.old.current space name) }
     requires few { AreFewReferences (Entry.Port rights) }
-    ensures taken { IfOk result (λ right. Takes (taken_of_port state.old.current space name Disposition.MoveSend rights) state.old.current effects.old right state.new.current effects.new) }
+    ensures taken { IfOk result
+        (λ right. Takes (taken_of_port state.old.current space name Disposition.MoveSend rights) state.old.current
+        effects.old right state.new.current effects.new) }
     ensures before { state.new.before ≡ state.old.before }
 {
     if rights.send == 0 {
@@ -161,9 +169,13 @@ fn move_send(
 
 /// Makes a send right from the receive right, and counts it.
 fn make_send(state: &mut IpcState, rights: PortRights) -> Result<Option<CarriedRight>, AllocError>
-    ensures none { IfOk result (λ made. IfNone made ((rights.receive ≡ false) × (state.new.current ≡ state.old.current))) }
-    ensures made { IfOk result (λ made. IfSome made (λ right. (rights.receive ≡ true) × (right ≡ record { kind = RightKind.Send; port = PortInMessage.Live rights.port })
-        × (state.new.current ≡ with_port state.old.current rights.port (λ port. record port { make_send_count = next_count port.make_send_count })))) }
+    ensures none { IfOk result
+        (λ made. IfNone made ((rights.receive ≡ false) × (state.new.current ≡ state.old.current))) }
+    ensures made { IfOk result (λ made. IfSome made
+        (λ right. (rights.receive ≡ true)
+        × (right ≡ record { kind = RightKind.Send; port = PortInMessage.Live rights.port })
+        × (state.new.current ≡ with_port state.old.current rights.port
+        (λ port. record port { make_send_count = next_count port.make_send_count })))) }
     ensures before { state.new.before ≡ state.old.before }
 {
     if !rights.receive {
@@ -192,7 +204,9 @@ fn take_send_once(
     request: Option<u64>,
     effects: &mut Effects,
 ) -> Result<Option<CarriedRight>, AllocError>
-    ensures taken { IfOk result (λ right. Takes (taken_of_send_once state.old.current space name disposition port request) state.old.current effects.old right state.new.current effects.new) }
+    ensures taken { IfOk result
+        (λ right. Takes (taken_of_send_once state.old.current space name disposition port request) state.old.current
+        effects.old right state.new.current effects.new) }
     ensures before { state.new.before ≡ state.old.before }
 {
     if disposition != Disposition::MoveSendOnce {
@@ -214,7 +228,9 @@ fn take_dead(
 ) -> Result<Option<CarriedRight>, AllocError>
     requires named { IsSome (entry_at state.old.current space name) }
     requires few { AreFewReferences (Entry.Dead references) }
-    ensures taken { IfOk result (λ right. Takes (taken_of_dead state.old.current space name disposition references) state.old.current effects.old right state.new.current effects.new) }
+    ensures taken { IfOk result
+        (λ right. Takes (taken_of_dead state.old.current space name disposition references) state.old.current
+        effects.old right state.new.current effects.new) }
     ensures before { state.new.before ≡ state.old.before }
 {
     let kind = match disposition {

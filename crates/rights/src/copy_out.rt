@@ -65,10 +65,12 @@ pub fn put_right(
     right: CarriedRight,
     name: u32,
 ) -> Result<(), AllocError>
-    requires room { entry_at state.old.current space name ≡ None → map.len (names_in state.old.current space) < MAX_NAMES }
+    requires room { entry_at state.old.current space name ≡ None
+        → map.len (names_in state.old.current space) < MAX_NAMES }
     ensures ok { OnOk result ((names : Names) → map.get state.old.current.spaces space ≡ Some names
         → state.new.current ≡ with_names state.old.current space (names_after names right.kind right.port name)) }
-    ensures absent { OnOk result (map.get state.old.current.spaces space ≡ None → state.new.current ≡ state.old.current) }
+    ensures absent { OnOk result (map.get state.old.current.spaces space ≡ None
+        → state.new.current ≡ state.old.current) }
     ensures before { state.new.before ≡ state.old.before }
 {
     let PortInMessage::Live(port) = right.port else {

@@ -17,13 +17,18 @@ abbrev with_done : List ℕ → List ℕ × List (List ℕ) → List ℕ × List
 with_done done p = (done ++ p.0, p.1)
 
 abbrev or_number : List ℕ → List (List ℕ) → Option ℕ → List ℕ × List (List ℕ)
-or_number w words o = elim o as (λ _. List ℕ × List (List ℕ)) [ None ↦ ([], w ∷ words) | Some m ↦ (m ∷ (numbers_at words).0, (numbers_at words).1) ]
+or_number w words o =
+    elim o as (λ _. List ℕ × List (List ℕ))
+    [ None ↦ ([], w ∷ words) | Some m ↦ (m ∷ (numbers_at words).0, (numbers_at words).1) ]
 
 pub number_read : (done : List ℕ) (words rest : List (List ℕ)) (n : ℕ) → number_at Hexadecimal words ≡ Some (n, rest)
     → with_done (done ++ n ∷ []) (numbers_at rest) ≡ with_done done (numbers_at words)
 unfolding number_at numbers_at
 number_read done [] rest n is = absurd (cc)
-number_read done (w ∷ words) rest n is = elim (read_word Hexadecimal w) as (λ (o : Option ℕ). elim o as (λ _. Option (ℕ × List (List ℕ))) [ None ↦ None | Some m ↦ Some (m, words) ] ≡ Some (n, rest)
+number_read done (w ∷ words) rest n is =
+    elim (read_word Hexadecimal w)
+    as (λ (o : Option ℕ). elim o as (λ _. Option (ℕ × List (List ℕ))) [ None ↦ None | Some m ↦ Some (m, words) ]
+    ≡ Some (n, rest)
     → with_done (done ++ n ∷ []) (numbers_at rest) ≡ with_done done (or_number w words o)) [
       | None ↦ λ (wrong : _). absurd (cc)
       | Some m ↦ λ (same : _).
@@ -35,19 +40,26 @@ number_read done (w ∷ words) rest n is = elim (read_word Hexadecimal w) as (λ
 pub numbers_stop : (words : List (List ℕ)) → number_at Hexadecimal words ≡ None → numbers_at words ≡ ([], words)
 unfolding number_at numbers_at
 numbers_stop [] is = refl
-numbers_stop (w ∷ words) is = elim (read_word Hexadecimal w) as (λ (o : Option ℕ). elim o as (λ _. Option (ℕ × List (List ℕ))) [ None ↦ None | Some m ↦ Some (m, words) ] ≡ None
-    → elim o as (λ _. List ℕ × List (List ℕ)) [ None ↦ ([], w ∷ words) | Some m ↦ (m ∷ (numbers_at words).0, (numbers_at words).1) ] ≡ ([], w ∷ words)) [
+numbers_stop (w ∷ words) is =
+    elim (read_word Hexadecimal w)
+    as (λ (o : Option ℕ). elim o as (λ _. Option (ℕ × List (List ℕ))) [ None ↦ None | Some m ↦ Some (m, words) ]
+    ≡ None
+    → elim o as (λ _. List ℕ × List (List ℕ))
+    [ None ↦ ([], w ∷ words) | Some m ↦ (m ∷ (numbers_at words).0, (numbers_at words).1) ] ≡ ([], w ∷ words)) [
       | None ↦ λ (_ : _). refl
       | Some m ↦ λ (wrong : _). absurd (cc)
     ] is
 
-pub numbers_done : (done : List ℕ) (words : List (List ℕ)) (all : List ℕ × List (List ℕ)) → number_at Hexadecimal words ≡ None
+pub numbers_done : (done : List ℕ) (words : List (List ℕ)) (all : List ℕ × List (List ℕ))
+    → number_at Hexadecimal words ≡ None
     → (done ++ (numbers_at words).0, (numbers_at words).1) ≡ all → all ≡ (done, words)
 numbers_done done words all none is =
-    sym is ∙ ap (λ (p : List ℕ × List (List ℕ)). (done ++ p.0, p.1)) (numbers_stop words none) ∙ ap (λ (l : List ℕ). (l, words)) (append-nil done)
+    sym is ∙ ap (λ (p : List ℕ × List (List ℕ)). (done ++ p.0, p.1)) (numbers_stop words none) ∙ ap
+    (λ (l : List ℕ). (l, words)) (append-nil done)
 
 -- one more item is printed
-pub item_pushed : (old line body behind : List ℕ) (left : ℕ) (words : List (List ℕ)) → item_front body ≡ Some (words, behind) → 0 < left → line ≡ old ++ spaced words
+pub item_pushed : (old line body behind : List ℕ) (left : ℕ) (words : List (List ℕ))
+    → item_front body ≡ Some (words, behind) → 0 < left → line ≡ old ++ spaced words
     → line ++ spaced (body_within (left - 1) behind) ≡ old ++ spaced (body_within left body)
 unfolding body_within
 item_pushed old line body behind zero words is some pushed = absurd (omega arith)
@@ -67,13 +79,16 @@ pub none_left : (body : List ℕ) (left : ℕ) → left ≡ 0 → body_within le
 unfolding body_within
 none_left body left none = rw none refl
 
-pub rest_pushed : {E : Type 0} (r : Result ⊤ E) (old line new : List ℕ) (words rest all : List (List ℕ)) → words ≡ rest → line ++ spaced words ≡ old ++ spaced all
+pub rest_pushed : {E : Type 0} (r : Result ⊤ E) (old line new : List ℕ) (words rest all : List (List ℕ)) → words ≡ rest
+    → line ++ spaced words ≡ old ++ spaced all
     → OnOk r (new ≡ line ++ spaced rest) → OnOk r (new ≡ old ++ spaced all)
-rest_pushed (Ok done) old line new words rest all is same pushed = pushed ∙ sym (ap (λ (l : List (List ℕ)). line ++ spaced l) is) ∙ same
+rest_pushed (Ok done) old line new words rest all is same pushed =
+    pushed ∙ sym (ap (λ (l : List (List ℕ)). line ++ spaced l) is) ∙ same
 rest_pushed (Err e) old line new words rest all is same pushed = tt
 
 -- one more item is read
-more_bytes : (done item : List ℕ) (read : Reading (List ℕ × List (List ℕ))) → after_bytes (done ++ item) read ≡ after_bytes done (after_bytes item read)
+more_bytes : (done item : List ℕ) (read : Reading (List ℕ × List (List ℕ)))
+    → after_bytes (done ++ item) read ≡ after_bytes done (after_bytes item read)
 more_bytes done item (Err place) = refl
 more_bytes done item (Ok b) = ap (λ (l : List ℕ). Ok (l, b.1)) (append_assoc done item b.0)
 
@@ -87,14 +102,17 @@ item_read done item zero words rest more label read some = absurd (omega arith)
 item_read done item (suc n) words rest more label read some =
     let e : suc n - 1 ≡ n = omega arith in
     ap (λ (k : ℕ). after_bytes (done ++ item) (parts_at k more)) e ∙ more_bytes done item (parts_at n more)
-    ∙ sym (ap (after_bytes done) (one_more n words rest label ∙ ap (λ (r : Reading (List ℕ × List (List ℕ))). r >>= λ i. after_bytes i.0 (parts_at n i.1)) read))
+    ∙ sym (ap (after_bytes done) (one_more n words rest label ∙ ap
+    (λ (r : Reading (List ℕ × List (List ℕ))). r >>= λ i. after_bytes i.0 (parts_at n i.1)) read))
 
 pub item_fault : (f : Fault) (done : List ℕ) (left : ℕ) (words rest : List (List ℕ)) (all : Reading (List ℕ × List (List ℕ))) → label_at (codes "item") words ≡ Some rest → Fails f (item_at rest) → 0 < left
     → after_bytes done (parts_at left words) ≡ all → Fails f all
 item_fault fault.NoMemory done left words rest all label fails some is = tt
 item_fault (fault.Unreadable place) done zero words rest all label fails some is = absurd (omega arith)
 item_fault (fault.Unreadable place) done (suc n) words rest all label fails some is =
-    sym is ∙ ap (after_bytes done) (one_more n words rest label ∙ ap (λ (r : Reading (List ℕ × List (List ℕ))). r >>= λ i. after_bytes i.0 (parts_at n i.1)) fails)
+    sym is ∙ ap (after_bytes done)
+    (one_more n words rest label ∙ ap
+    (λ (r : Reading (List ℕ × List (List ℕ))). r >>= λ i. after_bytes i.0 (parts_at n i.1)) fails)
 
 pub no_item_read : (left : ℕ) (words : List (List ℕ)) → label_at (codes "item") words ≡ None → parts_at left words ≡ optional_bytes_at (codes "data") words
 unfolding parts_at
@@ -106,21 +124,26 @@ unfolding parts_at
 none_to_read left words none = rw none refl
 
 -- what was added of an item
-pub added_some : (old new behind : List ℕ) (front : Option (List (List ℕ) × List ℕ)) → AddsItem old new (Some behind) front
+pub added_some : (old new behind : List ℕ) (front : Option (List (List ℕ) × List ℕ))
+    → AddsItem old new (Some behind) front
     → (words : List (List ℕ)) × (front ≡ Some (words, behind)) × (new ≡ old ++ spaced words)
 added_some old new behind (Some i) added = (i.0, ap (λ (b : List ℕ). Some (i.0, b)) (sym added.1), added.0)
 added_some old new behind None added = absurd added
 
-pub added_none : (old new : List ℕ) (front : Option (List (List ℕ) × List ℕ)) → AddsItem old new None front → (front ≡ None) × (new ≡ old)
+pub added_none : (old new : List ℕ) (front : Option (List (List ℕ) × List ℕ)) → AddsItem old new None front
+    → (front ≡ None) × (new ≡ old)
 added_none old new None added = (refl, added)
 added_none old new (Some i) added = absurd added
 
-pub all_pushed : (line body : List ℕ) → line ++ spaced (body_within (length body) body) ≡ line ++ spaced (body_words body)
+pub all_pushed : (line body : List ℕ)
+    → line ++ spaced (body_within (length body) body) ≡ line ++ spaced (body_words body)
 unfolding body_words
 all_pushed line body = refl
 
-pub all_read : (body : List ℕ) (n : ℕ) (words : List (List ℕ)) → body ≡ [] → n ≡ length words → after_bytes body (parts_at n words) ≡ body_at words
+pub all_read : (body : List ℕ) (n : ℕ) (words : List (List ℕ)) → body ≡ [] → n ≡ length words
+    → after_bytes body (parts_at n words) ≡ body_at words
 unfolding body_at
 all_read body n words none count =
     ap (λ (l : List ℕ). after_bytes l (parts_at n words)) none ∙ ap (λ (k : ℕ). after_bytes [] (parts_at k words)) count
-    ∙ elim (parts_at (length words) words) as (λ (r : Reading (List ℕ × List (List ℕ))). after_bytes [] r ≡ r) [ Ok b ↦ refl | Err place ↦ refl ]
+    ∙ elim (parts_at (length words) words) as (λ (r : Reading (List ℕ × List (List ℕ))). after_bytes [] r ≡ r)
+    [ Ok b ↦ refl | Err place ↦ refl ]

@@ -40,7 +40,8 @@ AreNumbers (n ∷ ns) = (n < 2 ^ 32) × AreNumbers ns
 number_fits : (bytes : List ℕ) → AreBytes bytes → little_number 4 bytes < 2 ^ 32
 number_fits bytes fits = omega (arith, little_from-lt 0 4 bytes fits)
 
-bind_option : {A B : Type 0} (o : Option A) (f : A → Option B) (y : B) → (o >>? f) ≡ Some y → (x : A) × (o ≡ Some x) × (f x ≡ Some y)
+bind_option : {A B : Type 0} (o : Option A) (f : A → Option B) (y : B) → (o >>? f) ≡ Some y → (x : A) × (o ≡ Some x)
+    × (f x ≡ Some y)
 bind_option None f y e = absurd (cc)
 bind_option (Some x) f y e = (x, refl, e)
 
@@ -78,7 +79,8 @@ record SplitFront (n : ℕ) (bytes : List ℕ) (s : List ℕ × List ℕ) : Type
   first : AreBytes s.0
   behind : AreBytes s.1
 
-split_parts : (n : ℕ) (bytes : List ℕ) (s : List ℕ × List ℕ) → AreBytes bytes → split_front n bytes ≡ Some s → SplitFront n bytes s
+split_parts : (n : ℕ) (bytes : List ℕ) (s : List ℕ × List ℕ) → AreBytes bytes → split_front n bytes ≡ Some s
+    → SplitFront n bytes s
 unfolding split_front
 split_parts n bytes s fits e =
     let test = if_none (nat_lt (length bytes) n) (Some (take n bytes, drop n bytes)) s e in
@@ -103,9 +105,13 @@ numbers_back k (a ∷ b ∷ c ∷ []) fits even = absurd (omega (arith, even))
 numbers_back zero (a ∷ b ∷ c ∷ d ∷ bytes) fits even = absurd (omega (arith, even))
 numbers_back (suc k) (a ∷ b ∷ c ∷ d ∷ bytes) fits even =
     let four : AreBytes (a ∷ b ∷ c ∷ d ∷ []) = bytes_first 4 (a ∷ b ∷ c ∷ d ∷ bytes) fits in
-    let more : Numbers k bytes = numbers_back k bytes (bytes_after 4 (a ∷ b ∷ c ∷ d ∷ bytes) fits) (omega (arith, even)) in
+    let more : Numbers k bytes =
+    numbers_back k bytes (bytes_after 4 (a ∷ b ∷ c ∷ d ∷ bytes) fits) (omega (arith, even)) in
     record {
-      is = ap (λ (l : List ℕ). l ++ flat_map word (numbers_in bytes)) (word-little_number (a ∷ b ∷ c ∷ d ∷ []) four (omega arith)) ∙ ap (λ (l : List ℕ). a ∷ b ∷ c ∷ d ∷ l) more.is;
+      is =
+          ap (λ (l : List ℕ). l ++ flat_map word (numbers_in bytes))
+          (word-little_number (a ∷ b ∷ c ∷ d ∷ []) four (omega arith)) ∙ ap
+          (λ (l : List ℕ). a ∷ b ∷ c ∷ d ∷ l) more.is;
       count = ap (λ (n : ℕ). suc n) more.count;
       fit = (number_fits (a ∷ b ∷ c ∷ d ∷ []) four, more.fit);
     }
@@ -121,9 +127,12 @@ abbrev words_content : ℕ × List ℕ → List ℕ × List ℕ → Option (ℕ 
 words_content w c = Some (w.0 % 0x100, c.0, c.1)
 
 abbrev words_after : ℕ × List ℕ → Option (ℕ × List ℕ × List ℕ)
-words_after w = cond (w.0 == descriptor (w.0 % 0x100) 32 (number_told w.0)) (split_front (4 * number_told w.0) w.1 >>? words_content w) None
+words_after w =
+    cond (w.0 == descriptor (w.0 % 0x100) 32 (number_told w.0))
+    (split_front (4 * number_told w.0) w.1 >>? words_content w) None
 
-words_joined : (t w : ℕ) (ns body behind content rest : List ℕ) → t + 32 * 2 ^ 8 + length ns * 2 ^ 16 + 2 ^ 28 ≡ w → flat_map word ns ≡ content → rest ≡ content ++ behind → body ≡ word w ++ rest
+words_joined : (t w : ℕ) (ns body behind content rest : List ℕ) → t + 32 * 2 ^ 8 + length ns * 2 ^ 16 + 2 ^ 28 ≡ w
+    → flat_map word ns ≡ content → rest ≡ content ++ behind → body ≡ word w ++ rest
     → item_encoding (words_item t ns) ++ behind ≡ body
 words_joined t w ns body behind content rest told numbers split front =
     append_assoc (word (t + 32 * 2 ^ 8 + length ns * 2 ^ 16 + 2 ^ 28)) (flat_map word ns) behind
@@ -132,19 +141,24 @@ words_joined t w ns body behind content rest told numbers split front =
     ∙ ap (λ (l : List ℕ). word w ++ l) (sym split)
     ∙ sym front
 
-words_parts : (body : List ℕ) (found : ℕ × List ℕ × List ℕ) → AreBytes body → words_front body ≡ Some found → WordsFront body found
+words_parts : (body : List ℕ) (found : ℕ × List ℕ × List ℕ) → AreBytes body → words_front body ≡ Some found
+    → WordsFront body found
 unfolding words_front
 words_parts body found fits e =
     let first = bind_option (word_front body) words_after found e in
     let w : ℕ × List ℕ = first.0 in
     let front : WordFront body w = word_parts body w fits first.1 in
-    let test = if_some (w.0 == descriptor (w.0 % 0x100) 32 (number_told w.0)) (split_front (4 * number_told w.0) w.1 >>? words_content w) found first.2 in
-    let same : w.0 ≡ descriptor (w.0 % 0x100) 32 (number_told w.0) = eqb-true w.0 (descriptor (w.0 % 0x100) 32 (number_told w.0)) test.0 in
+    let test =
+    if_some (w.0 == descriptor (w.0 % 0x100) 32 (number_told w.0))
+    (split_front (4 * number_told w.0) w.1 >>? words_content w) found first.2 in
+    let same : w.0 ≡ descriptor (w.0 % 0x100) 32 (number_told w.0) =
+    eqb-true w.0 (descriptor (w.0 % 0x100) 32 (number_told w.0)) test.0 in
     let second = bind_option (split_front (4 * number_told w.0) w.1) (words_content w) found test.1 in
     let c : List ℕ × List ℕ = second.0 in
     let split : SplitFront (4 * number_told w.0) w.1 c = split_parts (4 * number_told w.0) w.1 c front.fits second.1 in
     let numbers : Numbers (number_told w.0) c.0 = numbers_back (number_told w.0) c.0 split.first split.count in
-    let told : w.0 % 0x100 + 32 * 2 ^ 8 + length (numbers_in c.0) * 2 ^ 16 + 2 ^ 28 ≡ w.0 = omega (arith, same, numbers.count) in
+    let told : w.0 % 0x100 + 32 * 2 ^ 8 + length (numbers_in c.0) * 2 ^ 16 + 2 ^ 28 ≡ w.0 =
+    omega (arith, same, numbers.count) in
     subst (WordsFront body) (some_same (w.0 % 0x100, c.0, c.1) found second.2) (record {
       is = words_joined (w.0 % 0x100) w.0 (numbers_in c.0) body c.1 c.0 w.1 told numbers.is split.is front.is;
       small = omega arith;
@@ -166,10 +180,14 @@ abbrev tail_after : ℕ → List ℕ × List ℕ → Option (List ℕ × List �
 tail_after n b = split_front (length (zeros n)) b.1 >>? zeros_after n b.0
 
 abbrev bytes_after_word : ℕ × List ℕ → Option (List ℕ × List ℕ)
-bytes_after_word w = cond (w.0 == descriptor 9 8 (number_told w.0)) (split_front (number_told w.0) w.1 >>? tail_after (number_told w.0)) None
+bytes_after_word w =
+    cond (w.0 == descriptor 9 8 (number_told w.0))
+    (split_front (number_told w.0) w.1 >>? tail_after (number_told w.0)) None
 
-bytes_joined : (w n : ℕ) (bytes body behind zero_bytes tail rest : List ℕ) → 9 + 8 * 2 ^ 8 + length bytes * 2 ^ 16 + 2 ^ 28 ≡ w → length bytes ≡ n → zero_bytes ≡ zeros n
-    → tail ≡ zero_bytes ++ behind → rest ≡ bytes ++ tail → body ≡ word w ++ rest → item_encoding (bytes_item bytes) ++ behind ≡ body
+bytes_joined : (w n : ℕ) (bytes body behind zero_bytes tail rest : List ℕ)
+    → 9 + 8 * 2 ^ 8 + length bytes * 2 ^ 16 + 2 ^ 28 ≡ w → length bytes ≡ n → zero_bytes ≡ zeros n
+    → tail ≡ zero_bytes ++ behind → rest ≡ bytes ++ tail → body ≡ word w ++ rest
+    → item_encoding (bytes_item bytes) ++ behind ≡ body
 bytes_joined w n bytes body behind zero_bytes tail rest told count same after split front =
     append_assoc (word (9 + 8 * 2 ^ 8 + length bytes * 2 ^ 16 + 2 ^ 28)) (bytes ++ zeros (length bytes)) behind
     ∙ ap (λ (k : ℕ). word k ++ ((bytes ++ zeros (length bytes)) ++ behind)) told
@@ -180,7 +198,8 @@ bytes_joined w n bytes body behind zero_bytes tail rest told count same after sp
     ∙ ap (λ (l : List ℕ). word w ++ l) (sym split)
     ∙ sym front
 
-bytes_parts : (body : List ℕ) (found : List ℕ × List ℕ) → AreBytes body → bytes_front body ≡ Some found → BytesFront body found
+bytes_parts : (body : List ℕ) (found : List ℕ × List ℕ) → AreBytes body → bytes_front body ≡ Some found
+    → BytesFront body found
 unfolding bytes_front
 bytes_parts body found fits e =
     let first = bind_option (word_front body) bytes_after_word found e in
@@ -210,16 +229,21 @@ pub item_cases : (P : Option (List (List ℕ) × List ℕ) → Type 0) (body : L
     → ((w : ℕ × List ℕ × List ℕ) → WordsFront body w → P (Some (words_item_words w.0 (numbers_in w.1), w.2)))
     → ((b : List ℕ × List ℕ) → BytesFront body b → P (Some (bytes_item_words b.0, b.1))) → P None → P (item_front body)
 unfolding item_front
-item_cases P body fits words bytes none = elim (words_front body) as (λ (o : Option (ℕ × List ℕ × List ℕ)). words_front body ≡ o → P (elim o as (λ _. Option (List (List ℕ) × List ℕ)) [
-  | Some w ↦ Some (words_item_words w.0 (numbers_in w.1), w.2)
-  | None ↦ elim (bytes_front body) [ Some b ↦ Some (bytes_item_words b.0, b.1) | None ↦ None ]
-])) [
-  | Some w ↦ λ (is : _). words w (words_parts body w fits is)
-  | None ↦ λ (_ : _). elim (bytes_front body) as (λ (o : Option (List ℕ × List ℕ)). bytes_front body ≡ o → P (elim o as (λ _. Option (List (List ℕ) × List ℕ)) [ Some b ↦ Some (bytes_item_words b.0, b.1) | None ↦ None ])) [
-    | Some b ↦ λ (is : _). bytes b (bytes_parts body b fits is)
-    | None ↦ λ (_ : _). none
-  ] refl
-] refl
+item_cases P body fits words bytes none =
+    elim (words_front body) as (λ (o : Option (ℕ × List ℕ × List ℕ)). words_front body ≡ o
+    → P (elim o as (λ _. Option (List (List ℕ) × List ℕ)) [
+      | Some w ↦ Some (words_item_words w.0 (numbers_in w.1), w.2)
+      | None ↦ elim (bytes_front body) [ Some b ↦ Some (bytes_item_words b.0, b.1) | None ↦ None ]
+    ])) [
+      | Some w ↦ λ (is : _). words w (words_parts body w fits is)
+      | None ↦ λ (_ : _). elim (bytes_front body)
+          as (λ (o : Option (List ℕ × List ℕ)). bytes_front body ≡ o
+          → P (elim o as (λ _. Option (List (List ℕ) × List ℕ))
+          [ Some b ↦ Some (bytes_item_words b.0, b.1) | None ↦ None ])) [
+            | Some b ↦ λ (is : _). bytes b (bytes_parts body b fits is)
+            | None ↦ λ (_ : _). none
+          ] refl
+    ] refl
 
 -- numbers in a row
 abbrev kind_if : Bool → Kind
@@ -230,12 +254,15 @@ unfolding value_word
 read_element true n fits = word_again kind.Hexadecimal n fits
 read_element false n fits = in_decimal kind.Hexadecimal n fits
 
-numbers_again : (ports : Bool) (ns : List ℕ) (ws : List (List ℕ)) → AreNumbers ns → numbers_at ws ≡ ([], ws) → numbers_at (map (value_word (kind_if ports)) ns ++ ws) ≡ (ns, ws)
+numbers_again : (ports : Bool) (ns : List ℕ) (ws : List (List ℕ)) → AreNumbers ns → numbers_at ws ≡ ([], ws)
+    → numbers_at (map (value_word (kind_if ports)) ns ++ ws) ≡ (ns, ws)
 unfolding numbers_at
 numbers_again ports [] ws fit none = none
 numbers_again ports (n ∷ ns) ws fit none =
     let rest : List (List ℕ) = map (value_word (kind_if ports)) ns ++ ws in
-    ap (λ (o : Option ℕ). elim o as (λ _. List ℕ × List (List ℕ)) [ None ↦ ([], value_word (kind_if ports) n ∷ rest) | Some m ↦ (m ∷ (numbers_at rest).0, (numbers_at rest).1) ]) (read_element ports n fit.0)
+    ap (λ (o : Option ℕ). elim o as (λ _. List ℕ × List (List ℕ))
+    [ None ↦ ([], value_word (kind_if ports) n ∷ rest) | Some m ↦ (m ∷ (numbers_at rest).0, (numbers_at rest).1) ])
+    (read_element ports n fit.0)
     ∙ ap (λ (p : List ℕ × List (List ℕ)). (n ∷ p.0, p.1)) (numbers_again ports ns ws fit.1 none)
 
 below_is : (a b : ℕ) → a < b → nat_lt a b ≡ true
@@ -254,18 +281,24 @@ no_bytes_label n fits = elim (bytes_eq (value_word kind.Element n) (codes "bytes
 ] refl
 
 words_item_parts : (words rest ws : List (List ℕ)) (t : ℕ) (ns : List ℕ) → label_at (codes "bytes") words ≡ None → bounded_at expected.Item kind.Element 0x100 words ≡ Ok (t, rest)
-    → numbers_at rest ≡ (ns, ws) → nat_lt (length ns) 0x1000 ≡ true → item_at words ≡ Ok (item_encoding (words_item t ns), ws)
+    → numbers_at rest ≡ (ns, ws) → nat_lt (length ns) 0x1000 ≡ true
+    → item_at words ≡ Ok (item_encoding (words_item t ns), ws)
 unfolding item_at words_item_at
-words_item_parts words rest ws t ns label type_name numbers few = rw (label, item_at) (rw type_name (rw numbers (rw few refl)))
+words_item_parts words rest ws t ns label type_name numbers few =
+    rw (label, item_at) (rw type_name (rw numbers (rw few refl)))
 
-words_item_again : (t : ℕ) (ns : List ℕ) (ws : List (List ℕ)) → t < 0x100 → AreNumbers ns → length ns < 0x1000 → numbers_at ws ≡ ([], ws)
-    → item_at (value_word kind.Element t ∷ (map (value_word (element_kind t)) ns ++ ws)) ≡ Ok (item_encoding (words_item t ns), ws)
+words_item_again : (t : ℕ) (ns : List ℕ) (ws : List (List ℕ)) → t < 0x100 → AreNumbers ns → length ns < 0x1000
+    → numbers_at ws ≡ ([], ws)
+    → item_at (value_word kind.Element t ∷ (map (value_word (element_kind t)) ns ++ ws))
+    ≡ Ok (item_encoding (words_item t ns), ws)
 words_item_again t ns ws small fit few none =
     let rest : List (List ℕ) = map (value_word (element_kind t)) ns ++ ws in
     words_item_parts (value_word kind.Element t ∷ rest) rest ws t ns (other_label (codes "bytes") (value_word kind.Element t) rest (no_bytes_label t (omega (arith, small))))
-    (bounded_again expected.Item kind.Element 0x100 t rest tt small (omega arith)) (numbers_again _ ns ws fit none) (below_is _ _ few)
+    (bounded_again expected.Item kind.Element 0x100 t rest tt small (omega arith)) (numbers_again _ ns ws fit none)
+    (below_is _ _ few)
 
-bytes_item_parts : (rest ws : List (List ℕ)) (bytes : List ℕ) → bytes_at rest ≡ Ok (bytes, ws) → nat_lt (length bytes) 0x1000 ≡ true
+bytes_item_parts : (rest ws : List (List ℕ)) (bytes : List ℕ) → bytes_at rest ≡ Ok (bytes, ws)
+    → nat_lt (length bytes) 0x1000 ≡ true
     → item_at (codes "bytes" ∷ rest) ≡ Ok (item_encoding (bytes_item bytes), ws)
 unfolding item_at bytes_item_at
 bytes_item_parts rest ws bytes read few = rw (label_again (codes "bytes") rest, item_at) (rw read (rw few refl))
@@ -298,11 +331,13 @@ item_no_number ws = numbers_end (codes "item") ws refl
 abbrev pub words_after_item : ℕ → List ℕ → Option (List (List ℕ) × List ℕ) → List (List ℕ)
 words_after_item m body front = elim front [ None ↦ optional_bytes (codes "data") body | Some i ↦ i.0 ++ body_within m i.1 ]
 
-body_no_number : (m : ℕ) (body : List ℕ) (ws : List (List ℕ)) → AreBytes body → numbers_at ws ≡ ([], ws) → numbers_at (body_within m body ++ ws) ≡ ([], body_within m body ++ ws)
+body_no_number : (m : ℕ) (body : List ℕ) (ws : List (List ℕ)) → AreBytes body → numbers_at ws ≡ ([], ws)
+    → numbers_at (body_within m body ++ ws) ≡ ([], body_within m body ++ ws)
 unfolding body_within words_item_words bytes_item_words
 body_no_number zero body ws fits none = data_no_number body ws none
 body_no_number (suc m) body ws fits none =
-    item_cases (λ (front : Option (List (List ℕ) × List ℕ)). numbers_at (words_after_item m body front ++ ws) ≡ ([], words_after_item m body front ++ ws)) body fits
+    item_cases (λ (front : Option (List (List ℕ) × List ℕ)). numbers_at (words_after_item m body front ++ ws)
+    ≡ ([], words_after_item m body front ++ ws)) body fits
     (λ (w : _) (parts : _). item_no_number _) (λ (b : _) (parts : _). item_no_number _) (data_no_number body ws none)
 
 pub past_within : (m : ℕ) (label body : List ℕ) (ws : List (List ℕ)) → AreBytes body → bytes_eq (codes "item") label ≡ false → bytes_eq (codes "data") label ≡ false → label_at label ws ≡ None
@@ -310,7 +345,8 @@ pub past_within : (m : ℕ) (label body : List ℕ) (ws : List (List ℕ)) → A
 unfolding body_within words_item_words bytes_item_words
 past_within zero label body ws fits item apart none = past_bytes label (codes "data") body ws apart none
 past_within (suc m) label body ws fits item apart none =
-    item_cases (λ (front : Option (List (List ℕ) × List ℕ)). label_at label (words_after_item m body front ++ ws) ≡ None) body fits
+    item_cases (λ (front : Option (List (List ℕ) × List ℕ)). label_at label (words_after_item m body front ++ ws)
+    ≡ None) body fits
     (λ (w : _) (parts : _). other_label label (codes "item") _ item) (λ (b : _) (parts : _). other_label label (codes "item") _ item) (past_bytes label (codes "data") body ws apart none)
 
 pub past_body : (label body : List ℕ) (ws : List (List ℕ)) → AreBytes body → bytes_eq (codes "item") label ≡ false → bytes_eq (codes "data") label ≡ false → label_at label ws ≡ None
@@ -318,31 +354,41 @@ pub past_body : (label body : List ℕ) (ws : List (List ℕ)) → AreBytes body
 unfolding body_words
 past_body label body ws fits item apart none = past_within (length body) label body ws fits item apart none
 
-within_again : (m n : ℕ) (body : List ℕ) (ws : List (List ℕ)) → AreBytes body → NoLabel ws → length (body_within m body) ≤ n → parts_at n (body_within m body ++ ws) ≡ Ok (body, ws)
+within_again : (m n : ℕ) (body : List ℕ) (ws : List (List ℕ)) → AreBytes body → NoLabel ws
+    → length (body_within m body) ≤ n → parts_at n (body_within m body ++ ws) ≡ Ok (body, ws)
 unfolding body_within words_item_words bytes_item_words
 within_again zero n body ws fits none = λ (enough : _). data_again n body ws fits none
 within_again (suc m) zero body ws fits none =
-    item_cases (λ (front : Option (List (List ℕ) × List ℕ)). length (words_after_item m body front) ≤ 0 → parts_at 0 (words_after_item m body front ++ ws) ≡ Ok (body, ws)) body fits
-    (λ (w : _) (parts : _) (enough : _). absurd (omega (arith, enough))) (λ (b : _) (parts : _) (enough : _). absurd (omega (arith, enough))) (λ (enough : _). data_again 0 body ws fits none)
+    item_cases (λ (front : Option (List (List ℕ) × List ℕ)). length (words_after_item m body front) ≤ 0
+    → parts_at 0 (words_after_item m body front ++ ws) ≡ Ok (body, ws)) body fits
+    (λ (w : _) (parts : _) (enough : _). absurd (omega (arith, enough)))
+    (λ (b : _) (parts : _) (enough : _). absurd (omega (arith, enough)))
+    (λ (enough : _). data_again 0 body ws fits none)
 within_again (suc m) (suc n) body ws fits none =
-    item_cases (λ (front : Option (List (List ℕ) × List ℕ)). length (words_after_item m body front) ≤ suc n → parts_at (suc n) (words_after_item m body front ++ ws) ≡ Ok (body, ws)) body fits
+    item_cases (λ (front : Option (List (List ℕ) × List ℕ)). length (words_after_item m body front) ≤ suc n
+    → parts_at (suc n) (words_after_item m body front ++ ws) ≡ Ok (body, ws)) body fits
     (λ (w : ℕ × List ℕ × List ℕ) (parts : WordsFront body w) (enough : _).
     let numbers : List (List ℕ) = map (value_word (element_kind w.0)) (numbers_in w.1) in
     let more : List (List ℕ) = body_within m w.2 in
     let few : length more ≤ n = omega (arith, enough, length-append numbers more) in
     ap (λ (l : List (List ℕ)). parts_at (suc n) (codes "item" ∷ value_word kind.Element w.0 ∷ l)) (append_assoc numbers more ws)
     ∙ item_more n _ (more ++ ws) ws (item_encoding (words_item w.0 (numbers_in w.1))) w.2
-    (words_item_again w.0 (numbers_in w.1) (more ++ ws) parts.small parts.fit parts.few (body_no_number m w.2 ws parts.behind none.1)) (within_again m n w.2 ws parts.behind none few)
+    (words_item_again w.0 (numbers_in w.1) (more ++ ws) parts.small parts.fit parts.few
+    (body_no_number m w.2 ws parts.behind none.1)) (within_again m n w.2 ws parts.behind none few)
     ∙ ap (λ (l : List ℕ). Ok (l, ws)) parts.is)
     (λ (b : List ℕ × List ℕ) (parts : BytesFront body b) (enough : _).
     let more : List (List ℕ) = body_within m b.1 in
     let few : length more ≤ n = omega (arith, enough) in
     item_more n _ (more ++ ws) ws (item_encoding (bytes_item b.0)) b.1
-    (bytes_item_parts (bytes_word b.0 ∷ more ++ ws) (more ++ ws) b.0 (bytes_at_again b.0 (more ++ ws) parts.bytes) (below_is _ _ parts.few)) (within_again m n b.1 ws parts.behind none few)
+    (bytes_item_parts (bytes_word b.0 ∷ more ++ ws) (more ++ ws) b.0 (bytes_at_again b.0 (more ++ ws) parts.bytes)
+    (below_is _ _ parts.few)) (within_again m n b.1 ws parts.behind none few)
     ∙ ap (λ (l : List ℕ). Ok (l, ws)) parts.is)
     (λ (enough : _). data_again (suc n) body ws fits none)
 
 -- every body is read from its words
-pub body_again : (body : List ℕ) (ws : List (List ℕ)) → AreBytes body → NoLabel ws → body_at (body_words body ++ ws) ≡ Ok (body, ws)
+pub body_again : (body : List ℕ) (ws : List (List ℕ)) → AreBytes body → NoLabel ws
+    → body_at (body_words body ++ ws) ≡ Ok (body, ws)
 unfolding body_at body_words
-body_again body ws fits none = within_again (length body) (length (body_within (length body) body ++ ws)) body ws fits none (omega (arith, length-append (body_within (length body) body) ws))
+body_again body ws fits none =
+    within_again (length body) (length (body_within (length body) body ++ ws)) body ws fits none
+    (omega (arith, length-append (body_within (length body) body) ws))

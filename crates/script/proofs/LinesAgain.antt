@@ -23,13 +23,15 @@ pub request_again : (c : Call) → HasLine c → request_at (call_words c) ≡ O
 unfolding request_at
 request_again c fits = rw (sym (append-nil (call_words c))) (rw (call_again c [] fits no_label_end) refl)
 
-exchange_parts : (words rest : List (List ℕ)) (x : Exchange) → call_at words ≡ Ok (x.call, rest) → reply_at (number_of_call x.call) rest ≡ Ok x.reply → exchange_at words ≡ Ok x
+exchange_parts : (words rest : List (List ℕ)) (x : Exchange) → call_at words ≡ Ok (x.call, rest)
+    → reply_at (number_of_call x.call) rest ≡ Ok x.reply → exchange_at words ≡ Ok x
 unfolding exchange_at
 exchange_parts words rest x first second = rw (first, second) refl
 
 pub exchange_again : (x : Exchange) → IsExchange x → exchange_at (exchange_words x) ≡ Ok x
 exchange_again x is =
-    exchange_parts (exchange_words x) (reply_words x.reply) x (call_again x.call (reply_words x.reply) is.call (reply_no_label x.reply))
+    exchange_parts (exchange_words x) (reply_words x.reply) x
+    (call_again x.call (reply_words x.reply) is.call (reply_no_label x.reply))
     (ap (λ (n : ℕ). reply_at n (reply_words x.reply)) (sym is.of_one_call) ∙ reply_again x.reply is.reply is.own)
 
 pub words_of_call : (c : Call) → HasLine c → words_of (call_line c) ≡ call_words c
@@ -38,17 +40,21 @@ words_of_call c fits = line_again (call_words c) (call_printed c fits)
 
 pub words_of_exchange : (x : Exchange) → IsExchange x → words_of (exchange_line x) ≡ exchange_words x
 unfolding exchange_line
-words_of_exchange x is = line_again (exchange_words x) (printed_both (call_words x.call) (reply_words x.reply) (call_printed x.call is.call) (reply_printed x.reply is.reply))
+words_of_exchange x is =
+    line_again (exchange_words x) (printed_both (call_words x.call) (reply_words x.reply) (call_printed x.call is.call)
+    (reply_printed x.reply is.reply))
 
 -- a line is read as its words are
 abbrev whole : List ℕ → Reading Exchange → Result (Option Exchange) LineFault
 whole line read = on_line line read >>= λ x. Ok (Some x)
 
-some_line : (line word : List ℕ) (words : List (List ℕ)) → words_of line ≡ word ∷ words → line_read line ≡ whole line (exchange_at (words_of line))
+some_line : (line word : List ℕ) (words : List (List ℕ)) → words_of line ≡ word ∷ words
+    → line_read line ≡ whole line (exchange_at (words_of line))
 unfolding line_read
 some_line line word words is = ap (words_read line) is ∙ sym (ap (λ (l : List (List ℕ)). whole line (exchange_at l)) is)
 
-pub line_ok : (line word : List ℕ) (words : List (List ℕ)) (x : Exchange) → words_of line ≡ word ∷ words → exchange_at (words_of line) ≡ Ok x → line_read line ≡ Ok (Some x)
+pub line_ok : (line word : List ℕ) (words : List (List ℕ)) (x : Exchange) → words_of line ≡ word ∷ words
+    → exchange_at (words_of line) ≡ Ok x → line_read line ≡ Ok (Some x)
 line_ok line word words x is read = some_line line word words is ∙ ap (whole line) read
 
 pub line_blank : (line : List ℕ) → words_of line ≡ [] → line_read line ≡ Ok None
@@ -56,27 +62,36 @@ unfolding line_read
 line_blank line is = ap (words_read line) is
 
 -- one that can't be read
-pub line_fails : (f : Fault) (line word : List ℕ) (words : List (List ℕ)) → words_of line ≡ word ∷ words → Fails f (exchange_at (words_of line)) → UnlessMemory (Err (fault_of line f)) (line_read line)
+pub line_fails : (f : Fault) (line word : List ℕ) (words : List (List ℕ)) → words_of line ≡ word ∷ words
+    → Fails f (exchange_at (words_of line)) → UnlessMemory (Err (fault_of line f)) (line_read line)
 line_fails fault.NoMemory line word words is fails = tt
 line_fails (fault.Unreadable place) line word words is fails = some_line line word words is ∙ ap (whole line) fails
 
-pub request_fails : (f : Fault) (line : List ℕ) → Fails f (request_at (words_of line)) → UnlessMemory (Err (fault_of line f)) (request_read line)
+pub request_fails : (f : Fault) (line : List ℕ) → Fails f (request_at (words_of line))
+    → UnlessMemory (Err (fault_of line f)) (request_read line)
 request_fails fault.NoMemory line fails = tt
 request_fails (fault.Unreadable place) line fails = ap (λ (read : Reading Call). on_line line read) fails
 
 -- what is printed is read back
-pub line_read_again : (line : List ℕ) (x : Exchange) → words_of line ≡ exchange_words x → IsExchange x → line_read line ≡ Ok (Some x)
+pub line_read_again : (line : List ℕ) (x : Exchange) → words_of line ≡ exchange_words x → IsExchange x
+    → line_read line ≡ Ok (Some x)
 unfolding call_words
-line_read_again line x is fits = line_ok line (verb_word (verb_of x.call)) (argument_words x.call ++ reply_words x.reply) x is (ap exchange_at is ∙ exchange_again x fits)
+line_read_again line x is fits =
+    line_ok line (verb_word (verb_of x.call)) (argument_words x.call ++ reply_words x.reply) x is
+    (ap exchange_at is ∙ exchange_again x fits)
 
 -- if a line can be read, the only fault is that memory runs out
-pub is_read : {X : Type 0} (r : Result X LineFault) (said : Result X LineFault) (x : X) → UnlessMemory r said → said ≡ Ok x → IsRead r x
+pub is_read : {X : Type 0} (r : Result X LineFault) (said : Result X LineFault) (x : X) → UnlessMemory r said
+    → said ≡ Ok x → IsRead r x
 is_read (Ok y) said x unless is = let same : Ok y ≡ Ok x = sym unless ∙ is in cc
-is_read (Err (line_fault.Unreadable column expected)) said x unless is = absurd (let wrong : Err (line_fault.Unreadable column expected) ≡ Ok x = sym unless ∙ is in cc)
+is_read (Err (line_fault.Unreadable column expected)) said x unless is =
+    absurd (let wrong : Err (line_fault.Unreadable column expected) ≡ Ok x = sym unless ∙ is in cc)
 is_read (Err line_fault.NoMemory) said x unless is = refl
 
-pub request_read_again : (line : List ℕ) (c : Call) → words_of line ≡ call_words c → HasLine c → request_read line ≡ Ok c
-request_read_again line c is fits = ap (λ (read : Reading Call). on_line line read) (ap request_at is ∙ request_again c fits)
+pub request_read_again : (line : List ℕ) (c : Call) → words_of line ≡ call_words c → HasLine c
+    → request_read line ≡ Ok c
+request_read_again line c is fits =
+    ap (λ (read : Reading Call). on_line line read) (ap request_at is ∙ request_again c fits)
 
 -- a line of a call has words
 pub some_words : (x : Exchange) → exchange_words x ≡ [] → ⊥

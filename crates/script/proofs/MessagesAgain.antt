@@ -41,14 +41,17 @@ unfolding local_at local_words
 local_again d n ws small fits none = elim (d == 0 && n == 0) as (λ (b : Bool). (d == 0 && n == 0) ≡ b →
     elim (label_at (codes "local") (cond b [] (codes "local" ∷ value_word Disposition d ∷ value_word Hexadecimal n ∷ []) ++ ws)) as (λ _. Reading (ℕ × ℕ × List (List ℕ))) [
       | None ↦ Ok (0, 0, cond b [] (codes "local" ∷ value_word Disposition d ∷ value_word Hexadecimal n ∷ []) ++ ws)
-      | Some rest ↦ bounded_at expected.Number Disposition 0x100 rest >>= λ r. value_at Hexadecimal r.1 >>= λ m. Ok (r.0, m.0, m.1)
+      | Some rest ↦ bounded_at expected.Number Disposition 0x100 rest >>= λ r. value_at Hexadecimal r.1 >>= λ m. Ok
+          (r.0, m.0, m.1)
     ] ≡ Ok (d, n, ws)) [
       | true ↦ λ (is : _).
           let parts = and_parts (d == 0) (n == 0) is in
-          rw none (ap (λ (m : ℕ). Ok (m, 0, ws)) (sym (eqb-true d 0 parts.0)) ∙ ap (λ (m : ℕ). Ok (d, m, ws)) (sym (eqb-true n 0 parts.1)))
+          rw none (ap (λ (m : ℕ). Ok (m, 0, ws)) (sym (eqb-true d 0 parts.0)) ∙ ap
+          (λ (m : ℕ). Ok (d, m, ws)) (sym (eqb-true n 0 parts.1)))
       | false ↦ λ (_ : _).
           rw (label_again (codes "local") (value_word Disposition d ∷ value_word Hexadecimal n ∷ ws))
-          (rw (bounded_again expected.Number kind.Disposition 0x100 d (value_word Hexadecimal n ∷ ws) tt small (omega arith)) (rw (value_again kind.Hexadecimal n ws tt fits) refl))
+          (rw (bounded_again expected.Number kind.Disposition 0x100 d (value_word Hexadecimal n ∷ ws) tt small
+          (omega arith)) (rw (value_again kind.Hexadecimal n ws tt fits) refl))
     ] refl
 
 -- the words of a header are numbers of four bytes
@@ -61,11 +64,15 @@ pub record FitsHeader (h : Header) : Type 0 where
   pub id : h.id < 2 ^ 32
 
 -- the bits are put together again
-bits_joined : (n : ℕ) → n < 2 ^ 32 → (n % 0x100 + (n / 0x100 % 0x100) * 0x100 + (n / 0x1_0000 % 0x8000) * 0x1_0000 + cond (nat_le 0x8000_0000 n) 0x8000_0000 0) ≡ n
-bits_joined n fits = elim (nat_le 0x8000_0000 n) as (λ (b : Bool). nat_le 0x8000_0000 n ≡ b → n % 0x100 + (n / 0x100 % 0x100) * 0x100 + (n / 0x1_0000 % 0x8000) * 0x1_0000 + cond b 0x8000_0000 0 ≡ n) [
-  | true ↦ λ (is : _). let high : 0x8000_0000 ≤ n = grind (arith, nat_tests) in omega (arith, high)
-  | false ↦ λ (is : _). let low : n < 0x8000_0000 = grind (arith, nat_tests) in omega (arith, low)
-] refl
+bits_joined : (n : ℕ) → n < 2 ^ 32
+    → (n % 0x100 + (n / 0x100 % 0x100) * 0x100 + (n / 0x1_0000 % 0x8000) * 0x1_0000 + cond
+    (nat_le 0x8000_0000 n) 0x8000_0000 0) ≡ n
+bits_joined n fits =
+    elim (nat_le 0x8000_0000 n) as (λ (b : Bool). nat_le 0x8000_0000 n ≡ b
+    → n % 0x100 + (n / 0x100 % 0x100) * 0x100 + (n / 0x1_0000 % 0x8000) * 0x1_0000 + cond b 0x8000_0000 0 ≡ n) [
+      | true ↦ λ (is : _). let high : 0x8000_0000 ≤ n = grind (arith, nat_tests) in omega (arith, high)
+      | false ↦ λ (is : _). let low : n < 0x8000_0000 = grind (arith, nat_tests) in omega (arith, low)
+    ] refl
 
 header_parts : (start remote local id complex further size seqno ws : List (List ℕ)) (h : Header)
     → bounded_at expected.Message Disposition 0x100 start ≡ Ok (h.bits % 0x100, remote)
@@ -76,9 +83,16 @@ header_parts : (start remote local id complex further size seqno ws : List (List
     → further_at further ≡ Ok (h.bits / 0x1_0000 % 0x8000, size)
     → optional_at (codes "size") Decimal size ≡ Ok (h.size, seqno)
     → optional_at (codes "seqno") Decimal seqno ≡ Ok (h.seqno, ws)
-    → header_at start ≡ Ok (record h { bits = h.bits % 0x100 + (h.bits / 0x100 % 0x100) * 0x100 + (h.bits / 0x1_0000 % 0x8000) * 0x1_0000 + cond (nat_le 0x8000_0000 h.bits) 0x8000_0000 0 }, ws)
+    → header_at start ≡ Ok (
+      record h {
+        bits = h.bits % 0x100 + (h.bits / 0x100 % 0x100) * 0x100 + (h.bits / 0x1_0000 % 0x8000) * 0x1_0000 + cond
+            (nat_le 0x8000_0000 h.bits) 0x8000_0000 0;
+      },
+      ws,
+    )
 unfolding header_at rights_at
-header_parts start remote local id complex further size seqno ws h e1 e2 e3 e4 e5 e6 e7 e8 = rw (e1, e2, e3, e4, e5, e6, e7, e8) refl
+header_parts start remote local id complex further size seqno ws h e1 e2 e3 e4 e5 e6 e7 e8 =
+    rw (e1, e2, e3, e4, e5, e6, e7, e8) refl
 
 -- the words of a header, followed by others, are read as the header
 pub header_again : (h : Header) (ws : List (List ℕ)) → FitsHeader h → label_at (codes "complex") ws ≡ None → label_at (codes "bits") ws ≡ None
@@ -95,7 +109,8 @@ header_again h ws fits no_complex no_bits no_size no_seqno =
     let start : List (List ℕ) = value_word Disposition (h.bits % 0x100) ∷ remote in
     let past_size : (label : List ℕ) → bytes_eq (codes "seqno") label ≡ false → bytes_eq (codes "size") label ≡ false → label_at label ws ≡ None → label_at label size ≡ None
     = λ label a b none. past_optional label (codes "size") Decimal h.size seqno b (past_optional label (codes "seqno") Decimal h.seqno ws a none) in
-    let e_rd = bounded_again expected.Message kind.Disposition 0x100 (h.bits % 0x100) remote tt (omega arith) (omega arith) in
+    let e_rd =
+    bounded_again expected.Message kind.Disposition 0x100 (h.bits % 0x100) remote tt (omega arith) (omega arith) in
     let e_remote = value_again kind.Hexadecimal h.remote local tt fits.remote in
     let e_local = local_again (h.bits / 0x100 % 0x100) h.local id (omega arith) fits.local (other_label (codes "local") (codes "id") (value_word Decimal h.id ∷ complex) refl) in
     let e_id = labelled_again (codes "id") kind.Decimal h.id complex tt fits.id in
@@ -105,11 +120,13 @@ header_again h ws fits no_complex no_bits no_size no_seqno =
     let e_seqno = optional_again (codes "seqno") kind.Decimal h.seqno ws tt fits.seqno no_seqno in
     let grouped : header_words h ++ ws ≡ start = simp append_assoc in
     ap header_at grouped
-    ∙ header_parts start remote local id complex further size seqno ws h e_rd e_remote e_local e_id e_complex e_further e_size e_seqno
+    ∙ header_parts start remote local id complex further size seqno ws h e_rd e_remote e_local e_id e_complex e_further
+    e_size e_seqno
     ∙ ap (λ (n : ℕ). Ok (record h { bits = n }, ws)) (bits_joined h.bits fits.bits)
 
 -- the first word of a message, and its rest
-front_word : (n : ℕ) (m rest : List ℕ) → AreBytes m → n + 4 ≤ length m → word (little_number 4 (drop n m)) ++ drop (n + 4) m ≡ drop n m
+front_word : (n : ℕ) (m rest : List ℕ) → AreBytes m → n + 4 ≤ length m
+    → word (little_number 4 (drop n m)) ++ drop (n + 4) m ≡ drop n m
 front_word n m rest fits long =
     let enough : 4 ≤ length (drop n m) = omega (arith, length-drop n m) in
     ap (λ (l : List ℕ). l ++ drop (n + 4) m) (word-little_number (drop n m) (bytes_after n m fits) enough)
@@ -120,13 +137,20 @@ pub message_is : (m : List ℕ) → AreBytes m → 24 ≤ length m → header_en
 unfolding header_encoding
 message_is m fits long =
     simp append_assoc
-    (ap (λ (l : List ℕ). word (little_number 4 m) ++ (word (little_number 4 (drop 4 m)) ++ (word (little_number 4 (drop 8 m)) ++ (word (little_number 4 (drop 12 m)) ++ (word (little_number 4 (drop 16 m)) ++ l)))))
+    (ap (λ (l : List ℕ). word (little_number 4 m)
+    ++ (word (little_number 4 (drop 4 m))
+    ++ (word (little_number 4 (drop 8 m))
+    ++ (word (little_number 4 (drop 12 m)) ++ (word (little_number 4 (drop 16 m)) ++ l)))))
     (front_word 20 m [] fits (omega arith))
-    ∙ ap (λ (l : List ℕ). word (little_number 4 m) ++ (word (little_number 4 (drop 4 m)) ++ (word (little_number 4 (drop 8 m)) ++ (word (little_number 4 (drop 12 m)) ++ l))))
+    ∙ ap (λ (l : List ℕ). word (little_number 4 m)
+    ++ (word (little_number 4 (drop 4 m))
+    ++ (word (little_number 4 (drop 8 m)) ++ (word (little_number 4 (drop 12 m)) ++ l))))
     (front_word 16 m [] fits (omega arith))
-    ∙ ap (λ (l : List ℕ). word (little_number 4 m) ++ (word (little_number 4 (drop 4 m)) ++ (word (little_number 4 (drop 8 m)) ++ l)))
+    ∙ ap (λ (l : List ℕ). word (little_number 4 m)
+    ++ (word (little_number 4 (drop 4 m)) ++ (word (little_number 4 (drop 8 m)) ++ l)))
     (front_word 12 m [] fits (omega arith))
-    ∙ ap (λ (l : List ℕ). word (little_number 4 m) ++ (word (little_number 4 (drop 4 m)) ++ l)) (front_word 8 m [] fits (omega arith))
+    ∙ ap (λ (l : List ℕ). word (little_number 4 m) ++ (word (little_number 4 (drop 4 m)) ++ l))
+    (front_word 8 m [] fits (omega arith))
     ∙ ap (λ (l : List ℕ). word (little_number 4 m) ++ l) (front_word 4 m [] fits (omega arith))
     ∙ front_word 0 m [] fits (omega arith))
 
@@ -157,7 +181,8 @@ no_bytes_label n fits = elim (bytes_eq (value_word Disposition n) (codes "bytes"
 ] refl
 
 -- a header's first word
-pub header_first : (h : Header) → (rest : List (List ℕ)) × (header_words h ≡ value_word Disposition (h.bits % 0x100) ∷ rest)
+pub header_first : (h : Header) → (rest : List (List ℕ))
+    × (header_words h ≡ value_word Disposition (h.bits % 0x100) ∷ rest)
 unfolding header_words
 header_first h = (_, refl)
 
@@ -166,7 +191,8 @@ message_parts : (start rest ws : List (List ℕ)) (h : Header) (body : List ℕ)
 unfolding message_at
 message_parts start rest ws h body e1 e2 e3 = rw (e1, message_at) (rw (e2, e3) refl)
 
-pub message_again : (m : List ℕ) (ws : List (List ℕ)) → AreBytes m → NoLabel ws → message_at (message_words m ++ ws) ≡ Ok (m, ws)
+pub message_again : (m : List ℕ) (ws : List (List ℕ)) → AreBytes m → NoLabel ws
+    → message_at (message_words m ++ ws) ≡ Ok (m, ws)
 unfolding message_at message_words
 message_again m ws fits none = elim (nat_lt (length m) 24) as (λ (b : Bool). nat_lt (length m) 24 ≡ b →
     message_at (cond b (codes "bytes" ∷ bytes_word m ∷ []) (header_words (header_of m) ++ body_words (drop 24 m)) ++ ws) ≡ Ok (m, ws)) [
@@ -186,5 +212,6 @@ message_again m ws fits none = elim (nat_lt (length m) 24) as (λ (b : Bool). na
           ap (λ (l : List (List ℕ)). label_at (codes "bytes") (l ++ rest)) first.1
           ∙ other_label (codes "bytes") (value_word Disposition (h.bits % 0x100)) (first.0 ++ rest) (no_bytes_label (h.bits % 0x100) (omega arith)) in
           ap message_at (append_assoc (header_words h) (body_words body) ws)
-          ∙ message_parts (header_words h ++ rest) rest ws h body e_label e_header e_body ∙ ap (λ (l : List ℕ). Ok (l, ws)) (message_is m fits long)
+          ∙ message_parts (header_words h ++ rest) rest ws h body e_label e_header e_body ∙ ap
+          (λ (l : List ℕ). Ok (l, ws)) (message_is m fits long)
     ] refl

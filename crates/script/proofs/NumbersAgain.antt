@@ -15,7 +15,8 @@ use Rattle.script.specs.Numbers.{hexadecimal, signed, number_from, number_after,
 -- more digits don't make a number smaller
 pub value_grows : (radix n : ℕ) (ds : List ℕ) → 1 ≤ radix → n ≤ digits_value_after radix n ds
 value_grows radix n [] some = omega arith
-value_grows radix n (c ∷ cs) some = let more = value_grows radix (n * radix + digit_value c) cs some in omega (arith, more, mul-le-mul_left n some)
+value_grows radix n (c ∷ cs) some =
+    let more = value_grows radix (n * radix + digit_value c) cs some in omega (arith, more, mul-le-mul_left n some)
 
 below_is : (a b : ℕ) → a < b → nat_lt a b ≡ true
 below_is a b less = grind (arith, nat_tests)
@@ -29,15 +30,19 @@ from_digits radix n [] some are fits = refl
 from_digits radix n (c ∷ cs) some are fits =
     let m : ℕ = n * radix + digit_value c in
     let less : m < 2 ^ 32 = omega (arith, value_grows radix m cs some, fits) in
-    let test : (nat_lt (digit_value c) radix && nat_lt m (2 ^ 32)) ≡ true = both _ _ (below_is _ _ are.0) (below_is _ _ less) in
-    ap (λ (b : Bool). number_after (λ (k : ℕ). number_from radix k cs) (cond b (Some m) None)) test ∙ from_digits radix m cs some are.1 fits
+    let test : (nat_lt (digit_value c) radix && nat_lt m (2 ^ 32)) ≡ true =
+    both _ _ (below_is _ _ are.0) (below_is _ _ less) in
+    ap (λ (b : Bool). number_after (λ (k : ℕ). number_from radix k cs) (cond b (Some m) None)) test
+    ∙ from_digits radix m cs some are.1 fits
 
-pub natural_again : (radix n : ℕ) → 2 ≤ radix → radix ≤ 16 → n < 2 ^ 32 → n < radix ^ 64 → natural radix (digits radix false n) ≡ Some n
+pub natural_again : (radix n : ℕ) → 2 ≤ radix → radix ≤ 16 → n < 2 ^ 32 → n < radix ^ 64
+    → natural radix (digits radix false n) ≡ Some n
 natural_again radix n low high fits short =
     let is = digits_is_IsNumeral radix false low high n short in
     let ds : List ℕ = digits radix false n in
     let long : (length ds == 0) ≡ false = grind (arith, nat_tests, is.0.0) in
-    let value : number_from radix 0 ds ≡ Some (digits_value radix ds) = from_digits radix 0 ds (omega arith) is.0.1 (omega (arith, is.1)) in
+    let value : number_from radix 0 ds ≡ Some (digits_value radix ds) =
+    from_digits radix 0 ds (omega arith) is.0.1 (omega (arith, is.1)) in
     ap (λ (b : Bool). cond b None (number_from radix 0 ds)) long ∙ value ∙ ap Some is.1
 
 -- decimal digits aren't taken for another kind of number
@@ -72,5 +77,6 @@ signed_again n fits = elim (nat_lt n (2 ^ 31)) as (λ (b : Bool). nat_lt n (2 ^ 
   | false ↦ λ (is : _).
       let high : 2 ^ 31 ≤ n = grind (arith, nat_tests) in
       let least : 2 ^ 32 - n < 2 ^ 32 = omega arith in
-      ap (option_map negated) (natural_again 10 (2 ^ 32 - n) (omega arith) (omega arith) least (decimal_fits (2 ^ 32 - n) least)) ∙ ap Some (negated_again n fits high)
+      ap (option_map negated) (natural_again 10 (2 ^ 32 - n) (omega arith) (omega arith) least
+      (decimal_fits (2 ^ 32 - n) least)) ∙ ap Some (negated_again n fits high)
 ] refl

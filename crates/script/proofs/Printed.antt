@@ -65,7 +65,9 @@ decimal_word n fits =
 hexadecimal_word : (n : ℕ) → n < 2 ^ 32 → is_word (hexadecimal n) ≡ true
 hexadecimal_word n fits =
     let short : n < 16 ^ 64 = omega arith in
-    let is = digits_is_IsNumeral 16 false (omega arith) (omega arith) n short in all_digits 16 (digits 16 false n) (omega arith) is.0.1
+    let is =
+    digits_is_IsNumeral 16 false (omega arith) (omega arith) n short in
+    all_digits 16 (digits 16 false n) (omega arith) is.0.1
 
 signed_word : (n : ℕ) → n < 2 ^ 32 → is_word (signed n) ≡ true
 signed_word n fits = elim (nat_lt n (2 ^ 31)) as (λ (b : Bool). nat_lt n (2 ^ 31) ≡ b → is_word (cond b (decimal n) (codes "-" ++ decimal (2 ^ 32 - n))) ≡ true) [
@@ -74,10 +76,13 @@ signed_word n fits = elim (nat_lt n (2 ^ 31)) as (λ (b : Bool). nat_lt n (2 ^ 3
       let high : 2 ^ 31 ≤ n = grind (arith, nat_tests) in
       let small : 2 ^ 32 - n < 2 ^ 32 = omega arith in
       let less : 2 ^ 32 - n < 10 ^ 64 = decimal_fits (2 ^ 32 - n) small in
-      let number = digits_is_IsNumeral 10 false (omega arith) (omega arith) (2 ^ 32 - n) less in all_digits 10 (decimal (2 ^ 32 - n)) (omega arith) number.0.1
+      let number =
+      digits_is_IsNumeral 10 false (omega arith) (omega arith) (2 ^ 32 - n) less in
+      all_digits 10 (decimal (2 ^ 32 - n)) (omega arith) number.0.1
 ] refl
 
-named : (P : List ℕ → Type 0) (b : Bool) (word : List ℕ) (rest : Option (List ℕ)) (text : List ℕ) → P word → P (unwrap_or rest text) → P (unwrap_or (cond b (Some word) rest) text)
+named : (P : List ℕ → Type 0) (b : Bool) (word : List ℕ) (rest : Option (List ℕ)) (text : List ℕ) → P word
+    → P (unwrap_or rest text) → P (unwrap_or (cond b (Some word) rest) text)
 named P true word rest text here there = here
 named P false word rest text here there = there
 
@@ -91,15 +96,22 @@ value_printed kind.Hexadecimal n fits = hexadecimal_word n fits
 value_printed kind.Decimal n fits = decimal_word n fits
 value_printed kind.Signed n fits = signed_word n fits
 value_printed kind.Right n fits =
-    named Prints (n == 0) _ _ _ refl (named Prints (n == 1) _ _ _ refl (named Prints (n == 2) _ _ _ refl (named Prints (n == 3) _ _ _ refl (named Prints (n == 4) _ None _ refl (decimal_word n fits)))))
+    named Prints (n == 0) _ _ _ refl
+    (named Prints (n == 1) _ _ _ refl
+    (named Prints (n == 2) _ _ _ refl
+    (named Prints (n == 3) _ _ _ refl (named Prints (n == 4) _ None _ refl (decimal_word n fits)))))
 value_printed kind.Disposition n fits =
     named Prints (n == 16) _ _ _ refl (named Prints (n == 17) _ _ _ refl (named Prints (n == 18) _ _ _ refl
-    (named Prints (n == 19) _ _ _ refl (named Prints (n == 20) _ _ _ refl (named Prints (n == 21) _ None _ refl (decimal_word n fits))))))
+    (named Prints (n == 19) _ _ _ refl
+    (named Prints (n == 20) _ _ _ refl (named Prints (n == 21) _ None _ refl (decimal_word n fits))))))
 value_printed kind.Notification n fits =
-    named Prints (n == 69) _ _ _ refl (named Prints (n == 70) _ _ _ refl (named Prints (n == 72) _ None _ refl (decimal_word n fits)))
+    named Prints (n == 69) _ _ _ refl
+    (named Prints (n == 70) _ _ _ refl (named Prints (n == 72) _ None _ refl (decimal_word n fits)))
 value_printed kind.Element n fits =
-    named Prints (n == 2) _ _ _ refl (named Prints (n == 16) _ _ _ refl (named Prints (n == 17) _ _ _ refl (named Prints (n == 18) _ _ _ refl
-    (named Prints (n == 19) _ _ _ refl (named Prints (n == 20) _ _ _ refl (named Prints (n == 21) _ None _ refl (decimal_word n fits)))))))
+    named Prints (n == 2) _ _ _ refl
+    (named Prints (n == 16) _ _ _ refl (named Prints (n == 17) _ _ _ refl (named Prints (n == 18) _ _ _ refl
+    (named Prints (n == 19) _ _ _ refl
+    (named Prints (n == 20) _ _ _ refl (named Prints (n == 21) _ None _ refl (decimal_word n fits)))))))
 value_printed kind.Absent n fits = decimal_word n fits
 
 -- the digits of bytes
@@ -120,14 +132,16 @@ digit_is (suc (suc (suc (suc (suc (suc (suc (suc (suc (suc (suc (suc zero)))))))
 digit_is (suc (suc (suc (suc (suc (suc (suc (suc (suc (suc (suc (suc (suc zero))))))))))))) less = refl
 digit_is (suc (suc (suc (suc (suc (suc (suc (suc (suc (suc (suc (suc (suc (suc zero)))))))))))))) less = refl
 digit_is (suc (suc (suc (suc (suc (suc (suc (suc (suc (suc (suc (suc (suc (suc (suc zero))))))))))))))) less = refl
-digit_is (suc (suc (suc (suc (suc (suc (suc (suc (suc (suc (suc (suc (suc (suc (suc (suc d)))))))))))))))) less = absurd (omega arith)
+digit_is (suc (suc (suc (suc (suc (suc (suc (suc (suc (suc (suc (suc (suc (suc (suc (suc d)))))))))))))))) less =
+    absurd (omega arith)
 
 encoded : (bytes : List ℕ) → AreBytes bytes → are_word_bytes (encode_lower bytes) ≡ true
 unfolding encode_with
 encoded [] fits = refl
 encoded (b ∷ bytes) fits =
     let byte : b < 256 = fits 0 in
-    both _ _ (digit_is (b / 16) (omega arith)) (both _ _ (digit_is (b % 16) (omega arith)) (encoded bytes (λ k. fits (suc k))))
+    both _ _ (digit_is (b / 16) (omega arith))
+    (both _ _ (digit_is (b % 16) (omega arith)) (encoded bytes (λ k. fits (suc k))))
 
 pub bytes_printed : (bytes : List ℕ) → AreBytes bytes → is_word (bytes_word bytes) ≡ true
 unfolding bytes_word encode_with
@@ -137,7 +151,8 @@ bytes_printed (b ∷ bytes) fits = encoded (b ∷ bytes) fits
 -- rows of words
 pub printed_both : (a b : List (List ℕ)) → are_words a ≡ true → are_words b ≡ true → are_words (a ++ b) ≡ true
 printed_both [] b first second = second
-printed_both (w ∷ ws) b first second = let parts = and_parts (is_word w) (are_words ws) first in both _ _ parts.0 (printed_both ws b parts.1 second)
+printed_both (w ∷ ws) b first second =
+    let parts = and_parts (is_word w) (are_words ws) first in both _ _ parts.0 (printed_both ws b parts.1 second)
 
 one : (w : List ℕ) → is_word w ≡ true → are_words (w ∷ []) ≡ true
 one w is = both _ _ is refl
@@ -148,9 +163,12 @@ two v w first second = both _ _ first (one w second)
 three : (u v w : List ℕ) → is_word u ≡ true → is_word v ≡ true → is_word w ≡ true → are_words (u ∷ v ∷ w ∷ []) ≡ true
 three u v w first second third = both _ _ first (two v w second third)
 
-optional_printed : (label : List ℕ) (k : Kind) (n : ℕ) → is_word label ≡ true → n < 2 ^ 32 → are_words (optional_words label k n) ≡ true
+optional_printed : (label : List ℕ) (k : Kind) (n : ℕ) → is_word label ≡ true → n < 2 ^ 32
+    → are_words (optional_words label k n) ≡ true
 unfolding optional_words
-optional_printed label k n is fits = elim (n == 0) as (λ (b : Bool). are_words (cond b [] (label ∷ value_word k n ∷ [])) ≡ true) [ true ↦ refl | false ↦ two label (value_word k n) is (value_printed k n fits) ]
+optional_printed label k n is fits =
+    elim (n == 0) as (λ (b : Bool). are_words (cond b [] (label ∷ value_word k n ∷ [])) ≡ true)
+    [ true ↦ refl | false ↦ two label (value_word k n) is (value_printed k n fits) ]
 
 flag_printed : (label : List ℕ) (b : Bool) → is_word label ≡ true → are_words (flag_words label b) ≡ true
 unfolding flag_words
@@ -164,10 +182,12 @@ local_printed d n fits fits_name = elim (d == 0 && n == 0) as (λ (b : Bool). ar
   | false ↦ three (codes "local") (value_word Disposition d) (value_word Hexadecimal n) refl (value_printed kind.Disposition d fits) (value_printed kind.Hexadecimal n fits_name)
 ]
 
-optional_bytes_printed : (label bytes : List ℕ) → is_word label ≡ true → AreBytes bytes → are_words (optional_bytes label bytes) ≡ true
+optional_bytes_printed : (label bytes : List ℕ) → is_word label ≡ true → AreBytes bytes
+    → are_words (optional_bytes label bytes) ≡ true
 unfolding optional_bytes
 optional_bytes_printed label [] is fits = refl
-optional_bytes_printed label (b ∷ bytes) is fits = two label (bytes_word (b ∷ bytes)) is (bytes_printed (b ∷ bytes) fits)
+optional_bytes_printed label (b ∷ bytes) is fits =
+    two label (bytes_word (b ∷ bytes)) is (bytes_printed (b ∷ bytes) fits)
 
 -- rows of words, one after another
 record AreWords (ws : List (List ℕ)) : Type 0 where
@@ -180,8 +200,13 @@ header_printed : (h : Header) → FitsHeader h → are_words (header_words h) �
 unfolding header_words
 header_printed h fits =
     let rights : AreWords (value_word Disposition (h.bits % 0x100) ∷ value_word Hexadecimal h.remote ∷ []) =
-    record { is = two (value_word Disposition (h.bits % 0x100)) (value_word Hexadecimal h.remote) (value_printed kind.Disposition (h.bits % 0x100) (omega arith)) (value_printed kind.Hexadecimal h.remote fits.remote) } in
-    let local : AreWords (local_words (h.bits / 0x100 % 0x100) h.local) = record { is = local_printed (h.bits / 0x100 % 0x100) h.local (omega arith) fits.local } in
+    record {
+      is = two (value_word Disposition (h.bits % 0x100)) (value_word Hexadecimal h.remote)
+          (value_printed kind.Disposition (h.bits % 0x100) (omega arith))
+          (value_printed kind.Hexadecimal h.remote fits.remote);
+    } in
+    let local : AreWords (local_words (h.bits / 0x100 % 0x100) h.local) =
+    record { is = local_printed (h.bits / 0x100 % 0x100) h.local (omega arith) fits.local } in
     let id : AreWords (codes "id" ∷ value_word Decimal h.id ∷ []) = record { is = two (codes "id") (value_word Decimal h.id) refl (value_printed kind.Decimal h.id fits.id) } in
     let complex : AreWords (flag_words (codes "complex") (nat_le 0x8000_0000 h.bits)) = record { is = flag_printed (codes "complex") (nat_le 0x8000_0000 h.bits) refl } in
     let further : AreWords (optional_words (codes "bits") Hexadecimal (h.bits / 0x1_0000 % 0x8000)) = record { is = optional_printed (codes "bits") kind.Hexadecimal (h.bits / 0x1_0000 % 0x8000) refl (omega arith) } in
@@ -200,8 +225,10 @@ within_printed (suc m) body fits =
     item_cases (λ (front : Option (List (List ℕ) × List ℕ)). are_words (words_after_item m body front) ≡ true) body fits
     (λ (w : ℕ × List ℕ × List ℕ) (parts : WordsFront body w).
     both _ _ refl (both _ _ (value_printed kind.Element w.0 (omega (arith, parts.small)))
-    (printed_both (map (value_word (element_kind w.0)) (numbers_in w.1)) (body_within m w.2) (numbers_printed (element_kind w.0) (numbers_in w.1) parts.fit) (within_printed m w.2 parts.behind))))
-    (λ (b : List ℕ × List ℕ) (parts : BytesFront body b). both _ _ refl (both _ _ refl (both _ _ (bytes_printed b.0 parts.bytes) (within_printed m b.1 parts.behind))))
+    (printed_both (map (value_word (element_kind w.0)) (numbers_in w.1)) (body_within m w.2)
+    (numbers_printed (element_kind w.0) (numbers_in w.1) parts.fit) (within_printed m w.2 parts.behind))))
+    (λ (b : List ℕ × List ℕ) (parts : BytesFront body b). both _ _ refl
+    (both _ _ refl (both _ _ (bytes_printed b.0 parts.bytes) (within_printed m b.1 parts.behind))))
     (optional_bytes_printed (codes "data") body refl fits)
 
 body_printed : (body : List ℕ) → AreBytes body → are_words (body_words body) ≡ true
@@ -212,7 +239,8 @@ pub message_printed : (m : List ℕ) → AreBytes m → are_words (message_words
 unfolding message_words
 message_printed m fits = elim (nat_lt (length m) 24) as (λ (b : Bool). are_words (cond b (codes "bytes" ∷ bytes_word m ∷ []) (header_words (header_of m) ++ body_words (drop 24 m))) ≡ true) [
   | true ↦ two (codes "bytes") (bytes_word m) refl (bytes_printed m fits)
-  | false ↦ printed_both (header_words (header_of m)) (body_words (drop 24 m)) (header_printed (header_of m) (fits_header m fits)) (body_printed (drop 24 m) (bytes_after 24 m fits))
+  | false ↦ printed_both (header_words (header_of m)) (body_words (drop 24 m))
+      (header_printed (header_of m) (fits_header m fits)) (body_printed (drop 24 m) (bytes_after 24 m fits))
 ]
 
 -- the words of a call
@@ -226,7 +254,8 @@ hex n fits = value_printed kind.Hexadecimal n fits
 count : (n : ℕ) → n < 2 ^ 32 → is_word (value_word Decimal n) ≡ true
 count n fits = value_printed kind.Decimal n fits
 
-receive_printed : (limit name : ℕ) (large waited : Bool) → limit < 2 ^ 32 → name < 2 ^ 32 → are_words (argument_words (call.Receive limit large name waited)) ≡ true
+receive_printed : (limit name : ℕ) (large waited : Bool) → limit < 2 ^ 32 → name < 2 ^ 32
+    → are_words (argument_words (call.Receive limit large name waited)) ≡ true
 receive_printed limit name large waited fits fits_name =
     printed_both ((value_word Hexadecimal name ∷ codes "limit" ∷ value_word Decimal limit ∷ []) ++ flag_words (codes "large") large) (flag_words (codes "waited") waited)
     (printed_both (value_word Hexadecimal name ∷ codes "limit" ∷ value_word Decimal limit ∷ []) (flag_words (codes "large") large)
@@ -246,7 +275,8 @@ arguments_printed (call.Allocate a) f = (number Right a f).is
 arguments_printed (call.Destroy a) f = (number Hexadecimal a f).is
 arguments_printed (call.Deallocate a) f = (number Hexadecimal a f).is
 arguments_printed (call.GetRefs a b) f = (join (number Hexadecimal a f.0) (number Right b f.1)).is
-arguments_printed (call.ModRefs a b c) f = (join (number Hexadecimal a f.0) (join (number Right b f.1) (number Signed c f.2))).is
+arguments_printed (call.ModRefs a b c) f =
+    (join (number Hexadecimal a f.0) (join (number Right b f.1) (number Signed c f.2))).is
 arguments_printed (call.SetQlimit a b) f = (join (number Hexadecimal a f.0) (number Decimal b f.1)).is
 arguments_printed (call.SetMscount a b) f = (join (number Hexadecimal a f.0) (number Decimal b f.1)).is
 arguments_printed (call.SetSeqno a b) f = (join (number Hexadecimal a f.0) (number Decimal b f.1)).is
@@ -254,8 +284,11 @@ arguments_printed (call.GetReceiveStatus a) f = (number Hexadecimal a f).is
 arguments_printed (call.GetSetStatus a) f = (number Hexadecimal a f).is
 arguments_printed (call.MoveMember a b) f = (join (number Hexadecimal a f.0) (number Hexadecimal b f.1)).is
 arguments_printed (call.RequestNotification a b c d e) f =
-    (join (number Hexadecimal a f.0) (join (number Notification b f.1) (join (number Decimal c f.2) (join (number Hexadecimal d f.3) (number Disposition e f.4))))).is
-arguments_printed (call.InsertRight a b c) f = (join (number Hexadecimal a f.0) (join (number Hexadecimal b f.1) (number Disposition c f.2))).is
+    (join (number Hexadecimal a f.0)
+    (join (number Notification b f.1)
+    (join (number Decimal c f.2) (join (number Hexadecimal d f.3) (number Disposition e f.4))))).is
+arguments_printed (call.InsertRight a b c) f =
+    (join (number Hexadecimal a f.0) (join (number Hexadecimal b f.1) (number Disposition c f.2))).is
 arguments_printed (call.ExtractRight a b) f = (join (number Hexadecimal a f.0) (number Disposition b f.1)).is
 arguments_printed (call.Send m) f = message_printed m f
 arguments_printed (call.Receive limit large name waited) f = receive_printed limit name large waited f.0 f.1
@@ -280,7 +313,8 @@ unfolding yes_or_no
 answer_printed true = refl
 answer_printed false = refl
 
-labelled : (label word : List ℕ) (ws : List (List ℕ)) → is_word label ≡ true → is_word word ≡ true → are_words ws ≡ true → are_words (label ∷ word ∷ ws) ≡ true
+labelled : (label word : List ℕ) (ws : List (List ℕ)) → is_word label ≡ true → is_word word ≡ true → are_words ws ≡ true
+    → are_words (label ∷ word ∷ ws) ≡ true
 labelled label word ws first second rest = both _ _ first (both _ _ second rest)
 
 pair : (label : List ℕ) (k : Kind) (n : ℕ) → is_word label ≡ true → n < 2 ^ 32 → AreWords (label ∷ value_word k n ∷ [])
@@ -307,12 +341,17 @@ names_printed : (names : List NamedType) → All FitsNamed names → are_words (
 unfolding names_words
 names_printed [] fits = refl
 names_printed (n ∷ names) fits =
-    let here = All-head FitsNamed n names fits in labelled (value_word Hexadecimal n.name) (value_word Hexadecimal n.bits) (names_words names) (hex n.name here.0) (hex n.bits here.1) (names_printed names (All-tail FitsNamed n names fits))
+    let here =
+    All-head FitsNamed n names fits in
+    labelled (value_word Hexadecimal n.name) (value_word Hexadecimal n.bits) (names_words names)
+    (hex n.name here.0) (hex n.bits here.1) (names_printed names (All-tail FitsNamed n names fits))
 
 members_printed : (members : List ℕ) → All FitsName members → are_words (members_words members) ≡ true
 unfolding members_words
 members_printed [] fits = refl
-members_printed (n ∷ members) fits = both (is_word (value_word Hexadecimal n)) (are_words (members_words members)) (hex n (All-head FitsName n members fits)) (members_printed members (All-tail FitsName n members fits))
+members_printed (n ∷ members) fits =
+    both (is_word (value_word Hexadecimal n)) (are_words (members_words members))
+    (hex n (All-head FitsName n members fits)) (members_printed members (All-tail FitsName n members fits))
 
 outcome_printed : (c : KernReturn) (silent : Bool) → are_words (outcome_words c silent) ≡ true
 unfolding outcome_words
@@ -325,10 +364,12 @@ unfolding received_words
 received_printed [] fits = refl
 received_printed (b ∷ message) fits = both _ _ refl (message_printed (b ∷ message) fits)
 
-message_reply_printed : (c : KernReturn) (size member : ℕ) (message : List ℕ) → size < 2 ^ 32 → member < 2 ^ 32 → AreBytes message → are_words (message_reply_words c size member message) ≡ true
+message_reply_printed : (c : KernReturn) (size member : ℕ) (message : List ℕ) → size < 2 ^ 32 → member < 2 ^ 32
+    → AreBytes message → are_words (message_reply_words c size member message) ≡ true
 unfolding message_reply_words
 message_reply_printed c size member message fits fits_member bytes =
-    let outcome : AreWords (outcome_words c (size == 0 && member == 0 && length message == 0)) = record { is = outcome_printed c (size == 0 && member == 0 && length message == 0) } in
+    let outcome : AreWords (outcome_words c (size == 0 && member == 0 && length message == 0)) =
+    record { is = outcome_printed c (size == 0 && member == 0 && length message == 0) } in
     let sizes : AreWords (optional_words (codes "size") Decimal size) = record { is = optional_printed (codes "size") kind.Decimal size refl fits } in
     let members : AreWords (optional_words (codes "member") Hexadecimal member) = record { is = optional_printed (codes "member") kind.Hexadecimal member refl fits_member } in
     let received : AreWords (received_words message) = record { is = received_printed message bytes } in
@@ -348,8 +389,10 @@ reply_printed (reply.Type bits) f = (join equals (number Hexadecimal bits f)).is
 reply_printed (reply.Allocate name) f = (join equals (number Hexadecimal name f)).is
 reply_printed (reply.References n) f = (join equals (number Decimal n f)).is
 reply_printed (reply.ReceiveStatus s) f = (join equals (rows (status_words s) (status_printed s f))).is
-reply_printed (reply.SetStatus members) f = (join equals (rows (members_words members) (members_printed members f.1))).is
+reply_printed (reply.SetStatus members) f =
+    (join equals (rows (members_words members) (members_printed members f.1))).is
 reply_printed (reply.PreviousTarget name) f = (join equals (number Hexadecimal name f)).is
-reply_printed (reply.Extracted name k) f = (join equals (join (number Hexadecimal name f) (rows (kind_word k ∷ []) (one (kind_word k) (kind_printed k))))).is
+reply_printed (reply.Extracted name k) f =
+    (join equals (join (number Hexadecimal name f) (rows (kind_word k ∷ []) (one (kind_word k) (kind_printed k))))).is
 reply_printed (reply.Message c size member message) f = message_reply_printed c size member message f.0 f.1 f.2
 reply_printed (reply.SpaceCreated space name) f = (join equals (join (pair (codes "space") kind.Decimal space refl f.0) (pair (codes "name") kind.Hexadecimal name refl f.1))).is

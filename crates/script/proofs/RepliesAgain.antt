@@ -35,7 +35,8 @@ unfolding yes_or_no_at label_at yes_or_no
 yes_or_no_again true ws = refl
 yes_or_no_again false ws = refl
 
-answer_again : (label : List ℕ) (b : Bool) (ws : List (List ℕ)) → answer_at label (label ∷ yes_or_no b ∷ ws) ≡ Ok (b, ws)
+answer_again : (label : List ℕ) (b : Bool) (ws : List (List ℕ))
+    → answer_at label (label ∷ yes_or_no b ∷ ws) ≡ Ok (b, ws)
 unfolding answer_at
 answer_again label b ws = rw (label_again label (yes_or_no b ∷ ws)) (yes_or_no_again b ws)
 
@@ -49,7 +50,8 @@ abbrev FitsStatus : ReceiveStatus → Type 0
 FitsStatus s = FitsReply (reply.ReceiveStatus s)
 
 counts_again : (s : ReceiveStatus) (ws : List (List ℕ)) → FitsStatus s
-    → counts_at (count_words s ++ ws) ≡ Ok (record s { has_senders = false; has_port_destroyed_request = false; has_no_senders_request = false }, ws)
+    → counts_at (count_words s ++ ws)
+    ≡ Ok (record s { has_senders = false; has_port_destroyed_request = false; has_no_senders_request = false }, ws)
 unfolding counts_at count_words
 counts_again s ws (f0, f1, f2, f3, f4, f5) =
     rw (labelled_again (codes "set") Hexadecimal s.set _ tt f0)
@@ -76,18 +78,26 @@ unfolding names_at names_words
 names_again [] fits = refl
 names_again (n ∷ names) fits =
     let here = All-head FitsNamed n names fits in
-    rw (value_again Hexadecimal n.name (value_word Hexadecimal n.bits ∷ names_words names) tt here.0, value_again Hexadecimal n.bits (names_words names) tt here.1) (ap (in_front_of n) (names_again names (All-tail FitsNamed n names fits)))
+    rw (
+      value_again Hexadecimal n.name (value_word Hexadecimal n.bits ∷ names_words names) tt here.0,
+      value_again Hexadecimal n.bits (names_words names) tt here.1,
+    )
+    (ap (in_front_of n) (names_again names (All-tail FitsNamed n names fits)))
 
 members_again : (members : List ℕ) → All FitsName members → members_at (members_words members) ≡ Ok members
 unfolding members_at members_words
 members_again [] fits = refl
 members_again (n ∷ members) fits =
-    let here : n < 2 ^ 32 = All-head FitsName n members fits in rw (value_again Hexadecimal n (members_words members) tt here) (ap (in_front_of n) (members_again members (All-tail FitsName n members fits)))
+    let here : n < 2 ^ 32 =
+    All-head FitsName n members fits in
+    rw (value_again Hexadecimal n (members_words members) tt here)
+    (ap (in_front_of n) (members_again members (All-tail FitsName n members fits)))
 
 received_again : (message : List ℕ) → AreBytes message → received_at (received_words message) ≡ Ok (message, [])
 unfolding received_at received_words label_at
 received_again [] fits = refl
-received_again (b ∷ message) fits = rw (sym (append-nil (message_words (b ∷ message)))) (message_again (b ∷ message) [] fits no_label_end)
+received_again (b ∷ message) fits =
+    rw (sym (append-nil (message_words (b ∷ message)))) (message_again (b ∷ message) [] fits no_label_end)
 
 past_received : (label message : List ℕ) → bytes_eq (codes "message") label ≡ false → label_at label (received_words message) ≡ None
 unfolding received_words label_at
@@ -101,7 +111,8 @@ unfolding message_reply_at last
 message_parts c w0 w1 w2 size member message e1 e2 e3 = rw (e1, e2, e3) refl
 
 -- the results of mach_msg after its code
-results_again : (c : KernReturn) (size member : ℕ) (message : List ℕ) → size < 2 ^ 32 → member < 2 ^ 32 → AreBytes message
+results_again : (c : KernReturn) (size member : ℕ) (message : List ℕ) → size < 2 ^ 32 → member < 2 ^ 32
+    → AreBytes message
     → message_reply_at c (optional_words (codes "size") Decimal size ++ (optional_words (codes "member") Hexadecimal member ++ received_words message)) ≡ Ok (reply.Message c size member message)
 results_again c size member message fits fits_member bytes =
     let w2 : List (List ℕ) = received_words message in
@@ -132,10 +143,12 @@ silent_no_label size member [] is =
 silent_no_label size member (b ∷ message) is = absurd (grind (arith, nat_tests))
 
 -- what a mach_msg answered
-mach_msg_again : (c : KernReturn) (size member : ℕ) (message : List ℕ) → size < 2 ^ 32 → member < 2 ^ 32 → AreBytes message
+mach_msg_again : (c : KernReturn) (size member : ℕ) (message : List ℕ) → size < 2 ^ 32 → member < 2 ^ 32
+    → AreBytes message
     → reply_at 19 (message_reply_words c size member message) ≡ Ok (reply.Message c size member message)
 unfolding message_reply_words outcome_words reply_at results_at refusal_at
-mach_msg_again code.Success size member message fits fits_member bytes = elim (size == 0 && member == 0 && length message == 0)
+mach_msg_again code.Success size member message fits fits_member bytes =
+    elim (size == 0 && member == 0 && length message == 0)
     as (λ (b : Bool). (size == 0 && member == 0 && length message == 0) ≡ b
     → reply_at 19 (((cond b [] (codes "=" ∷ []) ++ optional_words (codes "size") Decimal size) ++ optional_words (codes "member") Hexadecimal member) ++ received_words message) ≡ Ok (reply.Message code.Success size member message)) [
       | true ↦ λ (is : _). silent size member message is
@@ -151,7 +164,8 @@ one_value : (k : Kind) (n : ℕ) → IsNumber k → n < 2 ^ 32 → last_value k 
 unfolding last_value last
 one_value k n number fits = rw (value_again k n [] number fits) refl
 
-extracted_again : (n : ℕ) (k : RightKind) → n < 2 ^ 32 → extracted_at (value_word Hexadecimal n ∷ kind_word k ∷ []) ≡ Ok (reply.Extracted n k)
+extracted_again : (n : ℕ) (k : RightKind) → n < 2 ^ 32
+    → extracted_at (value_word Hexadecimal n ∷ kind_word k ∷ []) ≡ Ok (reply.Extracted n k)
 unfolding extracted_at last
 extracted_again n k fits = rw (value_again Hexadecimal n (kind_word k ∷ []) tt fits) (rw (kind_again k []) refl)
 
@@ -167,17 +181,23 @@ last_status_again s fits = rw (status_again s fits) refl
 
 refused_again : (n : ℕ) (c : KernReturn) → (n ≡ 19 → ⊥) → reply_at n (codes "!" ∷ code_word c ∷ []) ≡ Ok (reply.Refused n c)
 unfolding reply_at refusal_at last
-refused_again n c other = let not_message : (n == 19) ≡ false = grind (arith, nat_tests) in rw (code_again c) (rw not_message refl)
+refused_again n c other =
+    let not_message : (n == 19) ≡ false = grind (arith, nat_tests) in rw (code_again c) (rw not_message refl)
 
 done_again : (n : ℕ) → IsTrue (not (has_results n || n == 19)) → reply_at n [] ≡ Ok (reply.Done n)
 unfolding reply_at silence
-done_again n plain = elim (has_results n) as (λ (b : Bool). IsTrue (not (b || n == 19)) → cond {A = Reading Reply} b (stop Results []) (cond (n == 19) (Ok (reply.Message code.Success 0 0 [])) (Ok (reply.Done n))) ≡ Ok (reply.Done n)) [
-  | true ↦ λ (wrong : _). absurd (cc)
-  | false ↦ λ (known : _). elim (n == 19) as (λ (b : Bool). IsTrue (not b) → cond {A = Reading Reply} b (Ok (reply.Message code.Success 0 0 [])) (Ok (reply.Done n)) ≡ Ok (reply.Done n)) [
-    | true ↦ λ (wrong : _). absurd (cc)
-    | false ↦ λ (_ : _). refl
-  ] known
-] plain
+done_again n plain =
+    elim (has_results n) as (λ (b : Bool). IsTrue (not (b || n == 19))
+    → cond {A = Reading Reply} b (stop Results [])
+    (cond (n == 19) (Ok (reply.Message code.Success 0 0 [])) (Ok (reply.Done n))) ≡ Ok (reply.Done n)) [
+      | true ↦ λ (wrong : _). absurd (cc)
+      | false ↦ λ (known : _). elim (n == 19)
+          as (λ (b : Bool). IsTrue (not b)
+          → cond {A = Reading Reply} b (Ok (reply.Message code.Success 0 0 [])) (Ok (reply.Done n)) ≡ Ok (reply.Done n)) [
+            | true ↦ λ (wrong : _). absurd (cc)
+            | false ↦ λ (_ : _). refl
+          ] known
+    ] plain
 
 -- the words of a reply are read as the reply
 pub reply_again : (r : Reply) → FitsReply r → IsOwn r → reply_at (number_of_reply r) (reply_words r) ≡ Ok r

@@ -26,7 +26,8 @@ digits_no_letter [] are = refl
 digits_no_letter (c ∷ cs) are = let bound = digit_from_value c are.0 in grind (arith, nat_tests)
 
 decimal_no_letter : (n : ℕ) → n < 2 ^ 32 → begins_with_letter (decimal n) ≡ false
-decimal_no_letter n fits = digits_no_letter (decimal n) (digits_is_IsNumeral 10 false (omega arith) (omega arith) n (decimal_fits n fits)).0.1
+decimal_no_letter n fits =
+    digits_no_letter (decimal n) (digits_is_IsNumeral 10 false (omega arith) (omega arith) n (decimal_fits n fits)).0.1
 
 signed_no_letter : (n : ℕ) → n < 2 ^ 32 → begins_with_letter (signed n) ≡ false
 signed_no_letter n fits = elim (nat_lt n (2 ^ 31)) as (λ (b : Bool). begins_with_letter (cond b (decimal n) (codes "-" ++ decimal (2 ^ 32 - n))) ≡ false) [
@@ -35,15 +36,18 @@ signed_no_letter n fits = elim (nat_lt n (2 ^ 31)) as (λ (b : Bool). begins_wit
 ]
 
 -- a number in a word that doesn't begin with a letter
-printed : (k : Kind) (n : ℕ) (word : List ℕ) → begins_with_letter word ≡ false → number_of_word word ≡ Some n → read_word k word ≡ Some n
+printed : (k : Kind) (n : ℕ) (word : List ℕ) → begins_with_letter word ≡ false → number_of_word word ≡ Some n
+    → read_word k word ≡ Some n
 unfolding read_word
-printed k n word plain again = ap (λ (b : Bool). cond b (find (is_name k word) all_named) (number_of_word word)) plain ∙ again
+printed k n word plain again =
+    ap (λ (b : Bool). cond b (find (is_name k word) all_named) (number_of_word word)) plain ∙ again
 
 pub in_decimal : (k : Kind) (n : ℕ) → n < 2 ^ 32 → read_word k (decimal n) ≡ Some n
 in_decimal k n fits = printed k n (decimal n) (decimal_no_letter n fits) (decimal_again n fits)
 
 -- a number that is a named one, or isn't
-split : (P : ℕ → Option (List ℕ) → Type 0) (m n : ℕ) (word : List ℕ) (rest : Option (List ℕ)) → P m (Some word) → P n rest → P n (cond (n == m) (Some word) rest)
+split : (P : ℕ → Option (List ℕ) → Type 0) (m n : ℕ) (word : List ℕ) (rest : Option (List ℕ)) → P m (Some word)
+    → P n rest → P n (cond (n == m) (Some word) rest)
 split P m n word rest here there = elim (n == m) as (λ (b : Bool). (n == m) ≡ b → P n (cond b (Some word) rest)) [
   | true ↦ λ (is : _). subst (λ (k : ℕ). P k (Some word)) (sym (eqb-true n m is)) here
   | false ↦ λ (_ : _). there
@@ -62,19 +66,28 @@ right_again n fits =
 disposition_again : (n : ℕ) → n < 2 ^ 32 → Again kind.Disposition n (name_of kind.Disposition n)
 unfolding read_word
 disposition_again n fits =
-    split (Again kind.Disposition) 16 n _ _ refl (split (Again kind.Disposition) 17 n _ _ refl (split (Again kind.Disposition) 18 n _ _ refl
-    (split (Again kind.Disposition) 19 n _ _ refl (split (Again kind.Disposition) 20 n _ _ refl (split (Again kind.Disposition) 21 n _ None refl (in_decimal kind.Disposition n fits))))))
+    split (Again kind.Disposition) 16 n _ _ refl
+    (split (Again kind.Disposition) 17 n _ _ refl (split (Again kind.Disposition) 18 n _ _ refl
+    (split (Again kind.Disposition) 19 n _ _ refl
+    (split (Again kind.Disposition) 20 n _ _ refl
+    (split (Again kind.Disposition) 21 n _ None refl (in_decimal kind.Disposition n fits))))))
 
 notification_again : (n : ℕ) → n < 2 ^ 32 → Again kind.Notification n (name_of kind.Notification n)
 unfolding read_word
 notification_again n fits =
-    split (Again kind.Notification) 69 n _ _ refl (split (Again kind.Notification) 70 n _ _ refl (split (Again kind.Notification) 72 n _ None refl (in_decimal kind.Notification n fits)))
+    split (Again kind.Notification) 69 n _ _ refl
+    (split (Again kind.Notification) 70 n _ _ refl
+    (split (Again kind.Notification) 72 n _ None refl (in_decimal kind.Notification n fits)))
 
 element_again : (n : ℕ) → n < 2 ^ 32 → Again kind.Element n (name_of kind.Element n)
 unfolding read_word
 element_again n fits =
-    split (Again kind.Element) 2 n _ _ refl (split (Again kind.Element) 16 n _ _ refl (split (Again kind.Element) 17 n _ _ refl
-    (split (Again kind.Element) 18 n _ _ refl (split (Again kind.Element) 19 n _ _ refl (split (Again kind.Element) 20 n _ _ refl (split (Again kind.Element) 21 n _ None refl (in_decimal kind.Element n fits)))))))
+    split (Again kind.Element) 2 n _ _ refl
+    (split (Again kind.Element) 16 n _ _ refl (split (Again kind.Element) 17 n _ _ refl
+    (split (Again kind.Element) 18 n _ _ refl
+    (split (Again kind.Element) 19 n _ _ refl
+    (split (Again kind.Element) 20 n _ _ refl
+    (split (Again kind.Element) 21 n _ None refl (in_decimal kind.Element n fits)))))))
 
 -- every number is read from its word
 pub word_again : (k : Kind) (n : ℕ) → n < 2 ^ 32 → read_word k (value_word k n) ≡ Some n
@@ -101,4 +114,5 @@ unfolding bytes_word
 bytes_again [] fits = refl
 bytes_again (b ∷ bytes) fits =
     let is = decode_of-encode_lower (b ∷ bytes) fits in
-    ap (λ (t : Bool). cond t (Some []) (result_ok (decode_of (encode_lower (b ∷ bytes))))) (not_none (encode_lower (b ∷ bytes)) (b ∷ bytes) is) ∙ ap result_ok is
+    ap (λ (t : Bool). cond t (Some []) (result_ok (decode_of (encode_lower (b ∷ bytes)))))
+    (not_none (encode_lower (b ∷ bytes)) (b ∷ bytes) is) ∙ ap result_ok is

@@ -83,8 +83,10 @@ argument_words (call.ModRefs name right delta) = name_word name ∷ right_word r
 argument_words (call.GetReceiveStatus name) = name_word name ∷ []
 argument_words (call.GetSetStatus name) = name_word name ∷ []
 argument_words (call.RequestNotification name variant sync notify disposition) =
-    name_word name ∷ value_word Notification variant ∷ count_word sync ∷ name_word notify ∷ disposition_word disposition ∷ []
-argument_words (call.InsertRight name right_name disposition) = name_word name ∷ name_word right_name ∷ disposition_word disposition ∷ []
+    name_word name ∷ value_word Notification variant ∷ count_word sync ∷ name_word notify ∷ disposition_word disposition
+    ∷ []
+argument_words (call.InsertRight name right_name disposition) =
+    name_word name ∷ name_word right_name ∷ disposition_word disposition ∷ []
 argument_words (call.Send message) = message_words message
 argument_words (call.Receive limit large name waited) = receive_words limit large name waited
 argument_words call.SpaceDestroy = []
@@ -123,4 +125,6 @@ after_at v words = plain_at v words
 -- the call at the front
 unfoldable pub call_at : List (List ℕ) → Reading (Call × List (List ℕ))
 call_at [] = stop expected.CallName []
-call_at (word ∷ words) = wanted expected.CallName (word ∷ words) (find (λ v. bytes_eq (verb_word v) word) all_verbs) >>= λ v. after_at v words
+call_at (word ∷ words) =
+    wanted expected.CallName (word ∷ words)
+    (find (λ v. bytes_eq (verb_word v) word) all_verbs) >>= λ v. after_at v words

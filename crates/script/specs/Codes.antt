@@ -40,7 +40,10 @@ abbrev pub all_codes : List KernReturn
 all_codes =
     code.Success ∷ code.NoSpace ∷ code.InvalidArgument ∷ code.Failure ∷ code.ResourceShortage ∷ code.NotInSet
     ∷ code.NameExists ∷ code.InvalidName ∷ code.InvalidTask ∷ code.InvalidRight ∷ code.InvalidValue ∷ code.UrefsOverflow
-    ∷ code.InvalidCapability ∷ code.RightExists ∷ code.SendInvalidDest ∷ code.SendTimedOut ∷ code.SendMsgTooSmall ∷ code.SendInvalidReply
-    ∷ code.SendInvalidRight ∷ code.SendInvalidMemory ∷ code.SendNoBuffer ∷ code.SendInvalidType ∷ code.SendInvalidHeader ∷ code.RcvInvalidName
-    ∷ code.RcvTimedOut ∷ code.RcvTooLarge ∷ code.RcvPortChanged ∷ code.RcvPortDied ∷ code.RcvInSet ∷ code.RcvHeaderErrorKernel
+    ∷ code.InvalidCapability ∷ code.RightExists ∷ code.SendInvalidDest ∷ code.SendTimedOut ∷ code.SendMsgTooSmall ∷
+    code.SendInvalidReply
+    ∷ code.SendInvalidRight ∷ code.SendInvalidMemory ∷ code.SendNoBuffer ∷ code.SendInvalidType ∷ code.SendInvalidHeader
+    ∷ code.RcvInvalidName
+    ∷ code.RcvTimedOut ∷ code.RcvTooLarge ∷ code.RcvPortChanged ∷ code.RcvPortDied ∷ code.RcvInSet ∷
+    code.RcvHeaderErrorKernel
     ∷ code.RcvHeaderErrorSpace ∷ []

@@ -14,14 +14,22 @@ use Rattle.script.specs.Spaced.{spaced}
 
 -- Two kinds of items have a form, both short and inline: items of words of four bytes each, by their type,
 abbrev pub words_item : ℕ → List ℕ → Item
-words_item type_name numbers = record { type_name = type_name; bits = 32; number = length numbers; is_long = false; content = flat_map word numbers }
+words_item type_name numbers =
+    record {
+      type_name = type_name;
+      bits = 32;
+      number = length numbers;
+      is_long = false;
+      content = flat_map word numbers;
+    }
 
 -- and items of bytes, followed by zeros up to a multiple of four.
 abbrev pub zeros : ℕ → List ℕ
 zeros n = if n % 4 == 0 then [] else if n % 4 == 1 then 0 ∷ 0 ∷ 0 ∷ [] else if n % 4 == 2 then 0 ∷ 0 ∷ [] else 0 ∷ []
 
 abbrev pub bytes_item : List ℕ → Item
-bytes_item bytes = record { type_name = 9; bits = 8; number = length bytes; is_long = false; content = bytes ++ zeros (length bytes) }
+bytes_item bytes =
+    record { type_name = 9; bits = 8; number = length bytes; is_long = false; content = bytes ++ zeros (length bytes) }
 
 -- their words: ports by their names
 abbrev pub element_kind : ℕ → Kind
@@ -60,14 +68,17 @@ numbers_in bytes = []
 -- an item of words: its type, their bytes, and the bytes after it
 unfoldable pub words_front : List ℕ → Option (ℕ × List ℕ × List ℕ)
 words_front body = word_front body >>? λ w.
-    if w.0 == descriptor (w.0 % 0x100) 32 (number_told w.0) then (split_front (4 * number_told w.0) w.1 >>? λ c. Some (w.0 % 0x100, c.0, c.1))
+    if w.0 == descriptor (w.0 % 0x100) 32 (number_told w.0)
+    then (split_front (4 * number_told w.0) w.1 >>? λ c. Some (w.0 % 0x100, c.0, c.1))
     else None
 
 -- an item of bytes: its bytes, and the bytes after it
 unfoldable pub bytes_front : List ℕ → Option (List ℕ × List ℕ)
 bytes_front body = word_front body >>? λ w.
     if w.0 == descriptor 9 8 (number_told w.0) then (
-    split_front (number_told w.0) w.1 >>? λ b. split_front (length (zeros (number_told w.0))) b.1 >>? λ z. if bytes_eq z.0 (zeros (number_told w.0)) then Some (b.0, z.1) else None
+    split_front (number_told w.0) w.1 >>? λ b. split_front
+    (length (zeros (number_told w.0))) b.1 >>? λ z. if bytes_eq z.0 (zeros (number_told w.0)) then Some (b.0, z.1)
+    else None
     ) else None
 
 -- the words of the item at the front, if it has a form, and the bytes after it
@@ -89,15 +100,20 @@ body_words body = body_within (length body) body
 -- Reading: the numbers at the front, up to a word that is none
 unfoldable pub numbers_at : List (List ℕ) → List ℕ × List (List ℕ)
 numbers_at [] = ([], [])
-numbers_at (word ∷ words) = elim (read_word Hexadecimal word) [ None ↦ ([], word ∷ words) | Some n ↦ (n ∷ (numbers_at words).0, (numbers_at words).1) ]
+numbers_at (word ∷ words) =
+    elim (read_word Hexadecimal word)
+    [ None ↦ ([], word ∷ words) | Some n ↦ (n ∷ (numbers_at words).0, (numbers_at words).1) ]
 
 -- an item by its type and its words
 unfoldable pub words_item_at : List (List ℕ) → Reading (List ℕ × List (List ℕ))
 words_item_at words = bounded_at expected.Item Element 0x100 words >>= λ t.
-    if nat_lt (length (numbers_at t.1).0) 0x1000 then Ok (item_encoding (words_item t.0 (numbers_at t.1).0), (numbers_at t.1).1) else stop expected.Item words
+    if nat_lt (length (numbers_at t.1).0) 0x1000
+    then Ok (item_encoding (words_item t.0 (numbers_at t.1).0), (numbers_at t.1).1) else stop expected.Item words
 
 unfoldable pub bytes_item_at : List (List ℕ) → Reading (List ℕ × List (List ℕ))
-bytes_item_at words = bytes_at words >>= λ b. if nat_lt (length b.0) 0x1000 then Ok (item_encoding (bytes_item b.0), b.1) else stop expected.Item words
+bytes_item_at words =
+    bytes_at words >>= λ b. if nat_lt (length b.0) 0x1000 then Ok (item_encoding (bytes_item b.0), b.1)
+    else stop expected.Item words
 
 unfoldable pub item_at : List (List ℕ) → Reading (List ℕ × List (List ℕ))
 item_at words = elim (label_at (codes "bytes") words) [ None ↦ words_item_at words | Some rest ↦ bytes_item_at rest ]

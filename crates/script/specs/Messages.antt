@@ -37,11 +37,13 @@ header_of message = record {
 
 -- a message made of them and a body
 unfoldable pub header_encoding : Header → List ℕ → List ℕ
-header_encoding h body = word h.bits ++ word h.size ++ word h.remote ++ word h.local ++ word h.seqno ++ word h.id ++ body
+header_encoding h body =
+    word h.bits ++ word h.size ++ word h.remote ++ word h.local ++ word h.seqno ++ word h.id ++ body
 
 unfoldable pub header_words : Header → List (List ℕ)
 header_words h =
-    (value_word Disposition (h.bits % 0x100) ∷ value_word Hexadecimal h.remote ∷ []) ++ local_words (h.bits / 0x100 % 0x100) h.local
+    (value_word Disposition (h.bits % 0x100) ∷ value_word Hexadecimal h.remote ∷ [])
+    ++ local_words (h.bits / 0x100 % 0x100) h.local
     ++ (codes "id" ∷ value_word Decimal h.id ∷ []) ++ flag_words (codes "complex") (nat_le 0x8000_0000 h.bits)
     ++ optional_words (codes "bits") Hexadecimal (h.bits / 0x1_0000 % 0x8000) ++ optional_words (codes "size") Decimal h.size
     ++ optional_words (codes "seqno") Decimal h.seqno
@@ -59,7 +61,8 @@ further_at words = elim (label_at (codes "bits") words) [ None ↦ Ok (0, words)
 unfoldable pub local_at : List (List ℕ) → Reading (ℕ × ℕ × List (List ℕ))
 local_at words = elim (label_at (codes "local") words) [
   | None ↦ Ok (0, 0, words)
-  | Some rest ↦ bounded_at expected.Number Disposition 0x100 rest >>= λ d. value_at Hexadecimal d.1 >>= λ n. Ok (d.0, n.0, n.1)
+  | Some rest ↦ bounded_at expected.Number Disposition 0x100 rest >>= λ d. value_at Hexadecimal d.1 >>= λ n. Ok
+      (d.0, n.0, n.1)
 ]
 
 unfoldable pub rights_at : List (List ℕ) → Reading (Rights × List (List ℕ))
@@ -70,7 +73,9 @@ rights_at words = do
   Ok (record { remote_disposition = d.0; remote = remote.0; local_disposition = local.0; local = local.1 }, local.2)
 
 abbrev pub bits_of : Rights → ℕ → Bool → ℕ
-bits_of rights further complex = rights.remote_disposition + rights.local_disposition * 0x100 + further * 0x1_0000 + (if complex then 0x8000_0000 else 0)
+bits_of rights further complex =
+    rights.remote_disposition + rights.local_disposition * 0x100 + further * 0x1_0000 +
+    (if complex then 0x8000_0000 else 0)
 
 unfoldable pub header_at : List (List ℕ) → Reading (Header × List (List ℕ))
 header_at words = do

@@ -15,7 +15,9 @@ signed n = if nat_lt n (2 ^ 31) then decimal n else codes "-" ++ decimal (2 ^ 32
 
 -- a number with one digit more, below 2 ^ 32
 abbrev pub with_digit : ℕ → ℕ → ℕ → Option ℕ
-with_digit radix n c = if nat_lt (digit_value c) radix && nat_lt (n * radix + digit_value c) (2 ^ 32) then Some (n * radix + digit_value c) else None
+with_digit radix n c =
+    if nat_lt (digit_value c) radix && nat_lt (n * radix + digit_value c) (2 ^ 32) then Some (n * radix + digit_value c)
+    else None
 
 abbrev pub number_after : (ℕ → Option ℕ) → Option ℕ → Option ℕ
 number_after f None = None

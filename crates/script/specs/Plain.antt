@@ -32,7 +32,8 @@ kinds_of verb.SetSeqno = three_kinds Hexadecimal Decimal Absent
 kinds_of verb.GetReceiveStatus = three_kinds Hexadecimal Absent Absent
 kinds_of verb.GetSetStatus = three_kinds Hexadecimal Absent Absent
 kinds_of verb.MoveMember = three_kinds Hexadecimal Hexadecimal Absent
-kinds_of verb.RequestNotification = record { first = Hexadecimal; second = Notification; third = Decimal; fourth = Hexadecimal; fifth = Disposition }
+kinds_of verb.RequestNotification =
+    record { first = Hexadecimal; second = Notification; third = Decimal; fourth = Hexadecimal; fifth = Disposition }
 kinds_of verb.InsertRight = three_kinds Hexadecimal Hexadecimal Disposition
 kinds_of verb.ExtractRight = three_kinds Hexadecimal Disposition Absent
 kinds_of verb.Send = three_kinds Absent Absent Absent
@@ -73,7 +74,12 @@ long_call v a = None
 
 -- the call of a verb with its arguments, for each verb except those of mach_msg
 abbrev pub plain_call : Verb → Arguments → Option Call
-plain_call v a = elim (short_call v a.first) [ Some made ↦ Some made | None ↦ elim (pair_call v a.first a.second) [ Some made ↦ Some made | None ↦ long_call v a ] ]
+plain_call v a =
+    elim (short_call v a.first) [
+      | Some made ↦ Some made
+      | None ↦
+          elim (pair_call v a.first a.second) [ Some made ↦ Some made | None ↦ long_call v a ]
+    ]
 
 -- the arguments at the front of words
 unfoldable pub arguments_at : Kinds → List (List ℕ) → Reading (Arguments × List (List ℕ))

@@ -128,7 +128,14 @@ status_at words = do
   senders ← answer_at (codes "senders") counts.1
   port_destroyed ← answer_at (codes "port_destroyed") senders.1
   no_senders ← answer_at (codes "no_senders") port_destroyed.1
-  Ok (record counts.0 { has_senders = senders.0; has_port_destroyed_request = port_destroyed.0; has_no_senders_request = no_senders.0 }, no_senders.1)
+  Ok (
+    record counts.0 {
+      has_senders = senders.0;
+      has_port_destroyed_request = port_destroyed.0;
+      has_no_senders_request = no_senders.0;
+    },
+    no_senders.1,
+  )
 
 abbrev pub in_front_of : {X : Type 0} → X → Reading (List X) → Reading (List X)
 in_front_of x read = read >>= λ xs. Ok (x ∷ xs)
@@ -136,7 +143,9 @@ in_front_of x read = read >>= λ xs. Ok (x ∷ xs)
 -- a name and its type, if a word is left
 unfoldable pub named_at : List (List ℕ) → Reading (Option (NamedType × List (List ℕ)))
 named_at [] = Ok None
-named_at (word ∷ words) = value_at Hexadecimal (word ∷ words) >>= λ n. value_at Hexadecimal n.1 >>= λ b. Ok (Some (record { name = n.0; bits = b.0 }, b.1))
+named_at (word ∷ words) =
+    value_at Hexadecimal (word ∷ words) >>= λ n. value_at Hexadecimal n.1 >>= λ b. Ok
+    (Some (record { name = n.0; bits = b.0 }, b.1))
 
 unfoldable pub member_at : List (List ℕ) → Reading (Option (ℕ × List (List ℕ)))
 member_at [] = Ok None
@@ -146,7 +155,9 @@ member_at (word ∷ words) = value_at Hexadecimal (word ∷ words) >>= λ n. Ok 
 unfoldable pub names_at : List (List ℕ) → Reading (List NamedType)
 names_at [] = Ok []
 names_at (word ∷ []) = value_at Hexadecimal (word ∷ []) >>= λ n. stop expected.Number []
-names_at (word ∷ second ∷ words) = value_at Hexadecimal (word ∷ second ∷ words) >>= λ n. value_at Hexadecimal (second ∷ words) >>= λ b. in_front_of (record { name = n.0; bits = b.0 }) (names_at words)
+names_at (word ∷ second ∷ words) =
+    value_at Hexadecimal (word ∷ second ∷ words) >>= λ n. value_at Hexadecimal (second ∷ words) >>= λ b. in_front_of
+    (record { name = n.0; bits = b.0 }) (names_at words)
 
 unfoldable pub members_at : List (List ℕ) → Reading (List ℕ)
 members_at [] = Ok []
@@ -201,11 +212,15 @@ has_results n = n == 1 || n == 2 || n == 5 || n == 8 || n == 13 || n == 14 || n 
 
 -- the reply of a line that gives none
 unfoldable pub silence : ℕ → List (List ℕ) → Reading Reply
-silence n words = if has_results n then stop expected.Results words else if n == 19 then Ok (reply.Message Success 0 0 []) else Ok (reply.Done n)
+silence n words =
+    if has_results n then stop expected.Results words else if n == 19 then Ok (reply.Message Success 0 0 [])
+    else Ok (reply.Done n)
 
 unfoldable pub refusal_at : ℕ → List (List ℕ) → Reading Reply
 refusal_at n [] = stop expected.Code []
-refusal_at n (word ∷ words) = wanted expected.Code (word ∷ words) (find (λ code. bytes_eq (code_word code) word) all_codes) >>= λ code. if n == 19 then message_reply_at code words else last (reply.Refused n code, words)
+refusal_at n (word ∷ words) =
+    wanted expected.Code (word ∷ words) (find (λ code. bytes_eq (code_word code) word) all_codes) >>= λ code. if n == 19
+    then message_reply_at code words else last (reply.Refused n code, words)
 
 -- what a call of this number answered: a call without results has no `=` after it
 unfoldable pub reply_at : ℕ → List (List ℕ) → Reading Reply

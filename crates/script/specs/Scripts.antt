@@ -31,7 +31,8 @@ lines_of [] = []
 lines_of (c ∷ cs) = if c == 10 then [] ∷ lines_of cs else in_front c (lines_of cs)
 
 -- what a line with this number says, before what those below it say
-abbrev pub and_below : ℕ → Result (Option Exchange) LineFault → Result (List Line) ScriptFault → Result (List Line) ScriptFault
+abbrev pub and_below : ℕ → Result (Option Exchange) LineFault → Result (List Line) ScriptFault
+    → Result (List Line) ScriptFault
 and_below n (Err fault) below = Err (record { line = n; fault = fault })
 and_below n (Ok None) below = below
 and_below n (Ok (Some x)) below = below >>= λ lines. Ok (record { number = n; exchange = x } ∷ lines)

@@ -30,7 +30,9 @@ verb_word verb.SpaceDestroy = codes "space_destroy"
 
 abbrev pub all_verbs : List Verb
 all_verbs =
-    verb.Attach ∷ verb.Names ∷ verb.Type ∷ verb.Rename ∷ verb.AllocateName ∷ verb.Allocate ∷ verb.Destroy ∷ verb.Deallocate
-    ∷ verb.GetRefs ∷ verb.ModRefs ∷ verb.SetQlimit ∷ verb.SetMscount ∷ verb.SetSeqno ∷ verb.GetReceiveStatus ∷ verb.GetSetStatus
+    verb.Attach ∷ verb.Names ∷ verb.Type ∷ verb.Rename ∷ verb.AllocateName ∷ verb.Allocate ∷ verb.Destroy ∷
+    verb.Deallocate
+    ∷ verb.GetRefs ∷ verb.ModRefs ∷ verb.SetQlimit ∷ verb.SetMscount ∷ verb.SetSeqno ∷ verb.GetReceiveStatus ∷
+    verb.GetSetStatus
     ∷ verb.MoveMember ∷ verb.RequestNotification ∷ verb.InsertRight ∷ verb.ExtractRight ∷ verb.Send ∷ verb.Receive
     ∷ verb.SpaceCreate ∷ verb.SpaceDestroy ∷ []

@@ -75,7 +75,8 @@ fn push_notification(
     notify: u32,
     disposition: u32,
 ) -> Result<(), AllocError>
-    ensures { OnOk result (line.new.items ≡ line.old.items ++ spaced (argument_words (call_variants.RequestNotification name variant sync notify disposition))) }
+    ensures { OnOk result (line.new.items ≡ line.old.items
+        ++ spaced (argument_words (call_variants.RequestNotification name variant sync notify disposition))) }
 {
     push_three(
         line,
@@ -92,7 +93,8 @@ fn push_notification(
 
 /// Adds a name and another number.
 fn push_name_and(line: &mut Vec<u8>, name: u32, kind: Kind, number: u32) -> Result<(), AllocError>
-    ensures { OnOk result (line.new.items ≡ line.old.items ++ spaced (value_word Kind.Hexadecimal name ∷ value_word kind number ∷ [])) }
+    ensures { OnOk result (line.new.items ≡ line.old.items
+        ++ spaced (value_word Kind.Hexadecimal name ∷ value_word kind number ∷ [])) }
 {
     push_two(line, (Kind::Hexadecimal, name), (kind, number))
 }
@@ -126,7 +128,8 @@ fn push_insertion(
     right_name: u32,
     disposition: u32,
 ) -> Result<(), AllocError>
-    ensures { OnOk result (line.new.items ≡ line.old.items ++ spaced (argument_words (call_variants.InsertRight name right_name disposition))) }
+    ensures { OnOk result (line.new.items ≡ line.old.items
+        ++ spaced (argument_words (call_variants.InsertRight name right_name disposition))) }
 {
     push_name_and(line, name, Kind::Hexadecimal, right_name)?;
     push_value(line, Kind::Disposition, disposition)
@@ -179,7 +182,8 @@ fn push_arguments(line: &mut Vec<u8>, call: &Call) -> Result<(), AllocError>
 #[tactic(auto, using(crate::proofs::WordsOf::spaced_laws))]
 /// Adds the words of a call, the first without a space in front.
 pub(crate) fn push_call_words(line: &mut Vec<u8>, call: &Call) -> Result<(), AllocError>
-    ensures { OnOk result (line.new.items ≡ (line.old.items ++ verb_word (verb_of call.now)) ++ spaced (argument_words call.now)) }
+    ensures { OnOk result (line.new.items ≡ (line.old.items ++ verb_word (verb_of call.now))
+        ++ spaced (argument_words call.now)) }
 {
     line.extend_from_slice(verb_of(call).word())?;
     push_arguments(line, call)

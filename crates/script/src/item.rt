@@ -83,7 +83,8 @@ fn word_front(bytes: &[u8]) -> Option<(u32, &[u8])>
 #[tactic(auto, unfolding(crate::specs::Items::split_front))]
 /// The first `count` bytes and those after them, if there are that many.
 fn split_front(bytes: &[u8], count: usize) -> Option<(&[u8], &[u8])>
-    ensures { MatchOption result (split_front count bytes.now ≡ None) (λ r. split_front count bytes.now ≡ Some (r.0.now, r.1.now)) }
+    ensures { MatchOption result (split_front count bytes.now ≡ None)
+        (λ r. split_front count bytes.now ≡ Some (r.0.now, r.1.now)) }
 {
     if bytes.len() < count {
         return None;
@@ -94,7 +95,8 @@ fn split_front(bytes: &[u8], count: usize) -> Option<(&[u8], &[u8])>
 #[tactic(auto, unfolding(crate::specs::Items::words_front))]
 /// The item of words that a body begins with: its type, their bytes, and the bytes after it.
 fn words_front(body: &[u8]) -> Option<(u32, &[u8], &[u8])>
-    ensures { MatchOption result (words_front body.now ≡ None) (λ r. words_front body.now ≡ Some (r.0, r.1.now, r.2.now)) }
+    ensures { MatchOption result (words_front body.now ≡ None)
+        (λ r. words_front body.now ≡ Some (r.0, r.1.now, r.2.now)) }
 {
     let (word, behind) = word_front(body)?;
     let type_name = word % 0x100;
@@ -142,7 +144,8 @@ fn push_numbers(line: &mut Vec<u8>, kind: Kind, bytes: &[u8]) -> Result<(), Allo
 #[tactic(auto, using(crate::proofs::WordsOf::spaced_laws), unfolding(crate::specs::Items::words_item_words))]
 /// Adds an item of words, which have these bytes.
 fn push_words_item(line: &mut Vec<u8>, type_name: u32, bytes: &[u8]) -> Result<(), AllocError>
-    ensures { OnOk result (line.new.items ≡ line.old.items ++ spaced (words_item_words type_name (numbers_in bytes.now))) }
+    ensures { OnOk result (line.new.items ≡ line.old.items
+        ++ spaced (words_item_words type_name (numbers_in bytes.now))) }
 {
     push_spaced(line, b"item")?;
     push_value(line, Kind::Element, type_name)?;
@@ -162,7 +165,8 @@ fn push_bytes_item(line: &mut Vec<u8>, bytes: &[u8]) -> Result<(), AllocError>
 #[tactic(auto, unfolding(crate::specs::Items::item_front))]
 /// Adds the item that a body begins with, if it has a written form, and returns the bytes after it.
 fn push_item<'a>(line: &mut Vec<u8>, body: &'a [u8]) -> Result<Option<&'a [u8]>, AllocError>
-    ensures { IfOk result (λ told. AddsItem line.old.items line.new.items (option_map (λ behind. behind.now) told) (item_front body.now)) }
+    ensures { IfOk result (λ told. AddsItem line.old.items line.new.items (option_map (λ behind. behind.now) told)
+        (item_front body.now)) }
 {
     if let Some((type_name, bytes, behind)) = words_front(body) {
         push_words_item(line, type_name, bytes)?;

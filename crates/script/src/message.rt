@@ -67,7 +67,8 @@ fn header_of(message: &[u8]) -> Header
 /// Adds the words of a message that has a whole header.
 fn push_whole(line: &mut Vec<u8>, message: &[u8]) -> Result<(), AllocError>
     requires { 24 ≤ length message.now }
-    ensures { OnOk result (line.new.items ≡ line.old.items ++ spaced (header_words (header_of message.now) ++ body_words (drop 24 message.now))) }
+    ensures { OnOk result (line.new.items ≡ line.old.items
+        ++ spaced (header_words (header_of message.now) ++ body_words (drop 24 message.now))) }
 {
     let header = header_of(message);
     push_header(line, &header)?;

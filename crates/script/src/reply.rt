@@ -139,7 +139,8 @@ fn push_message_reply(
     member: u32,
     message: &[u8],
 ) -> Result<(), AllocError>
-    ensures { OnOk result (line.new.items ≡ line.old.items ++ spaced (message_reply_words code size member message.now)) }
+    ensures { OnOk result (line.new.items ≡ line.old.items
+        ++ spaced (message_reply_words code size member message.now)) }
 {
     push_outcome(line, code, size == 0 && member == 0 && message.is_empty())?;
     push_optional(line, b"size", Kind::Decimal, size)?;

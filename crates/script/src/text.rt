@@ -50,7 +50,8 @@ fn add_line(
     number: usize,
     line: &[u8],
 ) -> Result<(), LineFault>
-    ensures { MatchResult result (λ _. Adds lines.old.items lines.new.items number (line_read line.now)) (λ fault. IsFault fault fault (line_read line.now)) }
+    ensures { MatchResult result (λ _. Adds lines.old.items lines.new.items number (line_read line.now))
+        (λ fault. IsFault fault fault (line_read line.now)) }
 {
     let found = read_line(alloc, line)?;
     let Some(exchange) = found else {
@@ -66,7 +67,8 @@ fn add_line(
 /// `Unreadable`: it isn't blank, a comment or a call with its answer. `NoMemory`: out of memory for what it holds or
 /// for the list of lines.
 pub fn read_script(alloc: Global, text: &[u8]) -> Result<Vec<Line>, ScriptFault>
-    ensures read { MatchResult result (λ lines. script_read text.now ≡ Ok lines.items) (λ fault. IsFault fault.fault fault (script_read text.now)) }
+    ensures read { MatchResult result (λ lines. script_read text.now ≡ Ok lines.items)
+        (λ fault. IsFault fault.fault fault (script_read text.now)) }
     ensures printed { (xs : List Exchange) → AreExchanges xs → text.now ≡ script_text xs
         → MatchResult result (λ lines. lines.items ≡ numbered 1 xs) (λ fault. fault.fault ≡ LineFault.NoMemory) }
 {

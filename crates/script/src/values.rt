@@ -112,7 +112,8 @@ pub(crate) fn push_two(
     first: (Kind, u32),
     second: (Kind, u32),
 ) -> Result<(), AllocError>
-    ensures { OnOk result (line.new.items ≡ line.old.items ++ spaced (value_word first.0 first.1 ∷ value_word second.0 second.1 ∷ [])) }
+    ensures { OnOk result (line.new.items ≡ line.old.items
+        ++ spaced (value_word first.0 first.1 ∷ value_word second.0 second.1 ∷ [])) }
 {
     push_value(line, first.0, first.1)?;
     push_value(line, second.0, second.1)
@@ -126,7 +127,8 @@ pub(crate) fn push_three(
     second: (Kind, u32),
     third: (Kind, u32),
 ) -> Result<(), AllocError>
-    ensures { OnOk result (line.new.items ≡ line.old.items ++ spaced (value_word first.0 first.1 ∷ value_word second.0 second.1 ∷ value_word third.0 third.1 ∷ [])) }
+    ensures { OnOk result (line.new.items ≡ line.old.items
+        ++ spaced (value_word first.0 first.1 ∷ value_word second.0 second.1 ∷ value_word third.0 third.1 ∷ [])) }
 {
     push_two(line, first, second)?;
     push_value(line, third.0, third.1)

@@ -23,11 +23,14 @@ use Rattle.sending.proofs.Steps.{gave_then, gave_failed}
 -- what was taken of a header
 abbrev pub HeaderIs : State → List Effect → List Effect → TakenHeader → HeaderRights → Type 0
 HeaderIs new waiting after header found =
-    (found ≡ record { kind = header.kind; port = header.port; reply = header.reply }) × (new ≡ header.state) × (after ≡ waiting ++ header.notices)
+    (found ≡ record { kind = header.kind; port = header.port; reply = header.reply }) × (new ≡ header.state)
+    × (after ≡ waiting ++ header.notices)
 
 -- and of a body
-abbrev pub RightsAre : {Y : Type 0} → (Y → List CarriedRight) → State → List Effect → List Effect → TakenRights → Y → Type 0
-RightsAre items new waiting after taken rights = (items rights ≡ taken.rights) × (new ≡ taken.state) × (after ≡ waiting ++ taken.notices)
+abbrev pub RightsAre : {Y : Type 0} → (Y → List CarriedRight) → State → List Effect → List Effect → TakenRights → Y
+    → Type 0
+RightsAre items new waiting after taken rights =
+    (items rights ≡ taken.rights) × (new ≡ taken.state) × (after ≡ waiting ++ taken.notices)
 
 abbrev pub message_of : UsedParts → List Item → HeaderRights → List CarriedRight → Message
 message_of parts items found rights = record {
@@ -40,21 +43,33 @@ message_of parts items found rights = record {
 }
 
 abbrev pub made : UsedParts → List Item → HeaderRights → State → List CarriedRight → Result Message KernReturn
-made parts items found state rights = unless_failing ((is_full state found.port && not (same_kind found.kind kind.SendOnce), SendTimedOut) ∷ []) (Ok (message_of parts items found rights))
+made parts items found state rights =
+    unless_failing ((is_full state found.port && not (same_kind found.kind kind.SendOnce), SendTimedOut) ∷ [])
+    (Ok (message_of parts items found rights))
 
 abbrev pub next_rights : ℕ → UsedParts → List Item → TakenHeader → Result Ready KernReturn
 next_rights space parts items header =
-    and_then (or_refused SendInvalidRight (take_items space items (record { rights = []; state = header.state; notices = [] }))) (λ (rights : TakenRights).
+    and_then (or_refused SendInvalidRight
+    (take_items space items (record { rights = []; state = header.state; notices = [] })))
+    (λ (rights : TakenRights).
     let ready : Ready = ready_message parts items header rights in
     unless_failing (tests_of_queue ready) (Ok ready))
 
 abbrev sent_one : Message → Result Message SendFault
 sent_one message = Ok message
 
-module _ (space : ℕ) (parts : UsedParts) (items : List Item) (found : HeaderRights) (mid new : State) (waiting between after : List Effect) where
+module _ (space : ℕ) (parts : UsedParts) (items : List Item) (found : HeaderRights) (mid new : State)
+    (waiting between after : List Effect) where
   -- the message that is ready, once this was taken
-  ready_is : (header : TakenHeader) (taken : TakenRights) (rights : List CarriedRight) → HeaderIs mid waiting between header found → rights ≡ taken.rights → new ≡ taken.state
-      → ready_message parts items header taken ≡ record { message = message_of parts items found rights; port = found.port; state = new; notices = header.notices ++ taken.notices }
+  ready_is : (header : TakenHeader) (taken : TakenRights) (rights : List CarriedRight)
+      → HeaderIs mid waiting between header found → rights ≡ taken.rights → new ≡ taken.state
+      → ready_message parts items header taken
+      ≡ record {
+        message = message_of parts items found rights;
+        port = found.port;
+        state = new;
+        notices = header.notices ++ taken.notices;
+      }
   ready_is header taken rights head rights_are state_is = λ i. record {
     message = record {
       destination = (sym head.0 i).kind;
@@ -69,46 +84,79 @@ module _ (space : ℕ) (parts : UsedParts) (items : List Item) (found : HeaderRi
     notices = header.notices ++ taken.notices;
   }
 
-  by_test : (b : Bool) (m message : Message) (ready : Ready) → ready.message ≡ m → Gave (unless_failing ((b, SendTimedOut) ∷ []) (Ok m)) (λ x y. y ≡ x) (sent_one message) → ready.port ≡ found.port → new ≡ ready.state → after ≡ waiting ++ ready.notices
+  by_test : (b : Bool) (m message : Message) (ready : Ready) → ready.message ≡ m
+      → Gave (unless_failing ((b, SendTimedOut) ∷ []) (Ok m)) (λ x y. y ≡ x) (sent_one message)
+      → ready.port ≡ found.port → new ≡ ready.state → after ≡ waiting ++ ready.notices
       → Gave (unless_failing ((b, SendTimedOut) ∷ []) (Ok ready)) (ReadyIs new waiting after) (Ok (message, found.port))
   by_test true m message ready is made_is port state notices = absurd made_is
   by_test false m message ready is made_is port state notices = (made_is ∙ sym is, sym port, state, notices)
 
-  by_test_failed : (b : Bool) (m : Message) (ready : Ready) (fault : SendFault) → Gave (unless_failing ((b, SendTimedOut) ∷ []) (Ok m)) (λ (x y : Message). y ≡ x) (Err fault) → Gave (unless_failing ((b, SendTimedOut) ∷ []) (Ok ready)) (ReadyIs new waiting after) (Err fault)
+  by_test_failed : (b : Bool) (m : Message) (ready : Ready) (fault : SendFault)
+      → Gave (unless_failing ((b, SendTimedOut) ∷ []) (Ok m)) (λ (x y : Message). y ≡ x) (Err fault)
+      → Gave (unless_failing ((b, SendTimedOut) ∷ []) (Ok ready)) (ReadyIs new waiting after) (Err fault)
   by_test_failed true m ready fault is = is
   by_test_failed false m ready fault is = is
 
-  pub all_taken : {Y : Type 0} (list : Y → List CarriedRight) (header : Result TakenHeader KernReturn) (rights : Y) (message : Message) → Gave header (HeaderIs mid waiting between) (Ok found)
-      → Gave (or_refused SendInvalidRight (take_items space items (so_far [] mid []))) (RightsAre list new between after) (Ok rights)
+  pub all_taken : {Y : Type 0} (list : Y → List CarriedRight) (header : Result TakenHeader KernReturn) (rights : Y)
+      (message : Message) → Gave header (HeaderIs mid waiting between) (Ok found)
+      → Gave (or_refused SendInvalidRight (take_items space items (so_far [] mid [])))
+      (RightsAre list new between after) (Ok rights)
       → Gave (made parts items found new (list rights)) (λ x y. y ≡ x) (Ok message)
       → Gave (and_then header (next_rights space parts items)) (ReadyIs new waiting after) (Ok (message, found.port))
   all_taken list header rights message first second third =
-      gave_then header (next_rights space parts items) (HeaderIs mid waiting between) (ReadyIs new waiting after) found (Ok (message, found.port)) first (λ head is.
-      gave_then (or_refused SendInvalidRight (take_items space items (so_far [] head.state []))) _ (RightsAre list new between after) (ReadyIs new waiting after) rights (Ok (message, found.port))
-      (subst (λ (s : State). Gave (or_refused SendInvalidRight (take_items space items (so_far [] s []))) (RightsAre list new between after) (Ok rights)) is.1 second) (λ taken are.
-      subst (λ (ready : Ready). Gave (unless_failing (tests_of_queue ready) (Ok ready)) (ReadyIs new waiting after) (Ok (message, found.port)))
+      gave_then header (next_rights space parts items) (HeaderIs mid waiting between) (ReadyIs new waiting after) found
+      (Ok (message, found.port)) first (λ head is.
+      gave_then (or_refused SendInvalidRight (take_items space items (so_far [] head.state []))) _
+      (RightsAre list new between after) (ReadyIs new waiting after) rights (Ok (message, found.port))
+      (subst (λ (s : State). Gave (or_refused SendInvalidRight (take_items space items (so_far [] s [])))
+      (RightsAre list new between after) (Ok rights)) is.1 second) (λ taken are.
+      subst (λ (ready : Ready). Gave (unless_failing (tests_of_queue ready) (Ok ready)) (ReadyIs new waiting after)
+      (Ok (message, found.port)))
       (sym (ready_is head taken (list rights) is are.0 are.1))
-      (by_test (is_full new found.port && not (same_kind found.kind kind.SendOnce)) (message_of parts items found (list rights)) message
-      (record { message = message_of parts items found (list rights); port = found.port; state = new; notices = head.notices ++ taken.notices }) refl third refl refl
+      (by_test (is_full new found.port && not (same_kind found.kind kind.SendOnce))
+      (message_of parts items found (list rights)) message
+      (record {
+        message = message_of parts items found (list rights);
+        port = found.port;
+        state = new;
+        notices = head.notices ++ taken.notices;
+      }) refl third refl refl
       (are.2 ∙ ap (λ (l : List Effect). l ++ taken.notices) is.2 ∙ append_assoc waiting head.notices taken.notices))))
 
-  pub third_failed : {Y : Type 0} (list : Y → List CarriedRight) (header : Result TakenHeader KernReturn) (rights : Y) (fault : SendFault) → Gave header (HeaderIs mid waiting between) (Ok found)
-      → Gave (or_refused SendInvalidRight (take_items space items (so_far [] mid []))) (RightsAre list new between after) (Ok rights)
+  pub third_failed : {Y : Type 0} (list : Y → List CarriedRight) (header : Result TakenHeader KernReturn) (rights : Y)
+      (fault : SendFault) → Gave header (HeaderIs mid waiting between) (Ok found)
+      → Gave (or_refused SendInvalidRight (take_items space items (so_far [] mid [])))
+      (RightsAre list new between after) (Ok rights)
       → Gave (made parts items found new (list rights)) (λ (x y : Message). y ≡ x) (Err fault)
       → Gave (and_then header (next_rights space parts items)) (ReadyIs new waiting after) (Err fault)
   third_failed list header rights fault first second third =
-      gave_then header (next_rights space parts items) (HeaderIs mid waiting between) (ReadyIs new waiting after) found (Err fault) first (λ head is.
-      gave_then (or_refused SendInvalidRight (take_items space items (so_far [] head.state []))) _ (RightsAre list new between after) (ReadyIs new waiting after) rights (Err fault)
-      (subst (λ (s : State). Gave (or_refused SendInvalidRight (take_items space items (so_far [] s []))) (RightsAre list new between after) (Ok rights)) is.1 second) (λ taken are.
-      subst (λ (ready : Ready). Gave (unless_failing (tests_of_queue ready) (Ok ready)) (ReadyIs new waiting after) (Err fault))
+      gave_then header (next_rights space parts items) (HeaderIs mid waiting between) (ReadyIs new waiting after) found
+      (Err fault) first (λ head is.
+      gave_then (or_refused SendInvalidRight (take_items space items (so_far [] head.state []))) _
+      (RightsAre list new between after) (ReadyIs new waiting after) rights (Err fault)
+      (subst (λ (s : State). Gave (or_refused SendInvalidRight (take_items space items (so_far [] s [])))
+      (RightsAre list new between after) (Ok rights)) is.1 second) (λ taken are.
+      subst (λ (ready : Ready). Gave (unless_failing (tests_of_queue ready) (Ok ready)) (ReadyIs new waiting after)
+      (Err fault))
       (sym (ready_is head taken (list rights) is are.0 are.1))
-      (by_test_failed (is_full new found.port && not (same_kind found.kind kind.SendOnce)) (message_of parts items found (list rights))
-      (record { message = message_of parts items found (list rights); port = found.port; state = new; notices = head.notices ++ taken.notices }) fault third)))
+      (by_test_failed (is_full new found.port && not (same_kind found.kind kind.SendOnce))
+      (message_of parts items found (list rights))
+      (record {
+        message = message_of parts items found (list rights);
+        port = found.port;
+        state = new;
+        notices = head.notices ++ taken.notices;
+      }) fault third)))
 
-  pub second_failed : {Y : Type 0} (list : Y → List CarriedRight) (header : Result TakenHeader KernReturn) (fault : SendFault) → Gave header (HeaderIs mid waiting between) (Ok found)
-      → Gave (or_refused SendInvalidRight (take_items space items (so_far [] mid []))) (RightsAre list new between after) (Err fault)
+  pub second_failed : {Y : Type 0} (list : Y → List CarriedRight) (header : Result TakenHeader KernReturn)
+      (fault : SendFault) → Gave header (HeaderIs mid waiting between) (Ok found)
+      → Gave (or_refused SendInvalidRight (take_items space items (so_far [] mid [])))
+      (RightsAre list new between after) (Err fault)
       → Gave (and_then header (next_rights space parts items)) (ReadyIs new waiting after) (Err fault)
   second_failed list header fault first second =
-      gave_then header (next_rights space parts items) (HeaderIs mid waiting between) (ReadyIs new waiting after) found (Err fault) first (λ head is.
-      gave_failed (or_refused SendInvalidRight (take_items space items (so_far [] head.state []))) _ (RightsAre list new between after) (ReadyIs new waiting after) fault
-      (subst (λ (s : State). Gave (or_refused SendInvalidRight (take_items space items (so_far [] s []))) (RightsAre list new between after) (Err fault)) is.1 second))
+      gave_then header (next_rights space parts items) (HeaderIs mid waiting between) (ReadyIs new waiting after) found
+      (Err fault) first (λ head is.
+      gave_failed (or_refused SendInvalidRight (take_items space items (so_far [] head.state []))) _
+      (RightsAre list new between after) (ReadyIs new waiting after) fault
+      (subst (λ (s : State). Gave (or_refused SendInvalidRight (take_items space items (so_far [] s [])))
+      (RightsAre list new between after) (Err fault)) is.1 second))

@@ -7,7 +7,8 @@ use Rattle.sending.specs.declared.fault.SendFault.{SendFault}
 use Rattle.sending.specs.declared.fault.SendFault.TheVariants.{Refused, NoMemory}
 
 -- the first step gave something, and the rest gave what comes next
-pub gave_then : {X Y Z W : Type 0} (r : Result X KernReturn) (next : X → Result Z KernReturn) (Is : X → Y → Type 0) (Then : Z → W → Type 0) (y : Y) (result : Result W SendFault)
+pub gave_then : {X Y Z W : Type 0} (r : Result X KernReturn) (next : X → Result Z KernReturn) (Is : X → Y → Type 0)
+    (Then : Z → W → Type 0) (y : Y) (result : Result W SendFault)
     → Gave r Is (Ok y) → ((x : X) → Is x y → Gave (next x) Then result) → Gave (and_then r next) Then result
 gave_then (Ok x) next Is Then y result is rest = rest x is
 gave_then (Err code) next Is Then y result is rest = absurd is
@@ -16,7 +17,8 @@ gave_then (Err code) next Is Then y result is rest = absurd is
 abbrev pub failure_of : (Y : Type 0) → SendFault → Result Y SendFault
 failure_of Y fault = Err fault
 
-pub gave_failed : {X Y Z W : Type 0} (r : Result X KernReturn) (next : X → Result Z KernReturn) (Is : X → Y → Type 0) (Then : Z → W → Type 0) (fault : SendFault)
+pub gave_failed : {X Y Z W : Type 0} (r : Result X KernReturn) (next : X → Result Z KernReturn) (Is : X → Y → Type 0)
+    (Then : Z → W → Type 0) (fault : SendFault)
     → Gave r Is (failure_of Y fault) → Gave (and_then r next) Then (Err fault)
 gave_failed (Ok x) next Is Then fault is = any (next x) fault is
   where
@@ -27,13 +29,15 @@ gave_failed (Ok x) next Is Then fault is = any (next x) fault is
 gave_failed (Err code) next Is Then fault is = is
 
 -- what was given is what the machine has
-pub gave_same : {X Z W : Type 0} (r : Result X KernReturn) (next : X → Result Z KernReturn) (Then : Z → W → Type 0) (y : X) (result : Result W SendFault)
+pub gave_same : {X Z W : Type 0} (r : Result X KernReturn) (next : X → Result Z KernReturn) (Then : Z → W → Type 0)
+    (y : X) (result : Result W SendFault)
     → Gave r (λ (x z : X). z ≡ x) (Ok y) → Gave (next y) Then result → Gave (and_then r next) Then result
 gave_same (Ok x) next Then y result is rest = subst (λ (v : _). Gave (next v) Then result) is rest
 gave_same (Err code) next Then y result is rest = absurd is
 
 -- what a refusal, or running out of memory, says
-pub told : {X Y : Type 0} (r : Result X KernReturn) (Is : X → Y → Type 0) (fault : SendFault) → Gave r Is (Err fault) → IsToldBy r fault
+pub told : {X Y : Type 0} (r : Result X KernReturn) (Is : X → Y → Type 0) (fault : SendFault) → Gave r Is (Err fault)
+    → IsToldBy r fault
 told (Ok x) Is (Refused code) is = absurd is
 told (Ok x) Is NoMemory is = tt
 told (Err code) Is (Refused other) is = ap Err (sym is)

@@ -16,9 +16,12 @@ abbrev pub outcome_of : KernReturn → Option CarriedRight → Result CarriedRig
 outcome_of code None = Err (Refused code)
 outcome_of code (Some right) = Ok right
 
-pub taken_gave : (o : Option Taken) (code : KernReturn) (old new : State) (waiting after : List Effect) (found : Option CarriedRight) → Takes o old waiting found new after
-    → Gave (or_refused code o) (λ taken right. (right ≡ taken.right) × (new ≡ taken.state) × (after ≡ waiting ++ taken.notices)) (outcome_of code found)
+pub taken_gave : (o : Option Taken) (code : KernReturn) (old new : State) (waiting after : List Effect)
+    (found : Option CarriedRight) → Takes o old waiting found new after
+    → Gave (or_refused code o) (λ taken right. (right ≡ taken.right) × (new ≡ taken.state)
+    × (after ≡ waiting ++ taken.notices)) (outcome_of code found)
 taken_gave None code old new waiting after None takes = refl
 taken_gave None code old new waiting after (Some right) takes = absurd (cc takes.0)
 taken_gave (Some taken) code old new waiting after None takes = absurd (cc takes.0)
-taken_gave (Some taken) code old new waiting after (Some right) takes = (some_same right taken.right takes.0, takes.1, takes.2)
+taken_gave (Some taken) code old new waiting after (Some right) takes =
+    (some_same right taken.right takes.0, takes.1, takes.2)

@@ -14,14 +14,17 @@ use Rattle.ipc_model.specs.state.State.{State}
 -- a message that is ready and its port were found, and this is the state; its notices wait after those that already
 -- waited
 abbrev pub ReadyIs : State → List Effect → List Effect → Ready → Message × ℕ → Type 0
-ReadyIs new waiting after ready found = (found.0 ≡ ready.message) × (found.1 ≡ ready.port) × (new ≡ ready.state) × (after ≡ waiting ++ ready.notices)
+ReadyIs new waiting after ready found =
+    (found.0 ≡ ready.message) × (found.1 ≡ ready.port) × (new ≡ ready.state) × (after ≡ waiting ++ ready.notices)
 
 -- what becomes of a message whose size is one that messages may have
 abbrev pub of_dispositions : State → ℕ → UsedParts → Result Ready KernReturn
 of_dispositions state space parts =
-    and_then (or_refused SendInvalidHeader (header_disposition parts.remote_disposition)) (λ (destination : Disposition).
+    and_then (or_refused SendInvalidHeader (header_disposition parts.remote_disposition))
+    (λ (destination : Disposition).
     and_then (reply_disposition parts.local_disposition parts.local) (λ (reply : Option Disposition).
-    and_then (items_if_complex parts.complex parts.body) (λ (items : List Item). ready_of_items state space parts destination reply items)))
+    and_then (items_if_complex parts.complex parts.body)
+    (λ (items : List Item). ready_of_items state space parts destination reply items)))
 
 -- a message that was ready was sent
 abbrev pub WasSent : Result Ready KernReturn → State → List Effect → Type 0

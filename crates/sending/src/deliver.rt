@@ -14,7 +14,8 @@ use transit::would_circle;
 
 /// Whether the receive right of a port, if there is one, would travel in a cycle in this queue.
 fn would_circle_with(state: &IpcState, queue: u64, port: PortInMessage) -> bool
-    ensures { result ≡ elim (live_port port) as (λ _. Bool) [ None ↦ false | Some serial ↦ is_circular state.now.current serial queue ] }
+    ensures { result ≡ elim (live_port port) as (λ _. Bool)
+        [ None ↦ false | Some serial ↦ is_circular state.now.current serial queue ] }
 {
     match port {
         PortInMessage::Live(serial) => would_circle(state, serial, queue),
@@ -43,7 +44,8 @@ fn any_goes_in_circle(state: &IpcState, queue: u64, rights: &[CarriedRight]) -> 
 
 /// Adds the releases of a message's destination, its reply right and the rights of its body, in this order.
 fn destroy(queue: u64, message: &Message, effects: &mut Effects) -> Result<(), AllocError>
-    ensures { OnOk result (effects.new ≡ effects.old ++ (release message.now.destination queue ∷ releases_of message.now)) }
+    ensures { OnOk result (effects.new ≡ effects.old
+        ++ (release message.now.destination queue ∷ releases_of message.now)) }
 {
     let kind = message.destination;
     effects.push(Effect::Release { kind, port: queue })?;
@@ -60,8 +62,10 @@ pub(crate) fn deliver(
     effects: &mut Effects,
 ) -> Result<(), AllocError>
     requires live { carries_live state.old.current message ≡ true }
-    ensures state { OnOk result (state.new.current ≡ (sent (record { message = message; port = queue; state = state.old.current; notices = effects.old })).0) }
-    ensures effects { OnOk result (effects.new ≡ (sent (record { message = message; port = queue; state = state.old.current; notices = effects.old })).1) }
+    ensures state { OnOk result (state.new.current
+        ≡ (sent (record { message = message; port = queue; state = state.old.current; notices = effects.old })).0) }
+    ensures effects { OnOk result (effects.new
+        ≡ (sent (record { message = message; port = queue; state = state.old.current; notices = effects.old })).1) }
     ensures before { state.new.before ≡ state.old.before }
 {
     if any_goes_in_circle(state, queue, message.rights.as_slice()) {

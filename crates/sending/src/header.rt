@@ -38,7 +38,8 @@ fn take_destination(
     effects: &mut Effects,
 ) -> Result<(RightKind, u64), SendFault>
     ensures taken { Gave (sending.take_destination state.old.current space name disposition)
-        (λ taken found. (found.0 ≡ taken.0.right.kind) × (found.1 ≡ taken.1) × (state.new.current ≡ taken.0.state) × (effects.new ≡ effects.old ++ taken.0.notices)) result }
+        (λ taken found. (found.0 ≡ taken.0.right.kind) × (found.1 ≡ taken.1) × (state.new.current ≡ taken.0.state)
+        × (effects.new ≡ effects.old ++ taken.0.notices)) result }
     ensures before { state.new.before ≡ state.old.before }
 {
     let right = take(
@@ -62,7 +63,8 @@ fn take_reply(
     effects: &mut Effects,
 ) -> Result<Option<CarriedRight>, SendFault>
     ensures taken { Gave (sending.take_reply state.old.current space name disposition)
-        (λ taken found. (found ≡ taken.reply) × (state.new.current ≡ taken.state) × (effects.new ≡ effects.old ++ taken.notices)) result }
+        (λ taken found. (found ≡ taken.reply) × (state.new.current ≡ taken.state)
+        × (effects.new ≡ effects.old ++ taken.notices)) result }
     ensures before { state.new.before ≡ state.old.before }
 {
     let Some(disposition) = disposition else {
@@ -85,7 +87,8 @@ fn take_named_reply(
 ) -> Result<Option<CarriedRight>, SendFault>
     requires { is_null_or_dead name ≡ false }
     ensures taken { Gave (sending.take_reply state.old.current space name (Some disposition))
-        (λ taken found. (found ≡ taken.reply) × (state.new.current ≡ taken.state) × (effects.new ≡ effects.old ++ taken.notices)) result }
+        (λ taken found. (found ≡ taken.reply) × (state.new.current ≡ taken.state)
+        × (effects.new ≡ effects.old ++ taken.notices)) result }
     ensures before { state.new.before ≡ state.old.before }
 {
     let right = take(
@@ -126,8 +129,10 @@ pub(crate) fn take_header(
     named: Named,
     effects: &mut Effects,
 ) -> Result<HeaderRights, SendFault>
-    ensures taken { Gave (sending.take_header state.old.current space named.remote named.destination named.local named.reply)
-        (λ header found. (found ≡ record { kind = header.kind; port = header.port; reply = header.reply }) × (state.new.current ≡ header.state) × (effects.new ≡ effects.old ++ header.notices)) result }
+    ensures taken { Gave (sending.take_header state.old.current space named.remote named.destination named.local
+        named.reply)
+        (λ header found. (found ≡ record { kind = header.kind; port = header.port; reply = header.reply })
+        × (state.new.current ≡ header.state) × (effects.new ≡ effects.old ++ header.notices)) result }
     ensures before { state.new.before ≡ state.old.before }
 {
     if reply_goes_first(named.destination, named.reply) {
@@ -144,8 +149,10 @@ fn take_reply_first(
     effects: &mut Effects,
 ) -> Result<HeaderRights, SendFault>
     requires { sending.reply_goes_first named.destination named.reply ≡ true }
-    ensures taken { Gave (sending.take_header state.old.current space named.remote named.destination named.local named.reply)
-        (λ header found. (found ≡ record { kind = header.kind; port = header.port; reply = header.reply }) × (state.new.current ≡ header.state) × (effects.new ≡ effects.old ++ header.notices)) result }
+    ensures taken { Gave (sending.take_header state.old.current space named.remote named.destination named.local
+        named.reply)
+        (λ header found. (found ≡ record { kind = header.kind; port = header.port; reply = header.reply })
+        × (state.new.current ≡ header.state) × (effects.new ≡ effects.old ++ header.notices)) result }
     ensures before { state.new.before ≡ state.old.before }
 {
     let reply = take_reply(state, space, named.local, named.reply, effects)?;
@@ -160,8 +167,10 @@ fn take_destination_first(
     effects: &mut Effects,
 ) -> Result<HeaderRights, SendFault>
     requires { sending.reply_goes_first named.destination named.reply ≡ false }
-    ensures taken { Gave (sending.take_header state.old.current space named.remote named.destination named.local named.reply)
-        (λ header found. (found ≡ record { kind = header.kind; port = header.port; reply = header.reply }) × (state.new.current ≡ header.state) × (effects.new ≡ effects.old ++ header.notices)) result }
+    ensures taken { Gave (sending.take_header state.old.current space named.remote named.destination named.local
+        named.reply)
+        (λ header found. (found ≡ record { kind = header.kind; port = header.port; reply = header.reply })
+        × (state.new.current ≡ header.state) × (effects.new ≡ effects.old ++ header.notices)) result }
     ensures before { state.new.before ≡ state.old.before }
 {
     let (kind, port) = take_destination(state, space, named.remote, named.destination, effects)?;

@@ -27,7 +27,8 @@ fn take_one(
     rights: &mut Vec<CarriedRight>,
     effects: &mut Effects,
 ) -> Result<(), SendFault>
-    ensures taken { Gave (or_refused KernReturn.SendInvalidRight (sending.take_right space name disposition (so_far rights.old.items state.old.current effects.old)))
+    ensures taken { Gave (or_refused KernReturn.SendInvalidRight
+        (sending.take_right space name disposition (so_far rights.old.items state.old.current effects.old)))
         (λ taken _. so_far rights.new.items state.new.current effects.new ≡ taken) result }
     ensures before { state.new.before ≡ state.old.before }
 {
@@ -50,7 +51,8 @@ fn take_named(
     effects: &mut Effects,
 ) -> Result<(), SendFault>
     requires { is_null_or_dead name ≡ false }
-    ensures taken { Gave (or_refused KernReturn.SendInvalidRight (sending.take_right space name disposition (so_far rights.old.items state.old.current effects.old)))
+    ensures taken { Gave (or_refused KernReturn.SendInvalidRight
+        (sending.take_right space name disposition (so_far rights.old.items state.old.current effects.old)))
         (λ taken _. so_far rights.new.items state.new.current effects.new ≡ taken) result }
     ensures before { state.new.before ≡ state.old.before }
 {
@@ -76,7 +78,9 @@ fn take_names(
     rights: &mut Vec<CarriedRight>,
     effects: &mut Effects,
 ) -> Result<(), SendFault>
-    ensures taken { Gave (or_refused KernReturn.SendInvalidRight (sending.take_rights space disposition (names_of_item (item_value item.now)) (so_far rights.old.items state.old.current effects.old)))
+    ensures taken { Gave (or_refused KernReturn.SendInvalidRight
+        (sending.take_rights space disposition (names_of_item (item_value item.now))
+        (so_far rights.old.items state.old.current effects.old)))
         (λ taken _. so_far rights.new.items state.new.current effects.new ≡ taken) result }
     ensures before { state.new.before ≡ state.old.before }
 {
@@ -94,7 +98,9 @@ fn take_item(
     rights: &mut Vec<CarriedRight>,
     effects: &mut Effects,
 ) -> Result<(), SendFault>
-    ensures taken { Gave (or_refused KernReturn.SendInvalidRight (sending.take_item space (item_value item.now) (disposition_of item.now.type_name) (so_far rights.old.items state.old.current effects.old)))
+    ensures taken { Gave (or_refused KernReturn.SendInvalidRight
+        (sending.take_item space (item_value item.now) (disposition_of item.now.type_name)
+        (so_far rights.old.items state.old.current effects.old)))
         (λ taken _. so_far rights.new.items state.new.current effects.new ≡ taken) result }
     ensures before { state.new.before ≡ state.old.before }
 {
@@ -112,7 +118,8 @@ fn take_items(
     rights: &mut Vec<CarriedRight>,
     effects: &mut Effects,
 ) -> Result<(), SendFault>
-    ensures taken { Gave (or_refused KernReturn.SendInvalidRight (sending.take_items space (map item_value items.now) (so_far rights.old.items state.old.current effects.old)))
+    ensures taken { Gave (or_refused KernReturn.SendInvalidRight
+        (sending.take_items space (map item_value items.now) (so_far rights.old.items state.old.current effects.old)))
         (λ taken _. so_far rights.new.items state.new.current effects.new ≡ taken) result }
     ensures before { state.new.before ≡ state.old.before }
 {
@@ -139,8 +146,10 @@ pub(crate) fn take_body(
     items: &[Item<'_>],
     effects: &mut Effects,
 ) -> Result<Vec<CarriedRight>, SendFault>
-    ensures taken { Gave (or_refused KernReturn.SendInvalidRight (sending.take_items space (map item_value items.now) (so_far [] state.old.current [])))
-        (λ taken rights. (rights.items ≡ taken.rights) × (state.new.current ≡ taken.state) × (effects.new ≡ effects.old ++ taken.notices)) result }
+    ensures taken { Gave (or_refused KernReturn.SendInvalidRight
+        (sending.take_items space (map item_value items.now) (so_far [] state.old.current [])))
+        (λ taken rights. (rights.items ≡ taken.rights) × (state.new.current ≡ taken.state)
+        × (effects.new ≡ effects.old ++ taken.notices)) result }
     ensures before { state.new.before ≡ state.old.before }
 {
     let mut rights = Vec::with_capacity(alloc, count_ports(items))?;

@@ -15,7 +15,8 @@ use type_desc::{Item, ItemFault, items};
 
 /// The header and the body of a message whose size is one that messages may have.
 pub(crate) fn read_message(message: &[u8]) -> Result<(Header, &[u8]), SendFault>
-    ensures { Gave (unless_failing (sending.tests_of_size (length message.now)) (Ok (used_parts message.now))) (λ parts found. parts ≡ parts_by found.0 found.1.now) result }
+    ensures { Gave (unless_failing (sending.tests_of_size (length message.now)) (Ok (used_parts message.now)))
+        (λ parts found. parts ≡ parts_by found.0 found.1.now) result }
 {
     let Ok(header) = parse(message) else {
         return Err(SendFault::Refused(KernReturn::SendMsgTooSmall));
@@ -32,7 +33,8 @@ pub(crate) fn read_message(message: &[u8]) -> Result<(Header, &[u8]), SendFault>
 
 /// How the destination right is handed over: by a disposition that names a send or send-once right.
 pub(crate) fn destination_disposition(number: u8) -> Result<Disposition, SendFault>
-    ensures { Gave (or_refused KernReturn.SendInvalidHeader (sending.header_disposition number)) (λ disposition found. found ≡ disposition) result }
+    ensures { Gave (or_refused KernReturn.SendInvalidHeader (sending.header_disposition number))
+        (λ disposition found. found ≡ disposition) result }
 {
     match Disposition::from_number(u32::from(number)) {
         Some(Disposition::MoveReceive) | None => {
@@ -59,7 +61,8 @@ pub(crate) fn read_items(
     complex: bool,
     body: &[u8],
 ) -> Result<Vec<Item<'_>>, SendFault>
-    ensures { Gave (sending.items_if_complex complex body.now) (λ items found. items ≡ map item_value found.items) result }
+    ensures { Gave (sending.items_if_complex complex body.now)
+        (λ items found. items ≡ map item_value found.items) result }
 {
     if !complex {
         return Ok(Vec::new(alloc));

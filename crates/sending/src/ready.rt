@@ -41,7 +41,8 @@ fn kept_body(
     items: &[Item<'_>],
     body: &[u8],
 ) -> Result<Vec<u8>, AllocError>
-    ensures { IfOk result (λ kept. kept.items ≡ (if complex then items_encoding (map as_stored (map item_value items.now)) else body.now)) }
+    ensures { IfOk result (λ kept. kept.items
+        ≡ (if complex then items_encoding (map as_stored (map item_value items.now)) else body.now)) }
 {
     let mut kept = Vec::with_capacity(alloc, body.len())?;
     if complex {
@@ -72,14 +73,18 @@ fn message_of(
     taken: HeaderRights,
     rights: Vec<CarriedRight>,
 ) -> Result<Message, SendFault>
-    ensures { Gave (unless_failing ((sending.is_full state.now.current taken.port && not (same_kind taken.kind right_kind.SendOnce), KernReturn.SendTimedOut) ∷ []) (Ok (record {
-      destination = taken.kind;
-      reply = taken.reply;
-      id = read.entry.header.id;
-      complex = list_any is_port_item (map item_value read.entry.items.now);
-      rights = rights.items;
-      body = if read.entry.header.complex then items_encoding (map as_stored (map item_value read.entry.items.now)) else read.entry.body.now;
-    }))) (λ message found. found ≡ message) result }
+    ensures { Gave (unless_failing
+        ((
+          sending.is_full state.now.current taken.port && not (same_kind taken.kind right_kind.SendOnce),
+          KernReturn.SendTimedOut,
+        ) ∷ []) (Ok (record {
+          destination = taken.kind;
+          reply = taken.reply;
+          id = read.entry.header.id;
+          complex = list_any is_port_item (map item_value read.entry.items.now);
+          rights = rights.items;
+          body = if read.entry.header.complex then items_encoding (map as_stored (map item_value read.entry.items.now)) else read.entry.body.now;
+        }))) (λ message found. found ≡ message) result }
 {
     if is_stopped(state, taken.port, taken.kind) {
         return Err(SendFault::Refused(KernReturn::SendTimedOut));
@@ -104,7 +109,9 @@ fn take_all(
     named: Named,
     effects: &mut Effects,
 ) -> Result<(Message, u64), SendFault>
-    ensures ready { Gave (and_then (sending.take_header state.old.current space named.remote named.destination named.local named.reply) (λ (taken : sending.TakenHeader).
+    ensures ready { Gave (and_then
+        (sending.take_header state.old.current space named.remote named.destination named.local named.reply)
+        (λ (taken : sending.TakenHeader).
         and_then (or_refused KernReturn.SendInvalidRight (sending.take_items space (map item_value read.entry.items.now) (record { rights = []; state = taken.state; notices = [] }))) (λ (rights : sending.TakenRights).
         let ready : Ready = sending.ready_message (parts_by read.entry.header read.entry.body.now) (map item_value read.entry.items.now) taken rights in
         unless_failing (sending.tests_of_queue ready) (Ok ready))))
@@ -127,7 +134,9 @@ fn ready_of_items(
     reply: Option<Disposition>,
     effects: &mut Effects,
 ) -> Result<(Message, u64), SendFault>
-    ensures ready { Gave (sending.ready_of_items state.old.current space (parts_by read.entry.header read.entry.body.now) destination reply (map item_value read.entry.items.now)) (ReadyIs state.new.current effects.old effects.new) result }
+    ensures ready { Gave (sending.ready_of_items state.old.current space
+        (parts_by read.entry.header read.entry.body.now) destination reply (map item_value read.entry.items.now))
+        (ReadyIs state.new.current effects.old effects.new) result }
     ensures before { state.new.before ≡ state.old.before }
 {
     if has_too_many_ports(read.items) {
@@ -154,7 +163,8 @@ fn ready_by_header(
     body: &[u8],
     effects: &mut Effects,
 ) -> Result<(Message, u64), SendFault>
-    ensures ready { Gave (of_dispositions state.old.current space (parts_by header body.now)) (ReadyIs state.new.current effects.old effects.new) result }
+    ensures ready { Gave (of_dispositions state.old.current space (parts_by header body.now))
+        (ReadyIs state.new.current effects.old effects.new) result }
     ensures before { state.new.before ≡ state.old.before }
 {
     let destination = destination_disposition(header.remote_disposition)?;
@@ -178,7 +188,8 @@ pub(crate) fn ready(
     effects: &mut Effects,
 ) -> Result<(Message, u64), SendFault>
     requires none { effects.old ≡ [] }
-    ensures ready { IfOk result (λ found. ready_to_send state.old.current space message.now ≡ Ok (record { message = found.0; port = found.1; state = state.new.current; notices = effects.new })) }
+    ensures ready { IfOk result (λ found. ready_to_send state.old.current space message.now
+        ≡ Ok (record { message = found.0; port = found.1; state = state.new.current; notices = effects.new })) }
     ensures refused { IfErr result (λ fault. IsToldBy (ready_to_send state.old.current space message.now) fault) }
     ensures before { state.new.before ≡ state.old.before }
 {

@@ -34,7 +34,8 @@ pub fn send(
     requires there { IsSome (map.get state.old.current.spaces space) }
     requires lawful { Lawful state.old.current }
     requires acyclic { Acyclic state.old.current }
-    ensures sent { OnOk result (WasSent (ready_to_send state.old.current space message.now) state.new.current effects.new) }
+    ensures sent { OnOk result (WasSent
+        (ready_to_send state.old.current space message.now) state.new.current effects.new) }
     ensures refused { IfErr result (λ fault. IsToldBy (ready_to_send state.old.current space message.now) fault) }
     ensures before { state.new.before ≡ state.old.before }
 {

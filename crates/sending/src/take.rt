@@ -23,7 +23,9 @@ pub(crate) fn take(
     code: KernReturn,
     effects: &mut Effects,
 ) -> Result<CarriedRight, SendFault>
-    ensures taken { Gave (or_refused code (copy_in state.old.current space name disposition)) (λ taken right. (right ≡ taken.right) × (state.new.current ≡ taken.state) × (effects.new ≡ effects.old ++ taken.notices)) result }
+    ensures taken { Gave (or_refused code (copy_in state.old.current space name disposition))
+        (λ taken right. (right ≡ taken.right) × (state.new.current ≡ taken.state)
+        × (effects.new ≡ effects.old ++ taken.notices)) result }
     ensures before { state.new.before ≡ state.old.before }
 {
     match take_right(state, space, name, disposition, effects)? {

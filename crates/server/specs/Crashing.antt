@@ -29,11 +29,14 @@ module _ {D : Type 0} (answers : AloneValue D → Call → Reply → AloneValue 
   abbrev pub MakesBoth : AloneValue D → Call → Call → Reply → AloneValue D → List Record → Type 0
   MakesBoth old send receive answer new records =
       (sent : Reply) × (mid : AloneValue D) × answers old send sent mid
-      × MatchBool (succeeded send sent) (answers mid receive answer new × (records ≡ record_of old.space send sent ++ record_of mid.space receive answer))
+      × MatchBool (succeeded send sent)
+      (answers mid receive answer new
+      × (records ≡ record_of old.space send sent ++ record_of mid.space receive answer))
       ((answer ≡ sent) × (new ≡ mid) × (records ≡ record_of old.space send sent))
 
   abbrev pub MakesMessage : AloneValue D → Option Call → Option Call → Reply → AloneValue D → List Record → Type 0
-  MakesMessage old None None answer new records = (answer ≡ without_message Success 0 MACH_PORT_NULL) × (new ≡ old) × (records ≡ [])
+  MakesMessage old None None answer new records =
+      (answer ≡ without_message Success 0 MACH_PORT_NULL) × (new ≡ old) × (records ≡ [])
   MakesMessage old (Some send) None answer new records = MakesOne old send answer new records
   MakesMessage old None (Some receive) answer new records = MakesOne old receive answer new records
   MakesMessage old (Some send) (Some receive) answer new records = MakesBoth old send receive answer new records
@@ -41,7 +44,8 @@ module _ {D : Type 0} (answers : AloneValue D → Call → Reply → AloneValue 
   abbrev pub MakesRequest : AloneValue D → Request → Reply → AloneValue D → List Record → Type 0
   MakesRequest old (request.One c) answer new records = MakesOne old c answer new records
   MakesRequest old (request.Message m) answer new records = MakesMessage old m.send m.receive answer new records
-  MakesRequest old (request.Answered code) answer new records = (answer ≡ without_message code 0 MACH_PORT_NULL) × (new ≡ old) × (records ≡ [])
+  MakesRequest old (request.Answered code) answer new records =
+      (answer ≡ without_message code 0 MACH_PORT_NULL) × (new ≡ old) × (records ≡ [])
 
   abbrev pub Makes : AloneValue D → List ℕ → Reply → AloneValue D → List Record → Type 0
   Makes old content answer new records =
@@ -49,10 +53,12 @@ module _ {D : Type 0} (answers : AloneValue D → Call → Reply → AloneValue 
       ⊎ ((IsRefused old content answer new ⊎ LacksMemory old content answer new) × (records ≡ []))
 
   -- the same for frames one after another; the time after a frame makes no record
-  abbrev pub MakesAll : (AloneValue D → AloneValue D → Type 0) → AloneValue D → Exchanges → AloneValue D → List Record → Type 0
+  abbrev pub MakesAll : (AloneValue D → AloneValue D → Type 0) → AloneValue D → Exchanges → AloneValue D → List Record
+      → Type 0
   MakesAll rests old [] new records = (new ≡ old) × (records ≡ [])
   MakesAll rests old (exchange ∷ exchanges) new records =
-      (mid later : AloneValue D) × (first rest : List Record) × Makes old exchange.0 exchange.1 mid first × rests mid later × MakesAll rests later exchanges new rest
+      (mid later : AloneValue D) × (first rest : List Record) × Makes old exchange.0 exchange.1 mid first
+      × rests mid later × MakesAll rests later exchanges new rest
       × (records ≡ first ++ rest)
 
 -- slots that stand for the state after the first ones of these records, which follow a state
@@ -84,41 +90,51 @@ AreOf calls (entry ∷ records) = IsAmong entry.call calls × AreOf calls record
 
 -- Frames that were answered, with the time after each: a crash now leaves the state after all the records that their
 -- calls made, and a crash at any moment since the first frame leaves the state after a prefix of these.
-pub record IsStoredWhole {D : Type 0} (honest : Type 0) (view : D → View) (old : AloneValue D) (exchanges : Exchanges) (new : AloneValue D) : Type 0 where
+pub record IsStoredWhole {D : Type 0} (honest : Type 0) (view : D → View) (old : AloneValue D) (exchanges : Exchanges)
+    (new : AloneValue D) : Type 0 where
   pub records : List Record
   pub made : MakesAll (AnswersKept honest view) (RestsKept honest view) old exchanges new records
   pub held : IsHeld (view new.store.disk) new.kernel
-  pub any_moment : (c : Slots) → LeftSince (view new.store.disk) (view old.store.disk).moment c → StandsWithin old.kernel records c
+  pub any_moment : (c : Slots) → LeftSince (view new.store.disk) (view old.store.disk).moment c
+      → StandsWithin old.kernel records c
 
 abbrev pub AnsweredIsStored : {D : Type 0} → Type 0 → (D → View) → Type 0
 AnsweredIsStored {D} honest view =
     (old : AloneValue D) (exchanges : Exchanges) (new : AloneValue D) → honest → IsHeld (view old.store.disk) old.kernel
-    → Answers (AnswersKept honest view) (RestsKept honest view) old exchanges new → IsStoredWhole honest view old exchanges new
+    → Answers (AnswersKept honest view) (RestsKept honest view) old exchanges new
+    → IsStoredWhole honest view old exchanges new
 
 -- One frame that was answered, before any time is given: the last one of a connection whose reply couldn't be written,
 -- or whose caller failed after it.
-pub record IsStoredFrame {D : Type 0} (honest : Type 0) (view : D → View) (old : AloneValue D) (content : List ℕ) (answer : Reply) (new : AloneValue D) : Type 0 where
+pub record IsStoredFrame {D : Type 0} (honest : Type 0) (view : D → View) (old : AloneValue D) (content : List ℕ)
+    (answer : Reply) (new : AloneValue D) : Type 0 where
   pub records : List Record
   pub made : Makes (AnswersKept honest view) old content answer new records
   pub held : IsHeld (view new.store.disk) new.kernel
-  pub any_moment : (c : Slots) → LeftSince (view new.store.disk) (view old.store.disk).moment c → StandsWithin old.kernel records c
+  pub any_moment : (c : Slots) → LeftSince (view new.store.disk) (view old.store.disk).moment c
+      → StandsWithin old.kernel records c
 
 abbrev pub FrameIsStored : {D : Type 0} → Type 0 → (D → View) → Type 0
 FrameIsStored {D} honest view =
-    (old : AloneValue D) (content : List ℕ) (answer : Reply) (new : AloneValue D) → honest → IsHeld (view old.store.disk) old.kernel
+    (old : AloneValue D) (content : List ℕ) (answer : Reply) (new : AloneValue D) → honest
+    → IsHeld (view old.store.disk) old.kernel
     → IsAnswered (AnswersKept honest view) old content answer new → IsStoredFrame honest view old content answer new
 
 -- A frame whose calls failed in the store: a crash at any moment since it began leaves the state after some records,
 -- maybe none, each of which is of one of its calls.
 abbrev pub FailureLosesNothing : {D : Type 0} → Type 0 → (D → View) → Type 0
 FailureLosesNothing {D} honest view =
-    (old : AloneValue D) (content : List ℕ) (fault : StoreFault) (new : AloneValue D) → honest → IsHeld (view old.store.disk) old.kernel
-    → IsFailed (AnswersKept honest view) (FailsKept honest view) old content fault new → (c : Slots) → LeftSince (view new.store.disk) (view old.store.disk).moment c
-    → (asks : Request) × Asks content asks × ((records : List Record) × AreOf (calls_of asks) records × StandsWithin old.kernel records c)
+    (old : AloneValue D) (content : List ℕ) (fault : StoreFault) (new : AloneValue D) → honest
+    → IsHeld (view old.store.disk) old.kernel
+    → IsFailed (AnswersKept honest view) (FailsKept honest view) old content fault new → (c : Slots)
+    → LeftSince (view new.store.disk) (view old.store.disk).moment c
+    → (asks : Request) × Asks content asks
+    × ((records : List Record) × AreOf (calls_of asks) records × StandsWithin old.kernel records c)
 
 -- Time after a reply that ended with a fault of the store: a crash at any moment since it began leaves the state as it
 -- was.
 abbrev pub BreakingLosesNothing : {D : Type 0} → Type 0 → (D → View) → Type 0
 BreakingLosesNothing {D} honest view =
     (old : AloneValue D) (fault : StoreFault) (new : AloneValue D) → honest → IsHeld (view old.store.disk) old.kernel
-    → BreaksKept honest view old fault new → (c : Slots) → LeftSince (view new.store.disk) (view old.store.disk).moment c → Recovered (as_written c) old.kernel
+    → BreaksKept honest view old fault new → (c : Slots)
+    → LeftSince (view new.store.disk) (view old.store.disk).moment c → Recovered (as_written c) old.kernel

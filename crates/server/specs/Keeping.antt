@@ -27,7 +27,9 @@ pub record AloneValue (D : Type 0) : Type 0 where
 
 abbrev pub alone_code : {D : Type 0} → Coded D → Coded (AloneValue D)
 alone_code {D = D} code =
-    code_by (State × (StoreValue D × (ℕ × Bool))) (coded× state_code (coded× (store_code code) (coded× coded_ℕ coded_bool))) (λ a. (a.kernel, (a.store, (a.space, a.failed))))
+    code_by (State × (StoreValue D × (ℕ × Bool)))
+    (coded× state_code (coded× (store_code code) (coded× coded_ℕ coded_bool)))
+    (λ a. (a.kernel, (a.store, (a.space, a.failed))))
     (λ p. record { kernel = p.0; store = p.1.0; space = p.1.1.0; failed = p.1.1.1 }) (λ _. refl)
 
 -- nothing changed but the space that the caller is attached to
@@ -35,8 +37,10 @@ abbrev pub IsMoved : {D : Type 0} → AloneValue D → AloneValue D → Type 0
 IsMoved old new = new ≡ record { kernel = old.kernel; store = old.store; space = new.space; failed = old.failed }
 
 -- A call's record is one more in the segment in use; a checkpoint under way stays as it is.
-pub record IsCounted {D : Type 0} (old : StoreValue D) (call : Call) (answer : Reply) (new : StoreValue D) : Type 0 where
-  pub segment : new.segment ≡ record old.segment { records = old.segment.records + (if has_record call answer then 1 else 0) }
+pub record IsCounted {D : Type 0} (old : StoreValue D) (call : Call) (answer : Reply)
+    (new : StoreValue D) : Type 0 where
+  pub segment : new.segment ≡ record old.segment
+      { records = old.segment.records + (if has_record call answer then 1 else 0) }
   pub checkpoint : new.checkpoint ≡ old.checkpoint
 
 -- this state is recovered from whatever a crash leaves
@@ -47,12 +51,16 @@ IsHeld disk state = (c : Slots) → MayLeave disk c → Recovered (as_written c)
 -- record leaves.
 abbrev pub IsBeforeOrAfter : State → ℕ → Call → State → Slots → Type 0
 IsBeforeOrAfter before space call after c =
-    Recovered (as_written c) before ⊎ ((reply : Reply) × Step before space call reply after × (has_record call reply ≡ true) × Recovered (as_written c) after)
+    Recovered (as_written c) before
+    ⊎ ((reply : Reply) × Step before space call reply after × (has_record call reply ≡ true)
+    × Recovered (as_written c) after)
 
 -- What a single-connection caller may answer: what the machine does in the space that the caller is attached to. If the
 -- call attached it to another space, it is attached there from now on. It didn't fail.
 abbrev pub AnswersStored : {D : Type 0} → AloneValue D → Call → Reply → AloneValue D → Type 0
-AnswersStored old call answer new = StepOrShortage old.kernel old.space call answer new.kernel × (new.space ≡ space_after old.space call answer) × (new.failed ≡ false)
+AnswersStored old call answer new =
+    StepOrShortage old.kernel old.space call answer new.kernel × (new.space ≡ space_after old.space call answer)
+    × (new.failed ≡ false)
 
 -- out of memory: what is due of a checkpoint allocates, and nothing changed
 abbrev pub IsShortOf : {D : Type 0} → AloneValue D → AloneValue D → Type 0
@@ -65,7 +73,8 @@ module _ {D : Type 0} (honest : Type 0) (view : D → View) where
     pub stored : AnswersStored old call answer new
     pub unrecorded : has_record call answer ≡ false → IsMoved old new
     pub counted : IsCounted old.store call answer new.store
-    pub passes : honest → Passes (view old.store.disk) (view new.store.disk) (IsBeforeOrAfter old.kernel old.space call new.kernel)
+    pub passes : honest → Passes (view old.store.disk) (view new.store.disk)
+        (IsBeforeOrAfter old.kernel old.space call new.kernel)
     pub held : honest → IsHeld (view new.store.disk) new.kernel
 
   -- A call that fails in the store: the device failed, or a call before did. The caller can't be used any more; a crash
@@ -74,14 +83,16 @@ module _ {D : Type 0} (honest : Type 0) (view : D → View) where
     pub failed : new.failed ≡ true
     pub device : old.failed ≡ false → fault ≡ Device
     pub failed_before : old.failed ≡ true → (fault ≡ Failed) × (new ≡ old)
-    pub passes : honest → Passes (view old.store.disk) (view new.store.disk) (IsBeforeOrAfter old.kernel old.space call new.kernel)
+    pub passes : honest → Passes (view old.store.disk) (view new.store.disk)
+        (IsBeforeOrAfter old.kernel old.space call new.kernel)
 
   -- Time after a reply of a single-connection caller that didn't fail. What is due of a checkpoint is done, unless
   -- memory runs out; only the store changes. On an honest disk, a crash at any moment of that time and after it leaves
   -- the state it had.
   pub record RestsKept (old new : AloneValue D) : Type 0 where
     pub same : new ≡ record old { store = new.store }
-    pub goes : GoesOn honest view CHECKPOINT_RECORDS old.kernel old.store.checkpoint old.store new.store ⊎ IsShortOf old new
+    pub goes : GoesOn honest view CHECKPOINT_RECORDS old.kernel old.store.checkpoint old.store new.store
+        ⊎ IsShortOf old new
     pub passes : honest → Passes (view old.store.disk) (view new.store.disk) (λ c. Recovered (as_written c) old.kernel)
     pub held : honest → IsHeld (view new.store.disk) new.kernel
 

@@ -46,7 +46,8 @@ unlocked_end lock.Unlockable = Unlockable
 unlocked_end lock.Device = Fault (Store Device)
 
 -- the store can't be opened; nothing was read or written
-pub record Unopened (input before : List ℕ) (left written : Option (List ℕ)) (result : Result (Unit {0}) ServeFault) : Type 0 where
+pub record Unopened (input before : List ℕ) (left written : Option (List ℕ))
+    (result : Result (Unit {0}) ServeFault) : Type 0 where
   pub fault : StoreFault
   pub fault_is : result ≡ Err (Store fault)
   pub unread : left ≡ Some input
@@ -60,7 +61,8 @@ module _ {D : Type 0} (honest : Type 0) (view : D → View) (input before : List
     pub attached : old.space ≡ 1
     pub works : old.failed ≡ false
     pub held : honest → IsHeld (view old.store.disk) old.kernel
-    pub ends : Ends (AnswersKept honest view) (FailsKept honest view) (RestsKept honest view) (BreaksKept honest view) old new input before left written result
+    pub ends : Ends (AnswersKept honest view) (FailsKept honest view) (RestsKept honest view)
+        (BreaksKept honest view) old new input before left written result
 
   abbrev pub IsRun : Result (Unit {0}) ServeFault → Type 0
   IsRun result = Unopened input before left written result ⊎ ServesOpened result

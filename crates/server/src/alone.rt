@@ -58,7 +58,8 @@ impl<D: Disk> Model for Alone<D> {
     ghost view = { λ a. record { kernel = a.system.core.kernel; store = a.system.store; space = a.space; failed = a.failed } };
 
     // Until a call fails, nothing waits between calls, and the store holds what the kernel holds.
-    ghost invariant = { λ a. a.failed ≡ false → IsResting a.system × (D.honest → IsStanding D.view a.system.store a.system.core.kernel) };
+    ghost invariant = { λ a. a.failed ≡ false → IsResting a.system
+        × (D.honest → IsStanding D.view a.system.store a.system.core.kernel) };
 }
 
 impl<D: Disk> Alone<D> {
@@ -117,7 +118,8 @@ impl<D: Disk> Caller for Alone<D> {
         ensures failures { D.failed_calls self.new.store.disk ≡ counted result (D.failed_calls self.old.store.disk) }
         // A crash at any moment from the beginning of the call to its end leaves the state before it or the state after
         // it, also if the call fails.
-        ensures any_moment { D.honest → self.old.failed ≡ false → (c : Slots) → LeftSince (D.view self.new.store.disk) (D.view self.old.store.disk).moment c
+        ensures any_moment { D.honest → self.old.failed ≡ false → (c : Slots)
+            → LeftSince (D.view self.new.store.disk) (D.view self.old.store.disk).moment c
             → IsBeforeOrAfter self.old.kernel self.old.space call self.new.kernel c }
         ensures passes { D.honest → Passes (D.view self.old.store.disk) (D.view self.new.store.disk)
             (IsBeforeOrAfter self.old.kernel self.old.space call self.new.kernel) }
@@ -156,7 +158,8 @@ impl<D: Disk> Caller for Alone<D> {
         ensures failures { D.failed_calls self.new.store.disk ≡ counted result (D.failed_calls self.old.store.disk) }
         // A crash at any moment from the beginning of that time to its end leaves the state as it was, also if it
         // fails.
-        ensures any_moment { D.honest → self.old.failed ≡ false → (c : Slots) → LeftSince (D.view self.new.store.disk) (D.view self.old.store.disk).moment c
+        ensures any_moment { D.honest → self.old.failed ≡ false → (c : Slots)
+            → LeftSince (D.view self.new.store.disk) (D.view self.old.store.disk).moment c
             → Recovered (as_written c) self.old.kernel }
         ensures failed { self.old.failed ≡ true → (IsErrOf result StoreFault.Failed) × (self.new ≡ self.old) }
     {
@@ -191,7 +194,8 @@ fn make_call<D: Disk>(
     call: &Call,
 ) -> Result<Reply, StoreFault>
     requires { IsResting system.old }
-    ensures answers { IfOk result (λ reply. StepOrShortage system.old.core.kernel space call.now reply system.new.core.kernel) }
+    ensures answers { IfOk result
+        (λ reply. StepOrShortage system.old.core.kernel space call.now reply system.new.core.kernel) }
     ensures frame { IfOk result (λ reply. length (reply_encoding reply) ≤ MAX_FRAME_CONTENT) }
     ensures passes { D.honest → IsStanding D.view system.old.store system.old.core.kernel
         → Passes (D.view system.old.store.disk) (D.view system.new.store.disk)

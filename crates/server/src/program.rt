@@ -101,7 +101,9 @@ where
     // line.
     ensures ended { IfSome (I.remaining input.old) (λ bytes. IfSome (O.contents output.old) (λ before.
         (end : LoneEnd) × (result ≡ status_of end) × AppendsPart (E.contents errors.old) (E.contents errors.new) (line_of end)
-        × EndsAlone ⟦<FileDisk<&'a F> as Disk>⟧.honest ⟦<FileDisk<&'a F> as Disk>⟧.view bytes before (I.remaining input.new) (O.contents output.new) (option_map (λ encodings. length encodings.now) words.entry) end)) }
+        × EndsAlone ⟦<FileDisk<&'a F> as Disk>⟧.honest ⟦<FileDisk<&'a F> as Disk>⟧.view bytes before
+        (I.remaining input.new) (O.contents output.new)
+        (option_map (λ encodings. length encodings.now) words.entry) end)) }
 {
     let end = run_alone(alloc, files, words, input, output);
     let _ = end.tell(errors);

@@ -47,9 +47,12 @@ pub fn close<L: Founding, D: Disk, G: Drop>(
     ensures apart { IfOk result (λ book. AreApart (tasks_of sessions.items)) }
     ensures legal { IfOk result (λ book. AreLegal L.base book.past.entries sessions.items) }
     ensures most { IfOk result (λ book. length sessions.items ≤ book.made) }
-    ensures all { IfOk result (λ book. length sessions.items ≡ book.made → AreAll (records_of book.past.entries) (tasks_of sessions.items)) }
-    ensures acknowledged { IfOk result (λ book. All (λ session. session.task.acknowledged ≤ book.stored) sessions.items) }
-    ensures left { IfOk result (λ book. D.honest → (c : Slots) → MayLeave (D.view book.disk) c → StandsFor L.base book.stored (records_of book.past.entries) c) }
+    ensures all { IfOk result (λ book. length sessions.items ≡ book.made
+        → AreAll (records_of book.past.entries) (tasks_of sessions.items)) }
+    ensures acknowledged { IfOk result
+        (λ book. All (λ session. session.task.acknowledged ≤ book.stored) sessions.items) }
+    ensures left { IfOk result (λ book. D.honest → (c : Slots) → MayLeave (D.view book.disk) c
+        → StandsFor L.base book.stored (records_of book.past.entries) c) }
     ensures unmatched { IfErr result (λ unmatched. D.honest → IsLeft L.base unmatched.stored (D.view unmatched.disk)) }
 {
     let (keeper, store_keeper) = into_halves(shared);

@@ -73,7 +73,8 @@ impl<L: Founding> KernelGuarded<L> {
         call: &Call,
         bell: Option<&Bell>,
     ) -> (Session<L>, Result<Ticket, SubmitFault>)
-        ensures given { IfOk result.1 (λ ticket. Did L.base session (called call.now ticket.answer) result.0 × (ticket.seen ≡ result.0.task.seen)) }
+        ensures given { IfOk result.1 (λ ticket. Did L.base session (called call.now ticket.answer) result.0
+            × (ticket.seen ≡ result.0.task.seen)) }
         ensures err { OnErr result.1 (Did L.base session looked result.0) }
     {
         let waiter = self.waiters.take(session.number());

@@ -106,7 +106,8 @@ impl<L: Founding, D: Disk, G: Drop> Shared<L, D, G> {
 
     /// A new session, of a task that is attached to space 1 and has seen all that was made.
     pub fn session(&self, rt: &impl Wait) -> Result<Session<L>, SessionFault>
-        ensures new { IfOk result (λ session. (session.task.space ≡ FIRST_SPACE) × (session.task.acknowledged ≡ 0) × (session.task.tickets ≡ []) × (session.task.places ≡ [])) }
+        ensures new { IfOk result (λ session. (session.task.space ≡ FIRST_SPACE) × (session.task.acknowledged ≡ 0)
+            × (session.task.tickets ≡ []) × (session.task.places ≡ [])) }
     {
         self.guarded.lock(rt).keeper.session()
     }
@@ -123,7 +124,8 @@ impl<L: Founding, D: Disk, G: Drop> Shared<L, D, G> {
         session: Session<L>,
         call: &Call,
     ) -> (Session<L>, Result<Ticket, SubmitFault>)
-        ensures given { IfOk result.1 (λ ticket. Did L.base session (called call.now ticket.answer) result.0 × (ticket.seen ≡ result.0.task.seen)) }
+        ensures given { IfOk result.1 (λ ticket. Did L.base session (called call.now ticket.answer) result.0
+            × (ticket.seen ≡ result.0.task.seen)) }
         ensures err { OnErr result.1 (Did L.base session looked result.0) }
     {
         let guarded = self.lock_guarded(rt);
@@ -144,7 +146,8 @@ impl<L: Founding, D: Disk, G: Drop> Shared<L, D, G> {
         seat: &Seat<P>,
         may_wait: bool,
     ) -> (Session<L>, Result<Ticket, NotMade>)
-        ensures given { IfOk result.1 (λ ticket. Did L.base session (called call.now ticket.answer) result.0 × (ticket.seen ≡ result.0.task.seen)) }
+        ensures given { IfOk result.1 (λ ticket. Did L.base session (called call.now ticket.answer) result.0
+            × (ticket.seen ≡ result.0.task.seen)) }
         ensures err { OnErr result.1 (Did L.base session looked result.0) }
     {
         let mut guarded = self.lock_guarded(rt);
@@ -173,7 +176,8 @@ impl<L: Founding, D: Disk, G: Drop> Shared<L, D, G> {
         call: &Call,
         bell: Option<&Bell>,
     ) -> (Session<L>, Result<Ticket, SubmitFault>)
-        ensures given { IfOk result.1 (λ ticket. Did L.base session (called call.now ticket.answer) result.0 × (ticket.seen ≡ result.0.task.seen)) }
+        ensures given { IfOk result.1 (λ ticket. Did L.base session (called call.now ticket.answer) result.0
+            × (ticket.seen ≡ result.0.task.seen)) }
         ensures err { OnErr result.1 (Did L.base session looked result.0) }
     {
         let mut guarded = guarded;
@@ -253,7 +257,8 @@ impl<L: Founding, D: Disk, G: Drop> Shared<L, D, G> {
         session: Session<L>,
         ticket: Ticket,
     ) -> (Session<L>, Result<Reply, StoreFault>)
-        ensures redeemed { IfOk result.1 (λ reply. (reply ≡ ticket.answer) × Did L.base session (redemption session.task ticket.seen) result.0) }
+        ensures redeemed { IfOk result.1
+            (λ reply. (reply ≡ ticket.answer) × Did L.base session (redemption session.task ticket.seen) result.0) }
         ensures fits { IfOk result.1 (λ reply. length (reply_encoding reply) ≤ MAX_FRAME_CONTENT) }
         ensures err { OnErr result.1 (result.0 ≡ session) }
     {

@@ -19,11 +19,13 @@ use Rattle.wire.specs.declared.fault.WireFault.{WireFault}
 use Rattle.std.specs.Io.{StopsAt}
 use Rattle.std.specs.Io.BufRead.{strip_last}
 
-pub on_ok_if : {T E Q : Type 0} (r : Result T E) (new x y : List ℕ) → (new ≡ x → Q) → new ≡ (if is_ok r then x else y) → OnOk r Q
+pub on_ok_if : {T E Q : Type 0} (r : Result T E) (new x y : List ℕ) → (new ≡ x → Q) → new ≡ (if is_ok r then x else y)
+    → OnOk r Q
 on_ok_if (Ok v) new x y f is = f is
 on_ok_if (Err e) new x y f is = tt
 
-pub joined : (old x y z m first second third fourth : List ℕ) → first ≡ old ++ x → second ≡ first ++ y → third ≡ second ++ z → fourth ≡ third ++ m → fourth ≡ old ++ (x ++ (y ++ (z ++ m)))
+pub joined : (old x y z m first second third fourth : List ℕ) → first ≡ old ++ x → second ≡ first ++ y
+    → third ≡ second ++ z → fourth ≡ third ++ m → fourth ≡ old ++ (x ++ (y ++ (z ++ m)))
 joined old x y z m first second third fourth a b c d =
     d ∙ ap (λ l. l ++ m) (c ∙ ap (λ l. l ++ z) (b ∙ ap (λ l. l ++ y) a))
     ∙ append_assoc ((old ++ x) ++ y) z m ∙ append_assoc (old ++ x) y (z ++ m) ∙ append_assoc old x (y ++ (z ++ m))
@@ -36,13 +38,18 @@ pub not_chosen : (b : Bool) (x y : ℕ) → b ≡ false → y ≡ (if b then x e
 not_chosen true x y is = absurd cc
 not_chosen false x y is = refl
 
-pub names_reply : (results rows : List ℕ) (count : ℕ) (items names : List NamedType) → results ≡ word count ++ rows → count < 2 ^ 32
-    → rows ≡ flat_map (λ (n : NamedType). word n.name ++ word n.bits) items → All (λ (n : NamedType). (n.name < 2 ^ 32) × (n.bits < 2 ^ 32)) items → length items ≡ count → names ≡ items
+pub names_reply : (results rows : List ℕ) (count : ℕ) (items names : List NamedType) → results ≡ word count ++ rows
+    → count < 2 ^ 32
+    → rows ≡ flat_map (λ (n : NamedType). word n.name ++ word n.bits) items
+    → All (λ (n : NamedType). (n.name < 2 ^ 32) × (n.bits < 2 ^ 32)) items → length items ≡ count → names ≡ items
     → IsReplyTo MACH_PORT_NAMES (done_encoding MACH_PORT_NAMES results) (reply.Names names)
 unfolding reply_encoding
 names_reply results rows count items names front fits row fit few is =
-    subst (λ (ns : List NamedType). IsReplyTo MACH_PORT_NAMES (done_encoding MACH_PORT_NAMES results) (reply.Names ns)) (sym is) (record {
-      text = ap (λ (l : List ℕ). done_encoding MACH_PORT_NAMES l) (front ∙ ap (λ (n : ℕ). word n ++ rows) (sym few) ∙ ap (λ (l : List ℕ). word (length items) ++ l) row);
+    subst (λ (ns : List NamedType). IsReplyTo MACH_PORT_NAMES (done_encoding MACH_PORT_NAMES results) (reply.Names ns))
+    (sym is) (record {
+      text =
+          ap (λ (l : List ℕ). done_encoding MACH_PORT_NAMES l)
+          (front ∙ ap (λ (n : ℕ). word n ++ rows) (sym few) ∙ ap (λ (l : List ℕ). word (length items) ++ l) row);
       fits = (subst (λ (n : ℕ). n < 2 ^ 32) (sym few) fits, fit);
       of_call = refl;
       own = tt;
@@ -60,15 +67,20 @@ pub at_any : {T E P : Type 0} (r : Result T E) → P → OnErr r P
 at_any (Ok x) p = tt
 at_any (Err e) p = p
 
-pub none_done : (r : Result Turn WireFault) (number : ℕ) (peer : Side) (written : Option (List ℕ)) → OnErr r (DoesPart number peer written written)
+pub none_done : (r : Result Turn WireFault) (number : ℕ) (peer : Side) (written : Option (List ℕ))
+    → OnErr r (DoesPart number peer written written)
 none_done r number peer written = at_any r ([], inl refl, ([], [], refl, Appends-nil written))
 
-pub part_said : (r : Result Turn WireFault) (number : ℕ) (line : List ℕ) (peer peer_new : Side) (written written_new : Option (List ℕ)) (text : List ℕ) (well : Bool)
-    → Hears number (asked_read line) peer peer_new text well → AppendsPart written written_new text → OnErr r (DoesPart number peer written written_new)
-part_said r number line peer peer_new written written_new text well heard part = at_any r (text, inr (line, peer_new, well, heard), part)
+pub part_said : (r : Result Turn WireFault) (number : ℕ) (line : List ℕ) (peer peer_new : Side)
+    (written written_new : Option (List ℕ)) (text : List ℕ) (well : Bool)
+    → Hears number (asked_read line) peer peer_new text well → AppendsPart written written_new text
+    → OnErr r (DoesPart number peer written written_new)
+part_said r number line peer peer_new written written_new text well heard part =
+    at_any r (text, inr (line, peer_new, well, heard), part)
 
 -- no line could be read
-pub stopped_reading : (r : Result Bool WireFault) (own peer own_mid peer_mid : Side) (left : Option (List ℕ)) (n : ℕ) (well : Bool) → Talk own peer n well own_mid peer_mid → OnErr r (Stops own peer (as_left left own_mid))
+pub stopped_reading : (r : Result Bool WireFault) (own peer own_mid peer_mid : Side) (left : Option (List ℕ)) (n : ℕ)
+    (well : Bool) → Talk own peer n well own_mid peer_mid → OnErr r (Stops own peer (as_left left own_mid))
 stopped_reading r own peer own_mid peer_mid left n well lines = at_any r (record {
   count = n;
   well = well;
@@ -79,8 +91,10 @@ stopped_reading r own peer own_mid peer_mid left n well lines = at_any r (record
 })
 
 -- one more line
-pub goes_on : (own peer own_mid peer_mid own_new peer_new : Side) (n : ℕ) (well now all : Bool) (taken line : List ℕ) → Talk own peer n well own_mid peer_mid → Consumes own_mid.left own_new.left taken → StopsAt taken 10
-    → line ≡ strip_last 10 taken → Does (n + 1) line peer_mid peer_new own_mid.written own_new.written now → own_new.waiting ≡ [] → all ≡ (well && now) → Talk own peer (n + 1) all own_new peer_new
+pub goes_on : (own peer own_mid peer_mid own_new peer_new : Side) (n : ℕ) (well now all : Bool) (taken line : List ℕ)
+    → Talk own peer n well own_mid peer_mid → Consumes own_mid.left own_new.left taken → StopsAt taken 10
+    → line ≡ strip_last 10 taken → Does (n + 1) line peer_mid peer_new own_mid.written own_new.written now
+    → own_new.waiting ≡ [] → all ≡ (well && now) → Talk own peer (n + 1) all own_new peer_new
 goes_on own peer own_mid peer_mid own_new peer_new n well now all taken line so_far read one stripped does flushed is =
     subst (λ (b : Bool). Talk own peer (n + 1) b own_new peer_new) (sym is)
     (one_more n well now own_mid peer_mid own_new peer_new so_far (record {

@@ -38,14 +38,16 @@ said_well (asked.Exchange x) answer = is_same_reply answer x.reply
 abbrev pub Tells : ℕ → Call → Asked → List ℕ → List ℕ → Bool → Type 0
 Tells number c a content text well =
     ((text ≡ strange_line number) × (well ≡ false))
-    ⊎ ((answer : Reply) × IsReplyTo (number_of_call c) content answer × (text ≡ said_text number a answer) × (well ≡ said_well a answer))
+    ⊎ ((answer : Reply) × IsReplyTo (number_of_call c) content answer × (text ≡ said_text number a answer)
+    × (well ≡ said_well a answer))
 
 -- The frame of the call was sent and its reply was read, which determines what is printed; or the call is too long, and
 -- nothing was sent.
 abbrev pub AsksCall : ℕ → Call → Asked → Side → Side → List ℕ → Bool → Type 0
 AsksCall number c a peer peer_new text well =
     ((text ≡ long_line number) × (well ≡ false) × (peer_new ≡ peer))
-    ⊎ ((content : List ℕ) × Appends peer.written peer_new.written (frame_encoding (attempt_text c)) × Consumes peer.left peer_new.left (frame_encoding content) × Tells number c a content text well)
+    ⊎ ((content : List ℕ) × Appends peer.written peer_new.written (frame_encoding (attempt_text c))
+    × Consumes peer.left peer_new.left (frame_encoding content) × Tells number c a content text well)
 
 abbrev pub HearsAsked : ℕ → Asked → Option Call → Side → Side → List ℕ → Bool → Type 0
 HearsAsked number a None peer peer_new text well = (text ≡ []) × (well ≡ true) × (peer_new ≡ peer)
@@ -54,20 +56,25 @@ HearsAsked number a (Some c) peer peer_new text well = AsksCall number c a peer 
 -- What was sent, received and is printed for the line with this number, which asks for this.
 abbrev pub Hears : ℕ → Result Asked LineFault → Side → Side → List ℕ → Bool → Type 0
 Hears number (Ok a) peer peer_new text well = HearsAsked number a (call_of a) peer peer_new text well
-Hears number (Err (line_fault.Unreadable column what)) peer peer_new text well = (text ≡ wrong_line number column what) × (well ≡ false) × (peer_new ≡ peer)
+Hears number (Err (line_fault.Unreadable column what)) peer peer_new text well =
+    (text ≡ wrong_line number column what) × (well ≡ false) × (peer_new ≡ peer)
 Hears number (Err line_fault.NoMemory) peer peer_new text well = ⊥
 
 -- The line with this number was done: its text is written.
 abbrev pub Does : ℕ → List ℕ → Side → Side → Option (List ℕ) → Option (List ℕ) → Bool → Type 0
-Does number line peer peer_new written written_new well = (text : List ℕ) × Appends written written_new text × Hears number (asked_read line) peer peer_new text well
+Does number line peer peer_new written written_new well =
+    (text : List ℕ) × Appends written written_new text × Hears number (asked_read line) peer peer_new text well
 
 -- a line's text, or nothing
 abbrev pub IsLast : ℕ → Side → List ℕ → Type 0
-IsLast number peer text = (text ≡ []) ⊎ ((line : List ℕ) × (peer_new : Side) × (well : Bool) × Hears number (asked_read line) peer peer_new text well)
+IsLast number peer text =
+    (text ≡ []) ⊎ ((line : List ℕ) × (peer_new : Side) × (well : Bool)
+    × Hears number (asked_read line) peer peer_new text well)
 
 -- At most a prefix of a line's text was written.
 abbrev pub DoesPart : ℕ → Side → Option (List ℕ) → Option (List ℕ) → Type 0
-DoesPart number peer written written_new = (text : List ℕ) × IsLast number peer text × AppendsPart written written_new text
+DoesPart number peer written written_new =
+    (text : List ℕ) × IsLast number peer text × AppendsPart written written_new text
 
 -- A line was read from the front of the input, and was done as a whole: its text was written and flushed.
 pub record IsTurn (number : ℕ) (own peer own_new peer_new : Side) (well : Bool) : Type 0 where
@@ -81,7 +88,8 @@ pub record IsTurn (number : ℕ) (own peer own_new peer_new : Side) (well : Bool
 -- differed.
 pub data Talk (own peer : Side) : ℕ → Bool → Side → Side → Type 0 where
   begun : Talk own peer 0 true own peer
-  one_more : (n : ℕ) (well now : Bool) (own_mid peer_mid own_new peer_new : Side) → Talk own peer n well own_mid peer_mid
+  one_more : (n : ℕ) (well now : Bool) (own_mid peer_mid own_new peer_new : Side)
+      → Talk own peer n well own_mid peer_mid
       → IsTurn (n + 1) own_mid peer_mid own_new peer_new now → Talk own peer (n + 1) (well && now) own_new peer_new
 
 -- All lines were read and done.

@@ -36,7 +36,8 @@ fn push_message(
     timeout: u32,
     message: &[u8],
 ) -> Result<(), AllocError>
-    ensures { OnOk result (out.new.items ≡ out.old.items ++ (word call.0 ++ (word call.1 ++ (word receipt.0 ++ (word receipt.1 ++ (word timeout ++ message.now)))))) }
+    ensures { OnOk result (out.new.items ≡ out.old.items
+        ++ (word call.0 ++ (word call.1 ++ (word receipt.0 ++ (word receipt.1 ++ (word timeout ++ message.now)))))) }
 {
     push_two(out, call.0, call.1)?;
     push_two(out, receipt.0, receipt.1)?;

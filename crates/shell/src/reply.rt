@@ -19,7 +19,8 @@ use words::take_word;
 #[tactic(auto, unfolding(ipc_model::specs::texts::Texts::reply_encoding))]
 /// The names of a space, after their number.
 fn read_name_row(alloc: Global, results: &[u8]) -> Result<Option<Reply>, AllocError>
-    ensures { IfOk result (λ found. IfSome found (IsReplyTo MACH_PORT_NAMES (done_encoding MACH_PORT_NAMES results.now))) }
+    ensures { IfOk result (λ found. IfSome found
+        (IsReplyTo MACH_PORT_NAMES (done_encoding MACH_PORT_NAMES results.now))) }
 {
     let Some((count, rows)) = take_word(results) else {
         return Ok(None);
@@ -38,7 +39,8 @@ fn read_name_row(alloc: Global, results: &[u8]) -> Result<Option<Reply>, AllocEr
 #[tactic(auto, unfolding(ipc_model::specs::texts::Texts::reply_encoding))]
 /// The members of a set, after their number.
 fn read_member_row(alloc: Global, results: &[u8]) -> Result<Option<Reply>, AllocError>
-    ensures { IfOk result (λ found. IfSome found (IsReplyTo MACH_PORT_GET_SET_STATUS (done_encoding MACH_PORT_GET_SET_STATUS results.now))) }
+    ensures { IfOk result (λ found. IfSome found
+        (IsReplyTo MACH_PORT_GET_SET_STATUS (done_encoding MACH_PORT_GET_SET_STATUS results.now))) }
 {
     let Some((count, rows)) = take_word(results) else {
         return Ok(None);
@@ -141,7 +143,8 @@ fn read_message(
     code: KernReturn,
     results: &[u8],
 ) -> Result<Option<Reply>, AllocError>
-    ensures { IfOk result (λ found. IfSome found (IsReplyTo MACH_MSG (word MACH_MSG ++ (word (number_of code) ++ results.now)))) }
+    ensures { IfOk result (λ found. IfSome found
+        (IsReplyTo MACH_MSG (word MACH_MSG ++ (word (number_of code) ++ results.now)))) }
 {
     let Some((size, rest)) = take_word(results) else {
         return Ok(None);
@@ -177,7 +180,8 @@ fn read_answer(
     code: KernReturn,
     results: &[u8],
 ) -> Result<Option<Reply>, AllocError>
-    ensures { IfOk result (λ found. IfSome found (IsReplyTo number (word number ++ (word (number_of code) ++ results.now)))) }
+    ensures { IfOk result (λ found. IfSome found
+        (IsReplyTo number (word number ++ (word (number_of code) ++ results.now)))) }
 {
     if number == MACH_MSG {
         return read_message(alloc, code, results);

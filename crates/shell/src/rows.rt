@@ -39,8 +39,10 @@ fn take_named(bytes: &[u8]) -> Option<(NamedType, &[u8])>
 
 /// Names with their types, up to the end.
 pub(crate) fn read_names(alloc: Global, bytes: &[u8]) -> Result<Option<Vec<NamedType>>, AllocError>
-    ensures found { IfOk result (λ found. IfSome found (λ names. bytes.now ≡ flat_map (λ (n : NamedType). word n.name ++ word n.bits) names.items)) }
-    ensures fits { IfOk result (λ found. IfSome found (λ names. All (λ (n : NamedType). (n.name < 2 ^ 32) × (n.bits < 2 ^ 32)) names.items)) }
+    ensures found { IfOk result (λ found. IfSome found
+        (λ names. bytes.now ≡ flat_map (λ (n : NamedType). word n.name ++ word n.bits) names.items)) }
+    ensures fits { IfOk result (λ found. IfSome found
+        (λ names. All (λ (n : NamedType). (n.name < 2 ^ 32) × (n.bits < 2 ^ 32)) names.items)) }
 {
     let mut names = Vec::new(alloc);
     let mut rest = bytes;
@@ -96,7 +98,8 @@ fn take_three(bytes: &[u8]) -> Option<(u32, u32, u32, &[u8])>
 
 /// The three flags that these bytes are.
 fn three_flags(bytes: &[u8]) -> Option<(bool, bool, bool)>
-    ensures { IfSome result (λ r. bytes.now ≡ word (number_of_bool r.0) ++ (word (number_of_bool r.1) ++ word (number_of_bool r.2))) }
+    ensures { IfSome result (λ r. bytes.now ≡ word (number_of_bool r.0)
+        ++ (word (number_of_bool r.1) ++ word (number_of_bool r.2))) }
 {
     let (a, rest) = take_flag(bytes)?;
     let (b, rest) = take_flag(rest)?;

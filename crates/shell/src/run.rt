@@ -80,7 +80,8 @@ fn talk<N: Net, I: BufRead, O: Write + Drop, E: Write>(
     errors: &mut E,
     is_prompting: bool,
 ) -> Result<bool, RelayEnd>
-    ensures talked { Talks (side (I.remaining input.old) (writer_contents O.contents output.old) (writer_buffer output.old))
+    ensures talked { Talks (side (I.remaining input.old) (writer_contents O.contents output.old)
+        (writer_buffer output.old))
         (side (I.remaining input.new) (writer_contents O.contents output.new) (writer_buffer output.new)) result }
     ensures quiet { is_prompting ≡ false → E.contents errors.new ≡ E.contents errors.old }
 {

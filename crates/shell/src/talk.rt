@@ -25,7 +25,8 @@ pub struct Turn {
 /// The next line of the input, with its end if it has one, or `None` at the end of the input. `NoMemory`: out of memory
 /// for it. `Device`: the reader failed within it, and it is lost.
 fn next_line<I: BufRead>(alloc: Global, input: &mut I) -> Result<Option<Vec<u8>>, WireFault>
-    ensures line { IfOk result (λ found. IfSome found (λ line. Consumes (I.remaining input.old) (I.remaining input.new) line.items)) }
+    ensures line { IfOk result (λ found. IfSome found
+        (λ line. Consumes (I.remaining input.old) (I.remaining input.new) line.items)) }
     ensures one { IfOk result (λ found. IfSome found (λ line. StopsAt line.items 10)) }
     ensures end { IfOk result (λ found. IfNone found (TakesAll (I.remaining input.old) (I.remaining input.new))) }
 {
@@ -58,9 +59,11 @@ fn without_end(line: &[u8]) -> &[u8]
 
 /// Writes a text, and flushes it. `Device`: the writer failed, and some first bytes of the text may have been written.
 fn say<W: Write + Drop>(output: &mut BufWriter<W>, text: &[u8]) -> Result<(), WireFault>
-    ensures ok { OnOk result (Appends (writer_contents W.contents output.old) (writer_contents W.contents output.new) text.now) }
+    ensures ok { OnOk result (Appends (writer_contents W.contents output.old)
+        (writer_contents W.contents output.new) text.now) }
     ensures flushed { OnOk result (writer_buffer output.new ≡ []) }
-    ensures part { OnErr result (AppendsPart (writer_contents W.contents output.old) (writer_contents W.contents output.new) text.now) }
+    ensures part { OnErr result (AppendsPart (writer_contents W.contents output.old)
+        (writer_contents W.contents output.new) text.now) }
 {
     write_bytes(output, text)?;
     if output.flush().is_err() {
@@ -79,10 +82,14 @@ pub fn take_turn<O: Write + Drop, P: Read, S: Write + Drop>(
     replies: &mut P,
     requests: &mut BufWriter<S>,
 ) -> Result<Turn, WireFault>
-    ensures done { IfOk result (λ turn. Does place.number line.now (side (P.remaining replies.old) (writer_contents S.contents requests.old) (writer_buffer requests.old))
+    ensures done { IfOk result
+        (λ turn. Does place.number line.now
+        (side (P.remaining replies.old) (writer_contents S.contents requests.old) (writer_buffer requests.old))
         (side (P.remaining replies.new) (writer_contents S.contents requests.new) (writer_buffer requests.new)) (writer_contents O.contents output.old) (writer_contents O.contents output.new) turn.is_well) }
     ensures flushed { OnOk result (writer_buffer output.new ≡ []) }
-    ensures part { OnErr result (DoesPart place.number (side (P.remaining replies.old) (writer_contents S.contents requests.old) (writer_buffer requests.old)) (writer_contents O.contents output.old) (writer_contents O.contents output.new)) }
+    ensures part { OnErr result (DoesPart place.number
+        (side (P.remaining replies.old) (writer_contents S.contents requests.old) (writer_buffer requests.old))
+        (writer_contents O.contents output.old) (writer_contents O.contents output.new)) }
 {
     let told = hear(alloc, place, line, replies, requests)?;
     say(output, told.text.as_slice())?;
@@ -125,11 +132,14 @@ pub fn converse<I: BufRead, O: Write + Drop, P: Read, S: Write + Drop, E: Write>
     is_prompting: bool,
 ) -> Result<bool, WireFault>
     // All that was read, sent, heard and printed, line by line.
-    ensures all { IfOk result (λ well. TalksAll (side (I.remaining input.old) (writer_contents O.contents output.old) (writer_buffer output.old))
+    ensures all { IfOk result
+        (λ well. TalksAll (side (I.remaining input.old) (writer_contents O.contents output.old)
+        (writer_buffer output.old))
         (side (P.remaining replies.old) (writer_contents S.contents requests.old) (writer_buffer requests.old))
         (side (I.remaining input.new) (writer_contents O.contents output.new) (writer_buffer output.new))
         (side (P.remaining replies.new) (writer_contents S.contents requests.new) (writer_buffer requests.new)) well) }
-    ensures stops { OnErr result (Stops (side (I.remaining input.old) (writer_contents O.contents output.old) (writer_buffer output.old))
+    ensures stops { OnErr result (Stops
+        (side (I.remaining input.old) (writer_contents O.contents output.old) (writer_buffer output.old))
         (side (P.remaining replies.old) (writer_contents S.contents requests.old) (writer_buffer requests.old))
         (side (I.remaining input.new) (writer_contents O.contents output.new) (writer_buffer output.new))) }
     ensures quiet { is_prompting ≡ false → E.contents errors.new ≡ E.contents errors.old }

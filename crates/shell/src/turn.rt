@@ -73,7 +73,8 @@ fn push_unless_same(
     exchange: &Exchange,
     is_same: bool,
 ) -> Result<(), AllocError>
-    ensures { OnOk result (text.new.items ≡ text.old.items ++ (if is_same then [] else difference_line number exchange.now.call exchange.now.reply)) }
+    ensures { OnOk result (text.new.items ≡ text.old.items
+        ++ (if is_same then [] else difference_line number exchange.now.call exchange.now.reply)) }
 {
     if is_same {
         return Ok(());
@@ -90,7 +91,8 @@ fn push_compared(
     exchange: &Exchange,
     reply: &Reply,
 ) -> Result<bool, AllocError>
-    ensures text { OnOk result (text.new.items ≡ text.old.items ++ said_text number (Asked.Exchange exchange.now) reply.now) }
+    ensures text { OnOk result (text.new.items ≡ text.old.items
+        ++ said_text number (Asked.Exchange exchange.now) reply.now) }
     ensures well { IfOk result (λ well. well ≡ said_well (Asked.Exchange exchange.now) reply.now) }
 {
     let is_same = is_same_reply(alloc, reply, &exchange.reply)?;
@@ -131,7 +133,8 @@ fn tell_reply(
 ) -> Result<Told, AllocError>
     ensures text { IfOk result (λ told. told.text.items ≡ said_text place.number asked.now reply.now) }
     ensures well { IfOk result (λ told. told.is_well ≡ said_well asked.now reply.now) }
-    ensures space { IfOk result (λ told. told.space ≡ (if succeeded call.now reply.now then attached_by place.space call.now else place.space)) }
+    ensures space { IfOk result (λ told. told.space
+        ≡ (if succeeded call.now reply.now then attached_by place.space call.now else place.space)) }
 {
     let mut text = Vec::new(alloc);
     let is_well = push_said(alloc, &mut text, place.number, asked, reply)?;
@@ -233,8 +236,10 @@ fn exchange<P: Read, S: Write + Drop>(
     requests: &mut BufWriter<S>,
 ) -> Result<Frame, WireFault>
     requires { IsContentLength (length content.now) }
-    ensures sent { OnOk result (Appends (writer_contents S.contents requests.old) (writer_contents S.contents requests.new) (frame_encoding content.now)) }
-    ensures heard { IfOk result (λ reply. Consumes (P.remaining replies.old) (P.remaining replies.new) (frame_encoding reply.content)) }
+    ensures sent { OnOk result (Appends (writer_contents S.contents requests.old)
+        (writer_contents S.contents requests.new) (frame_encoding content.now)) }
+    ensures heard { IfOk result
+        (λ reply. Consumes (P.remaining replies.old) (P.remaining replies.new) (frame_encoding reply.content)) }
 {
     let frame = Frame::from_content(alloc, content)?;
     send(requests, &frame)?;
@@ -250,7 +255,8 @@ fn ask_call<P: Read, S: Write + Drop>(
     replies: &mut P,
     requests: &mut BufWriter<S>,
 ) -> Result<Told, WireFault>
-    ensures { IfOk result (λ told. AsksCall place.number call.now asked.now (side (P.remaining replies.old) (writer_contents S.contents requests.old) (writer_buffer requests.old))
+    ensures { IfOk result (λ told. AsksCall place.number call.now asked.now
+        (side (P.remaining replies.old) (writer_contents S.contents requests.old) (writer_buffer requests.old))
         (side (P.remaining replies.new) (writer_contents S.contents requests.new) (writer_buffer requests.new)) told.text.items told.is_well) }
 {
     let content = content_of(alloc, call)?;
@@ -271,7 +277,8 @@ fn ask<P: Read, S: Write + Drop>(
     replies: &mut P,
     requests: &mut BufWriter<S>,
 ) -> Result<Told, WireFault>
-    ensures { IfOk result (λ told. HearsAsked place.number asked.now (call_of asked.now) (side (P.remaining replies.old) (writer_contents S.contents requests.old) (writer_buffer requests.old))
+    ensures { IfOk result (λ told. HearsAsked place.number asked.now (call_of asked.now)
+        (side (P.remaining replies.old) (writer_contents S.contents requests.old) (writer_buffer requests.old))
         (side (P.remaining replies.new) (writer_contents S.contents requests.new) (writer_buffer requests.new)) told.text.items told.is_well) }
 {
     match call_of(asked) {
@@ -295,7 +302,8 @@ pub fn hear<P: Read, S: Write + Drop>(
     replies: &mut P,
     requests: &mut BufWriter<S>,
 ) -> Result<Told, WireFault>
-    ensures { IfOk result (λ told. Hears place.number (asked_read line.now) (side (P.remaining replies.old) (writer_contents S.contents requests.old) (writer_buffer requests.old))
+    ensures { IfOk result (λ told. Hears place.number (asked_read line.now)
+        (side (P.remaining replies.old) (writer_contents S.contents requests.old) (writer_buffer requests.old))
         (side (P.remaining replies.new) (writer_contents S.contents requests.new) (writer_buffer requests.new)) told.text.items told.is_well) }
 {
     match read_asked(alloc, line) {

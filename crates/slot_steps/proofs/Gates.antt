@@ -40,7 +40,8 @@ pub same_gate : (slot : List ℕ) → HasSomeGate slot slot
 same_gate slot = record { behind = refl; no_shorter = omega arith; no_longer = omega arith }
 
 -- a slot that is too short for its header, or open, and is being closed
-pub gate_closing : (header : ℕ) (before after : List ℕ) → 1 < header → (length before < header) ⊎ (take 1 before ≡ open_gate ∷ []) → HasSomeGate before after → IsClosing header before after
+pub gate_closing : (header : ℕ) (before after : List ℕ) → 1 < header → (length before < header)
+    ⊎ (take 1 before ≡ open_gate ∷ []) → HasSomeGate before after → IsClosing header before after
 gate_closing header before after some needs gate = elim needs [
   | inl short ↦ inr (λ is_open. omega (arith, some, short, gate.no_longer, is_open.0))
   | inr is ↦ elim (closed_or_open after) [
@@ -55,37 +56,58 @@ after_first [] encoding some = absurd (omega (arith, some))
 after_first (gate ∷ rest) encoding some = refl
 
 -- a gate that is being opened: it isn't open, or all that stood after it stands there
-pub gate_opened : (behind shut after : List ℕ) → drop 1 shut ≡ behind → HasSomeGate shut after → IsClosed after ⊎ (after ≡ open_gate ∷ behind)
+pub gate_opened : (behind shut after : List ℕ) → drop 1 shut ≡ behind → HasSomeGate shut after → IsClosed after
+    ⊎ (after ≡ open_gate ∷ behind)
 gate_opened behind shut after is gate = elim (closed_or_open after) [
   | inl still ↦ inl still
   | inr whole ↦ inr (whole ∙ ap (λ (l : List ℕ). open_gate ∷ l) (gate.behind ∙ is))
 ]
 
 -- a slot is closed, and then written after its gate
-pub closing_then : (slot : Slot) (old mid new : View) (header : ℕ) → Passes old mid (Follows old slot (IsClosing header)) → Passes mid new (Follows mid slot IsStillClosed) → Passes old new (Follows old slot (IsClosing header))
+pub closing_then : (slot : Slot) (old mid new : View) (header : ℕ)
+    → Passes old mid (Follows old slot (IsClosing header)) → Passes mid new (Follows mid slot IsStillClosed)
+    → Passes old new (Follows old slot (IsClosing header))
 closing_then slot old mid new header first second =
-    follows_then slot old mid new (IsClosing header) IsStillClosed (IsClosing header) first second (λ d after left closing. closing)
-    (λ d after left shut. inr (closed_not_open header after shut)) (λ d between after left early late. inr (closed_not_open header after late))
+    follows_then slot old mid new (IsClosing header) IsStillClosed (IsClosing header) first second
+    (λ d after left closing. closing)
+    (λ d after left shut. inr (closed_not_open header after shut))
+    (λ d between after left early late. inr (closed_not_open header after late))
 
 -- and then its gate is opened before what stands after it
-pub opening_then : (slot : Slot) (old mid new : View) (behind : List ℕ) → IsSynced mid slot → drop 1 (slot_of mid.seen slot) ≡ behind → Passes old mid (Follows old slot IsStillClosed) → Passes mid new (Follows mid slot HasSomeGate)
+pub opening_then : (slot : Slot) (old mid new : View) (behind : List ℕ) → IsSynced mid slot
+    → drop 1 (slot_of mid.seen slot) ≡ behind → Passes old mid (Follows old slot IsStillClosed)
+    → Passes mid new (Follows mid slot HasSomeGate)
     → Passes old new (Follows old slot (λ before after. IsClosed after ⊎ (after ≡ open_gate ∷ behind)))
 opening_then slot old mid new behind synced is first second =
-    let opening : Passes mid new (Follows mid slot (λ (before after : List ℕ). IsClosed after ⊎ (after ≡ open_gate ∷ behind))) =
-    follows_as slot mid new HasSomeGate (λ (before after : List ℕ). IsClosed after ⊎ (after ≡ open_gate ∷ behind)) second
-    (λ d after left gate. gate_opened behind (slot_of d slot) after (ap (λ (l : List ℕ). drop 1 l) (synced d left) ∙ is) gate) in
-    follows_then slot old mid new IsStillClosed (λ (before after : List ℕ). IsClosed after ⊎ (after ≡ open_gate ∷ behind)) (λ (before after : List ℕ). IsClosed after ⊎ (after ≡ open_gate ∷ behind)) first opening
+    let opening : Passes mid new (Follows mid slot
+    (λ (before after : List ℕ). IsClosed after ⊎ (after ≡ open_gate ∷ behind))) =
+    follows_as slot mid new HasSomeGate
+    (λ (before after : List ℕ). IsClosed after ⊎ (after ≡ open_gate ∷ behind)) second
+    (λ d after left gate. gate_opened behind (slot_of d slot) after
+    (ap (λ (l : List ℕ). drop 1 l) (synced d left) ∙ is) gate) in
+    follows_then slot old mid new IsStillClosed
+    (λ (before after : List ℕ). IsClosed after ⊎ (after ≡ open_gate ∷ behind))
+    (λ (before after : List ℕ). IsClosed after ⊎ (after ≡ open_gate ∷ behind)) first opening
     (λ d after left shut. inl shut) (λ d after left opened. opened) (λ d between after left early late. late)
 
 -- a slot gets new content: it is closed, and then the content stands there or its gate isn't open
-pub closing_remade : (slot : Slot) (old new : View) (header : ℕ) (content : List ℕ) → Passes old new (Follows old slot (IsClosing header)) → Passes old new (Follows old slot (IsRemade header content))
-closing_remade slot old new header content time = follows_as slot old new (IsClosing header) (IsRemade header content) time (λ d after left closing. inl closing)
+pub closing_remade : (slot : Slot) (old new : View) (header : ℕ) (content : List ℕ)
+    → Passes old new (Follows old slot (IsClosing header)) → Passes old new (Follows old slot (IsRemade header content))
+closing_remade slot old new header content time =
+    follows_as slot old new (IsClosing header) (IsRemade header content) time (λ d after left closing. inl closing)
 
-made : (header : ℕ) (before after content : List ℕ) → IsClosed after ⊎ (after ≡ content) → IsRemade header content before after
-made header before after content opened = elim opened [ inl shut ↦ inl (inr (closed_not_open header after shut)) | inr whole ↦ inr whole ]
+made : (header : ℕ) (before after content : List ℕ) → IsClosed after ⊎ (after ≡ content)
+    → IsRemade header content before after
+made header before after content opened =
+    elim opened [ inl shut ↦ inl (inr (closed_not_open header after shut)) | inr whole ↦ inr whole ]
 
-pub remade_then : (slot : Slot) (old mid new : View) (header : ℕ) (content : List ℕ) → Passes old mid (Follows old slot (IsClosing header)) → Passes mid new (Follows mid slot (λ before after. IsClosed after ⊎ (after ≡ content)))
+pub remade_then : (slot : Slot) (old mid new : View) (header : ℕ) (content : List ℕ)
+    → Passes old mid (Follows old slot (IsClosing header))
+    → Passes mid new (Follows mid slot (λ before after. IsClosed after ⊎ (after ≡ content)))
     → Passes old new (Follows old slot (IsRemade header content))
 remade_then slot old mid new header content first second =
-    follows_then slot old mid new (IsClosing header) (λ (before after : List ℕ). IsClosed after ⊎ (after ≡ content)) (IsRemade header content) first second (λ d after left closing. inl closing)
-    (λ d after left opened. made header (slot_of d slot) after content opened) (λ d between after left early late. made header (slot_of d slot) after content late)
+    follows_then slot old mid new (IsClosing header)
+    (λ (before after : List ℕ). IsClosed after ⊎ (after ≡ content)) (IsRemade header content) first second
+    (λ d after left closing. inl closing)
+    (λ d after left opened. made header (slot_of d slot) after content opened)
+    (λ d between after left early late. made header (slot_of d slot) after content late)

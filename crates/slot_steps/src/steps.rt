@@ -13,7 +13,8 @@ pub fn write_gate<D: Disk>(disk: &mut D, slot: Slot, gate: u8) -> Result<(), Dis
     ensures written { D.honest → OnOk result ((D.view disk.new).seen
         ≡ with_slot (D.view disk.old).seen slot (gate ∷ drop 1 (slot_of (D.view disk.old).seen slot))) }
     ensures synced { D.honest → OnOk result (IsSynced (D.view disk.new) slot) }
-    ensures any_moment { D.honest → Passes (D.view disk.old) (D.view disk.new) (Follows (D.view disk.old) slot HasSomeGate) }
+    ensures any_moment { D.honest → Passes (D.view disk.old) (D.view disk.new)
+        (Follows (D.view disk.old) slot HasSomeGate) }
     ensures failures { CountsFailure (D.failed_calls disk.old) (D.failed_calls disk.new) result }
 {
     disk.write_at(slot, 0, &[gate])?;
@@ -23,7 +24,8 @@ pub fn write_gate<D: Disk>(disk: &mut D, slot: Slot, gate: u8) -> Result<(), Dis
 /// Whether a slot's gate is open, or its header isn't whole.
 fn needs_closing<D: Disk>(disk: &mut D, slot: Slot, header: usize) -> Result<bool, DiskFault>
     requires { 1 < header }
-    ensures needs { D.honest → IfOk result (λ needs. IsTrue needs ↔ ((length (slot_of (D.view disk.old).seen slot) < header)
+    ensures needs { D.honest → IfOk result
+        (λ needs. IsTrue needs ↔ ((length (slot_of (D.view disk.old).seen slot) < header)
         ⊎ (take 1 (slot_of (D.view disk.old).seen slot) ≡ open_gate ∷ []))) }
     ensures seen { D.honest → (D.view disk.new).seen ≡ (D.view disk.old).seen }
     ensures time { D.honest → Passes (D.view disk.old) (D.view disk.new) (MayLeave (D.view disk.old)) }
@@ -43,7 +45,8 @@ pub fn close_slot<D: Disk>(disk: &mut D, slot: Slot, header: usize) -> Result<()
     requires { 1 < header }
     ensures begun { D.honest → OnOk result (0 < length (slot_of (D.view disk.new).seen slot)) }
     ensures closed { D.honest → OnOk result (IsClosed (slot_of (D.view disk.new).seen slot)) }
-    ensures others { D.honest → OnOk result ((D.view disk.new).seen ≡ with_slot (D.view disk.old).seen slot (slot_of (D.view disk.new).seen slot)) }
+    ensures others { D.honest → OnOk result
+        ((D.view disk.new).seen ≡ with_slot (D.view disk.old).seen slot (slot_of (D.view disk.new).seen slot)) }
     ensures synced { D.honest → OnOk result (IsSynced (D.view disk.new) slot) }
     ensures any_moment { D.honest → IsSynced (D.view disk.old) slot
         → Passes (D.view disk.old) (D.view disk.new) (Follows (D.view disk.old) slot (IsClosing header)) }

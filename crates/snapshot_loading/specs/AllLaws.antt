@@ -4,7 +4,8 @@ use Rattle.std.specs.Prelude.{IsTrue}
 use Rattle.std.proofs.lemmas.List.Elements.{All-more}
 
 module _ {A : Type 0} (P : A → Type 0) where
-  pub one_looked : (xs : List A) (i : ℕ) (x : A) → i < length xs → All P (take i xs) → x ≡ get_or xs i x → P x → All P (take (i + 1) xs)
+  pub one_looked : (xs : List A) (i : ℕ) (x : A) → i < length xs → All P (take i xs) → x ≡ get_or xs i x → P x
+      → All P (take (i + 1) xs)
   one_looked xs i x less all is p = All-more P xs i x less all (subst P is p)
 
   taken : (i : ℕ) (xs : List A) → length xs ≤ i → take i xs ≡ xs

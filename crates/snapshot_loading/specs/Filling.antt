@@ -15,7 +15,8 @@ abbrev pub emptied : PortState → PortState
 emptied port = record port { messages = [] }
 
 abbrev pub opened : LivePort → State → State
-opened row state = record state { ports = finmap.insert state.ports row.serial (emptied row.state); next = row.serial + 1 }
+opened row state =
+    record state { ports = finmap.insert state.ports row.serial (emptied row.state); next = row.serial + 1 }
 
 -- ports with their numbers
 abbrev pub opened_all : List LivePort → State → State

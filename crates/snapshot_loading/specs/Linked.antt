@@ -27,7 +27,13 @@ pub record Looks : Type 0 where
   pub names : ℕ → Names
 
 abbrev pub looks_of : State → Looks
-looks_of state = record { lives = lives state; set_of = λ serial. option_and_then (λ (port : PortState). port.set) (finmap.get state.ports serial); names = names_in state }
+looks_of state =
+    record {
+      lives = lives state;
+      set_of = λ serial. option_and_then
+          (λ (port : PortState). port.set) (finmap.get state.ports serial);
+      names = names_in state;
+    }
 
 abbrev pub is_live_target : Looks → Option ℕ → Bool
 is_live_target looks None = true
@@ -49,7 +55,8 @@ has_set looks space (Some set) = is_set (finmap.get (looks.names space) set)
 abbrev pub stands_well : Looks → ℕ → ℕ → Entry → Bool
 stands_well looks space name (Port rights) =
     looks.lives rights.port && (is_live_target looks rights.dead_name_target
-    && (not (stands_elsewhere (looks.names space) name rights.port) && (not rights.receive || has_set looks space (looks.set_of rights.port))))
+    && (not (stands_elsewhere (looks.names space) name rights.port) &&
+    (not rights.receive || has_set looks space (looks.set_of rights.port))))
 stands_well looks space name (SendOnce port target) = looks.lives port && is_live_target looks target
 stands_well looks space name Set = true
 stands_well looks space name (Dead references) = true
@@ -64,7 +71,8 @@ is_live_place looks (in_message.Live serial) = looks.lives serial
 abbrev pub is_in_no_set : Looks → RightKind → PortInMessage → Bool
 is_in_no_set looks what in_message.Null = true
 is_in_no_set looks what in_message.Dead = true
-is_in_no_set looks what (in_message.Live serial) = not (same_kind what kind.Receive) || not (is_some (looks.set_of serial))
+is_in_no_set looks what (in_message.Live serial) =
+    not (same_kind what kind.Receive) || not (is_some (looks.set_of serial))
 
 abbrev pub travels_well : Looks → CarriedRight → Bool
 travels_well looks right = is_live_place looks right.port && is_in_no_set looks right.kind right.port
@@ -77,7 +85,9 @@ abbrev pub is_linked_message : Looks → Message → Bool
 is_linked_message looks message = replies_well looks message.reply && list_all (travels_well looks) message.rights
 
 abbrev pub is_linked_port : Looks → PortState → Bool
-is_linked_port looks port = is_live_target looks port.no_senders_target && (is_live_target looks port.port_destroyed_target && list_all (is_linked_message looks) port.messages)
+is_linked_port looks port =
+    is_live_target looks port.no_senders_target &&
+    (is_live_target looks port.port_destroyed_target && list_all (is_linked_message looks) port.messages)
 
 abbrev pub is_linked_name : Looks → ℕ → NamedEntry → Bool
 is_linked_name looks space row = stands_well looks space row.name row.entry
@@ -89,4 +99,5 @@ abbrev pub is_linked_row : Looks → LivePort → Bool
 is_linked_row looks row = is_linked_port looks row.state
 
 abbrev pub is_linked : Looks → Snapshot → Bool
-is_linked looks snapshot = list_all (is_linked_space looks) snapshot.spaces && list_all (is_linked_row looks) snapshot.ports
+is_linked looks snapshot =
+    list_all (is_linked_space looks) snapshot.spaces && list_all (is_linked_row looks) snapshot.ports

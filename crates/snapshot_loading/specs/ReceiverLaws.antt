@@ -37,12 +37,19 @@ use Rattle.snapshot.specs.Rows.{all_entries, named_row, port_row, serial_of, spa
 abbrev pub is_one : ℕ → ℕ → ℕ
 is_one serial n = cond (n == serial) 1 0
 
-entry_receives : (s : ℕ) (row : NamedEntry) → weigh (is_one s) (received_under row) ≡ entry_weigh (receive_of s) row.entry
+entry_receives : (s : ℕ) (row : NamedEntry)
+    → weigh (is_one s) (received_under row) ≡ entry_weigh (receive_of s) row.entry
 entry_receives s row = by row.entry
   where
-    by : (entry : Entry) → weigh (is_one s) (elim (received_port entry) as (λ _. List ℕ) [ None ↦ [] | Some serial ↦ serial ∷ [] ]) ≡ entry_weigh (receive_of s) entry
-    by (Port rights) = elim rights.receive as (λ (b : Bool). weigh (is_one s) (elim (if b then Some rights.port else None) as (λ _. List ℕ) [ None ↦ [] | Some serial ↦ serial ∷ [] ])
-        ≡ (if b then receive_of s kind.Receive rights.port else 0) + ((if rights.send == 0 then 0 else receive_of s kind.Send rights.port) + target_weigh (receive_of s) rights.dead_name_target)) [
+    by : (entry : Entry) → weigh (is_one s)
+        (elim (received_port entry) as (λ _. List ℕ) [ None ↦ [] | Some serial ↦ serial ∷ [] ])
+        ≡ entry_weigh (receive_of s) entry
+    by (Port rights) =
+        elim rights.receive as (λ (b : Bool). weigh (is_one s)
+        (elim (if b then Some rights.port else None) as (λ _. List ℕ) [ None ↦ [] | Some serial ↦ serial ∷ [] ])
+        ≡ (if b then receive_of s kind.Receive rights.port else 0) +
+        ((if rights.send == 0 then 0 else receive_of s kind.Send rights.port) + target_weigh
+        (receive_of s) rights.dead_name_target)) [
           | true ↦ omega (arith, unless_same (rights.send == 0), no_target s rights.dead_name_target)
           | false ↦ omega (arith, unless_same (rights.send == 0), no_target s rights.dead_name_target)
         ]
@@ -50,10 +57,12 @@ entry_receives s row = by row.entry
     by Set = refl
     by (Dead references) = refl
 
-right_receives : (s : ℕ) (right : CarriedRight) → weigh (is_one s) (received_by right) ≡ carried_weigh (receive_of s) right
+right_receives : (s : ℕ) (right : CarriedRight)
+    → weigh (is_one s) (received_by right) ≡ carried_weigh (receive_of s) right
 right_receives s right = by right.kind right.port
   where
-    by : (what : RightKind) (port : PortInMessage) → weigh (is_one s) (received_as what port) ≡ place_weigh (receive_of s) what port
+    by : (what : RightKind) (port : PortInMessage)
+        → weigh (is_one s) (received_as what port) ≡ place_weigh (receive_of s) what port
     by kind.Receive Null = refl
     by kind.Receive in_message.Dead = refl
     by kind.Receive (Live serial) = omega arith
@@ -64,24 +73,30 @@ right_receives s right = by right.kind right.port
     by kind.SendOnce in_message.Dead = refl
     by kind.SendOnce (Live serial) = refl
 
-message_receives : (s queue : ℕ) (message : Message) → LawfulMessage message → weigh (is_one s) (received_with message) ≡ message_weigh (receive_of s) queue message
+message_receives : (s queue : ℕ) (message : Message) → LawfulMessage message
+    → weigh (is_one s) (received_with message) ≡ message_weigh (receive_of s) queue message
 message_receives s queue message lawful = omega (
   arith,
   weigh-flat_map (is_one s) received_by message.rights,
-  weigh-same (λ (r : CarriedRight). weigh (is_one s) (received_by r)) (carried_weigh (receive_of s)) (right_receives s) message.rights,
+  weigh-same (λ (r : CarriedRight). weigh (is_one s) (received_by r)) (carried_weigh (receive_of s))
+      (right_receives s) message.rights,
   no_receive message.destination s queue lawful.destination,
   no_reply s message.reply lawful.reply,
 )
 
-weigh_all : {A : Type 0} (f g : A → ℕ) (P : A → Type 0) (xs : List A) → ((x : A) → P x → f x ≡ g x) → All P xs → weigh f xs ≡ weigh g xs
+weigh_all : {A : Type 0} (f g : A → ℕ) (P : A → Type 0) (xs : List A) → ((x : A) → P x → f x ≡ g x) → All P xs
+    → weigh f xs ≡ weigh g xs
 weigh_all f g P [] same all = refl
-weigh_all f g P (x ∷ xs) same all = omega (arith, same x (All-head P x xs all), weigh_all f g P xs same (All-tail P x xs all))
+weigh_all f g P (x ∷ xs) same all =
+    omega (arith, same x (All-head P x xs all), weigh_all f g P xs same (All-tail P x xs all))
 
-port_receives : (s : ℕ) (row : LivePort) → All LawfulMessage row.state.messages → weigh (is_one s) (received_at row) ≡ port_weigh (receive_of s) row.serial row.state
+port_receives : (s : ℕ) (row : LivePort) → All LawfulMessage row.state.messages
+    → weigh (is_one s) (received_at row) ≡ port_weigh (receive_of s) row.serial row.state
 port_receives s row lawful = omega (
   arith,
   weigh-flat_map (is_one s) received_with row.state.messages,
-  weigh_all (λ (m : Message). weigh (is_one s) (received_with m)) (message_weigh (receive_of s) row.serial) LawfulMessage row.state.messages (message_receives s row.serial) lawful,
+  weigh_all (λ (m : Message). weigh (is_one s) (received_with m))
+      (message_weigh (receive_of s) row.serial) LawfulMessage row.state.messages (message_receives s row.serial) lawful,
   no_target s row.state.no_senders_target,
   no_target s row.state.port_destroyed_target,
 )
@@ -90,35 +105,52 @@ space_receives : (s : ℕ) (e : ℕ × Names) → weigh (is_one s) (received_in 
 space_receives s e =
     weigh-flat_map (is_one s) received_under (names_of e.1)
     ∙ weigh-map (λ (r : NamedEntry). weigh (is_one s) (received_under r)) named_row (entries e.1)
-    ∙ weigh-same (λ (x : ℕ × Entry). weigh (is_one s) (received_under (named_row x))) (λ (x : ℕ × Entry). entry_weigh (receive_of s) x.1) (λ (x : ℕ × Entry). entry_receives s (named_row x)) (entries e.1)
+    ∙ weigh-same (λ (x : ℕ × Entry). weigh (is_one s) (received_under (named_row x)))
+    (λ (x : ℕ × Entry). entry_weigh (receive_of s) x.1)
+    (λ (x : ℕ × Entry). entry_receives s (named_row x)) (entries e.1)
 
 -- The receive rights in the rows of a state are those of the state.
-pub receivers_weigh : (state : State) (snapshot : Snapshot) → snapshot ≡ snapshot_of state → ((serial : ℕ) (port : PortState) → get state.ports serial ≡ Some port → All LawfulMessage port.messages)
+pub receivers_weigh : (state : State) (snapshot : Snapshot) → snapshot ≡ snapshot_of state
+    → ((serial : ℕ) (port : PortState) → get state.ports serial ≡ Some port → All LawfulMessage port.messages)
     → (s : ℕ) → weigh (is_one s) (receivers snapshot) ≡ state_weigh (receive_of s) state
 unfolding snapshot_of state_weigh
 receivers_weigh state snapshot same lawful s =
     ap (λ (r : Snapshot). weigh (is_one s) (receivers r)) same
-    ∙ weigh-append (is_one s) (flat_map received_in (map space_row (entries state.spaces))) (flat_map received_at (map port_row (entries state.ports)))
+    ∙ weigh-append (is_one s) (flat_map received_in (map space_row (entries state.spaces)))
+    (flat_map received_at (map port_row (entries state.ports)))
     ∙ (λ i. spaces i + ports i)
   where
-    spaces : weigh (is_one s) (flat_map received_in (map space_row (entries state.spaces))) ≡ total (λ space names. names_weigh (receive_of s) names) state.spaces
+    spaces : weigh (is_one s) (flat_map received_in (map space_row (entries state.spaces))) ≡ total
+        (λ space names. names_weigh (receive_of s) names) state.spaces
     spaces =
         weigh-flat_map (is_one s) received_in (map space_row (entries state.spaces))
         ∙ weigh-map (λ (r : Space). weigh (is_one s) (received_in r)) space_row (entries state.spaces)
-        ∙ weigh-same (λ (e : ℕ × Names). weigh (is_one s) (received_in (space_row e))) (λ (e : ℕ × Names). names_weigh (receive_of s) e.1) (space_receives s) (entries state.spaces)
+        ∙ weigh-same (λ (e : ℕ × Names). weigh (is_one s) (received_in (space_row e)))
+        (λ (e : ℕ × Names). names_weigh (receive_of s) e.1) (space_receives s) (entries state.spaces)
 
-    ports : weigh (is_one s) (flat_map received_at (map port_row (entries state.ports))) ≡ total (port_weigh (receive_of s)) state.ports
+    ports : weigh (is_one s) (flat_map received_at (map port_row (entries state.ports)))
+        ≡ total (port_weigh (receive_of s)) state.ports
     ports =
         weigh-flat_map (is_one s) received_at (map port_row (entries state.ports))
         ∙ weigh-map (λ (r : LivePort). weigh (is_one s) (received_at r)) port_row (entries state.ports)
-        ∙ weigh_all (λ (e : ℕ × PortState). weigh (is_one s) (received_at (port_row e))) (λ (e : ℕ × PortState). port_weigh (receive_of s) e.0 e.1) (λ (e : ℕ × PortState). All LawfulMessage e.1.messages) (entries state.ports)
-        (λ e all. port_receives s (port_row e) all) (all_entries (λ (e : ℕ × PortState). All LawfulMessage e.1.messages) state.ports lawful)
+        ∙ weigh_all (λ (e : ℕ × PortState). weigh (is_one s) (received_at (port_row e)))
+        (λ (e : ℕ × PortState). port_weigh (receive_of s) e.0 e.1)
+        (λ (e : ℕ × PortState). All LawfulMessage e.1.messages) (entries state.ports)
+        (λ e all. port_receives s (port_row e) all)
+        (all_entries (λ (e : ℕ × PortState). All LawfulMessage e.1.messages) state.ports lawful)
 
 -- A number is counted once among the keys of a map that has it.
-pub keys_weigh : (state : State) (s : ℕ) → weigh (is_one s) (map serial_of (map port_row (entries state.ports))) ≡ cond (lives state s) 1 0
+pub keys_weigh : (state : State) (s : ℕ)
+    → weigh (is_one s) (map serial_of (map port_row (entries state.ports))) ≡ cond (lives state s) 1 0
 keys_weigh state s =
-    weigh-map (is_one s) serial_of (map port_row (entries state.ports)) ∙ weigh-map (λ (r : LivePort). is_one s r.serial) port_row (entries state.ports)
-    ∙ omega (arith, total-remove one state.ports s, total-zero one (remove state.ports s) (λ k x there. elsewhere k (left_apart state.ports s k x there)), here (get state.ports s))
+    weigh-map (is_one s) serial_of (map port_row (entries state.ports)) ∙ weigh-map
+    (λ (r : LivePort). is_one s r.serial) port_row (entries state.ports)
+    ∙ omega (
+      arith,
+      total-remove one state.ports s,
+      total-zero one (remove state.ports s) (λ k x there. elsewhere k (left_apart state.ports s k x there)),
+      here (get state.ports s),
+    )
   where
     one : ℕ → PortState → ℕ
     one k port = is_one s k
@@ -146,11 +178,13 @@ from_less at low (x ∷ xs) le from = (omega (arith, le, from.0), from_less at l
 
 ascending_from : (at : ℕ) (xs : List ℕ) → AscendsFrom at xs → AreFrom at xs
 ascending_from at [] ascends = tt
-ascending_from at (x ∷ xs) ascends = (ascends.0, from_less (x + 1) at xs (omega (arith, ascends.0)) (ascending_from (x + 1) xs ascends.1))
+ascending_from at (x ∷ xs) ascends =
+    (ascends.0, from_less (x + 1) at xs (omega (arith, ascends.0)) (ascending_from (x + 1) xs ascends.1))
 
 pub ascending_climbs : (at : ℕ) (xs : List ℕ) → AscendsFrom at xs → Climbs xs
 ascending_climbs at [] ascends = tt
-ascending_climbs at (x ∷ xs) ascends = (from_less (x + 1) x xs (omega arith) (ascending_from (x + 1) xs ascends.1), ascending_climbs (x + 1) xs ascends.1)
+ascending_climbs at (x ∷ xs) ascends =
+    (from_less (x + 1) x xs (omega arith) (ascending_from (x + 1) xs ascends.1), ascending_climbs (x + 1) xs ascends.1)
 
 all_from : (at : ℕ) (xs : List ℕ) → ((j : ℕ) → j < length xs → at ≤ get_or xs j 0) → AreFrom at xs
 all_from at [] each = tt
@@ -158,7 +192,10 @@ all_from at (x ∷ xs) each = (each 0 (omega arith), all_from at xs (λ j less. 
 
 pub sorted_climbs : (xs : List ℕ) → IsNonDecreasing xs → Climbs xs
 sorted_climbs [] up = tt
-sorted_climbs (x ∷ xs) up = (all_from x xs (λ j less. up 0 (suc j) 0 (omega arith) (omega (arith, less))), sorted_climbs xs (λ i j d le less. up (suc i) (suc j) d (omega (arith, le)) (omega (arith, less))))
+sorted_climbs (x ∷ xs) up = (
+  all_from x xs (λ j less. up 0 (suc j) 0 (omega arith) (omega (arith, less))),
+  sorted_climbs xs (λ i j d le less. up (suc i) (suc j) d (omega (arith, le)) (omega (arith, less))),
+)
 
 own_one : (s : ℕ) → is_one s s ≡ 1
 own_one s = ap {B = ℕ} (λ (b : Bool). cond b 1 0) (eq-eqb s s refl)
@@ -166,10 +203,16 @@ own_one s = ap {B = ℕ} (λ (b : Bool). cond b 1 0) (eq-eqb s s refl)
 none_below : (s at : ℕ) (xs : List ℕ) → s < at → AreFrom at xs → weigh (is_one s) xs ≡ 0
 none_below s at [] less from = refl
 none_below s at (x ∷ xs) less from =
-    omega (arith, ap {B = ℕ} (λ (b : Bool). cond b 1 0) (not_equal x s (λ same. absurd (omega (arith, same, less, from.0)))), none_below s at xs less from.1)
+    omega (
+      arith,
+      ap {B = ℕ} (λ (b : Bool). cond b 1 0)
+          (not_equal x s (λ same. absurd (omega (arith, same, less, from.0)))),
+      none_below s at xs less from.1,
+    )
 
 -- ascending lists that have each number equally often are the same
-pub same_climbing : (xs ys : List ℕ) → Climbs xs → Climbs ys → ((s : ℕ) → weigh (is_one s) xs ≡ weigh (is_one s) ys) → xs ≡ ys
+pub same_climbing : (xs ys : List ℕ) → Climbs xs → Climbs ys → ((s : ℕ) → weigh (is_one s) xs ≡ weigh (is_one s) ys)
+    → xs ≡ ys
 same_climbing [] [] up also same = refl
 same_climbing [] (y ∷ ys) up also same = absurd (omega (arith, same y, own_one y))
 same_climbing (x ∷ xs) [] up also same = absurd (omega (arith, same x, own_one x))
@@ -185,7 +228,12 @@ same_climbing (x ∷ xs) (y ∷ ys) up also same = elim (number_decided x y) as 
 ]
   where
     one_is_less : (a b : ℕ) → a ≢ b → (a < b → 1 ≤ 0) → (b < a → 1 ≤ 0) → 1 ≤ 0
-    one_is_less a b apart first second = elim (nat_lt a b) as (λ (t : Bool). nat_lt a b ≡ t → 1 ≤ 0) [ true ↦ λ (e : _). first (ltb-true a b e) | false ↦ λ (e : _). second (omega (arith, ltb-false a b e, apart)) ] refl
+    one_is_less a b apart first second =
+        elim (nat_lt a b) as (λ (t : Bool). nat_lt a b ≡ t → 1 ≤ 0) [
+          | true ↦ λ (e : _). first (ltb-true a b e)
+          | false ↦
+              λ (e : _). second (omega (arith, ltb-false a b e, apart))
+        ] refl
 
 -- sums of reordered lists
 weigh_sum : (f : ℕ → ℕ) (xs : List ℕ) → weigh f xs ≡ sum_by f xs

@@ -31,12 +31,18 @@ shaped_lawful snapshot lawful = shaped lawful.state snapshot lawful.same lawful.
 
 module _ (snapshot : Snapshot) (shape : IsShaped snapshot) where
   ascends : Ascends snapshot
-  ascends = record { spaces = shape.spaces_ascend; names = All-weaker IsShapedSpace NamesAscend (λ row own. own.ascend) snapshot.spaces shape.spaces; ports = shape.ports_ascend }
+  ascends =
+      record {
+        spaces = shape.spaces_ascend;
+        names = All-weaker IsShapedSpace NamesAscend (λ row own. own.ascend) snapshot.spaces shape.spaces;
+        ports = shape.ports_ascend;
+      }
 
   pub same_rows : snapshot ≡ snapshot_of (state_of_rows snapshot)
   same_rows = is_of_rows snapshot ascends
 
-  one : IsLawfulSnapshot snapshot → Lawful (state_of_rows snapshot) × Acyclic (state_of_rows snapshot) × ShortQueues (state_of_rows snapshot)
+  one : IsLawfulSnapshot snapshot → Lawful (state_of_rows snapshot) × Acyclic (state_of_rows snapshot)
+      × ShortQueues (state_of_rows snapshot)
   one lawful = lawful_one (state_of_rows snapshot) snapshot same_rows lawful
 
   looks_are : looks_of (skeleton snapshot) ≡ looks_of (state_of_rows snapshot)
@@ -48,18 +54,26 @@ module _ (snapshot : Snapshot) (shape : IsShaped snapshot) where
   -- the rows of a lawful snapshot pass each test
 
   pub linked_lawful : IsLawfulSnapshot snapshot → is_linked (looks_of (skeleton snapshot)) snapshot ≡ true
-  linked_lawful lawful = ap (λ (looks : Looks). is_linked looks snapshot) looks_are ∙ linked (state_of_rows snapshot) snapshot same_rows (one lawful).0
+  linked_lawful lawful =
+      ap (λ (looks : Looks). is_linked looks snapshot) looks_are
+      ∙ linked (state_of_rows snapshot) snapshot same_rows (one lawful).0
 
   pub received_lawful : IsLawfulSnapshot snapshot → AreOthers snapshot → ⊥
-  received_lawful lawful others = others.other (received (state_of_rows snapshot) snapshot same_rows (one lawful).0 others.sorted others.moved others.ascend)
+  received_lawful lawful others =
+      others.other (received (state_of_rows snapshot) snapshot same_rows
+      (one lawful).0 others.sorted others.moved others.ascend)
 
   pub acyclic_lawful : IsLawfulSnapshot snapshot → (q : ℕ) → doubled 15 (up_of (state_of_rows snapshot)) q ≡ None
   acyclic_lawful lawful = hops_end (state_of_rows snapshot) (one lawful).1 (one lawful).0.few_ports
 
   -- rows that pass the tests are those of a lawful state
 
-  pub lawful_rows : snapshot.next_serial < 2 ^ 64 → is_linked (looks_of (skeleton snapshot)) snapshot ≡ true → AreSorted snapshot → Lawful (state_of_rows snapshot)
-  lawful_rows fits links sorted = lawful_state (state_of_rows snapshot) snapshot same_rows shape fits (sym (ap (λ (looks : Looks). is_linked looks snapshot) looks_are) ∙ links) sorted.sorted sorted.moved sorted.same
+  pub lawful_rows : snapshot.next_serial < 2 ^ 64 → is_linked (looks_of (skeleton snapshot)) snapshot ≡ true
+      → AreSorted snapshot → Lawful (state_of_rows snapshot)
+  lawful_rows fits links sorted =
+      lawful_state (state_of_rows snapshot) snapshot same_rows shape fits
+      (sym (ap (λ (looks : Looks). is_linked looks snapshot) looks_are) ∙ links) sorted.sorted sorted.moved
+      sorted.same
 
   pub short_rows : ShortQueues (state_of_rows snapshot)
   short_rows = short_state (state_of_rows snapshot) snapshot same_rows shape
@@ -71,28 +85,38 @@ module _ (snapshot : Snapshot) (shape : IsShaped snapshot) where
     few = omega (arith, shape.few_ports, len-empty nat_cmp PortState);
     below = λ k port there. absurd (none_in_empty k port there);
     ascend = shape.ports_ascend;
-    fits = All-weaker (IsShapedPort snapshot.next_serial) (λ (row : LivePort). row.serial < 2 ^ 64 - 1) (λ row own. omega (arith, own.below, fits)) snapshot.ports shape.ports;
+    fits =
+        All-weaker (IsShapedPort snapshot.next_serial) (λ (row : LivePort). row.serial < 2 ^ 64 - 1)
+        (λ row own. omega (arith, own.below, fits)) snapshot.ports shape.ports;
   })
 
   pub past_all : (state : State) → state ≡ nothing → (opened_all snapshot.ports state).next ≤ snapshot.next_serial
-  past_all state is = subst (λ (s : State). (opened_all snapshot.ports s).next ≤ snapshot.next_serial) (sym is) (opened_next snapshot.next_serial snapshot.ports nothing (omega (arith, shape.next)) shape.ports)
+  past_all state is =
+      subst (λ (s : State). (opened_all snapshot.ports s).next ≤ snapshot.next_serial) (sym is)
+      (opened_next snapshot.next_serial snapshot.ports nothing (omega (arith, shape.next)) shape.ports)
 
   pub may_space : MaySpace snapshot.spaces (record (opened_all snapshot.ports nothing) { next = snapshot.next_serial })
   may_space = record {
     from = 1;
-    below = λ k names there. absurd (none_in_empty k names (sym (ap (λ m. get m k) (opened_spaces snapshot.ports nothing)) ∙ there));
+    below =
+        λ k names there. absurd (none_in_empty k names
+        (sym (ap (λ m. get m k) (opened_spaces snapshot.ports nothing)) ∙ there));
     ascend = shape.spaces_ascend;
     few = omega (arith, ap len (opened_spaces snapshot.ports nothing), len-empty nat_cmp Names);
     each = shape.spaces;
   }
 
 -- the outcome of filling says whether the snapshot is lawful
-pub told : (answer : Result Bool AllocError) (outcome : Result (Unit {0}) SnapshotFault) (L : Type 0) → IfOk answer (λ yes. IsTrue yes → IsOk outcome) → IfOk answer (λ yes. yes ≡ false → IsErrOf outcome NotLawful)
+pub told : (answer : Result Bool AllocError) (outcome : Result (Unit {0}) SnapshotFault) (L : Type 0)
+    → IfOk answer (λ yes. IsTrue yes → IsOk outcome) → IfOk answer (λ yes. yes ≡ false → IsErrOf outcome NotLawful)
     → (IsOk outcome → L) → (IsErrOf outcome NotLawful → L → ⊥) → IfOk answer (λ yes. IsTrue yes ↔ L)
 told (Ok true) outcome L first second is isnt = (λ _. is (first refl), λ _. refl)
 told (Ok false) outcome L first second is isnt = (λ e. absurd (cc e), λ lawful. absurd (isnt (second refl) lawful))
 told (Err e) outcome L first second is isnt = tt
 
-pub all_told : (outcome : Result (Unit {0}) SnapshotFault) (snapshot : Snapshot) (state : State) → OnOk outcome ((snapshot ≡ snapshot_of state) × Lawful state × Acyclic state × ShortQueues state) → IsOk outcome → IsLawfulSnapshot snapshot
-all_told (Ok done) snapshot state filled is = record { state = state; same = filled.0; lawful = filled.1; acyclic = filled.2; short = filled.3 }
+pub all_told : (outcome : Result (Unit {0}) SnapshotFault) (snapshot : Snapshot) (state : State)
+    → OnOk outcome ((snapshot ≡ snapshot_of state) × Lawful state × Acyclic state × ShortQueues state) → IsOk outcome
+    → IsLawfulSnapshot snapshot
+all_told (Ok done) snapshot state filled is =
+    record { state = state; same = filled.0; lawful = filled.1; acyclic = filled.2; short = filled.3 }
 all_told (Err e) snapshot state filled is = absurd (cc is)

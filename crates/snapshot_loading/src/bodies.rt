@@ -52,7 +52,8 @@ fn is_lawful_reply(reply: Option<CarriedRight>) -> bool
 
 /// Whether a message may have this body: of whole words, and small enough.
 fn has_size(body: &[u8]) -> bool
-    ensures { IsTrue result ↔ (((header_length + length body.now) % 4 ≡ 0) × (header_length + length body.now ≤ MAX_MESSAGE_SIZE)) }
+    ensures { IsTrue result ↔ (((header_length + length body.now) % 4 ≡ 0)
+        × (header_length + length body.now ≤ MAX_MESSAGE_SIZE)) }
 {
     let room = MAX_MESSAGE_SIZE as usize - HEADER_LENGTH;
     body.len() % 4 == 0 && body.len() <= room

@@ -83,7 +83,8 @@ pub fn restore(alloc: Global, snapshot: &Snapshot) -> Result<IpcState, SnapshotF
 /// Fills an empty state with the rows of a snapshot. At a fault, the state must be rolled back.
 fn fill(alloc: Global, state: &mut IpcState, snapshot: &Snapshot) -> Result<(), SnapshotFault>
     requires { state.old.current ≡ nothing }
-    ensures filled { OnOk result ((snapshot.now ≡ snapshot_of state.new.current) × Lawful state.new.current × Acyclic state.new.current × ShortQueues state.new.current) }
+    ensures filled { OnOk result ((snapshot.now ≡ snapshot_of state.new.current) × Lawful state.new.current
+        × Acyclic state.new.current × ShortQueues state.new.current) }
     ensures unlawful { IsErrOf result SnapshotFault.NotLawful → IsLawfulSnapshot snapshot.now → ⊥ }
 {
     if !is_shaped(alloc, snapshot)? {
@@ -106,7 +107,8 @@ fn fill_messages(
     requires shaped { IsShaped snapshot.now }
     requires opened { state.old.current ≡ skeleton snapshot.now }
     requires linked { is_linked (looks_of state.old.current) snapshot.now ≡ true }
-    ensures filled { OnOk result ((snapshot.now ≡ snapshot_of state.new.current) × Lawful state.new.current × Acyclic state.new.current × ShortQueues state.new.current) }
+    ensures filled { OnOk result ((snapshot.now ≡ snapshot_of state.new.current) × Lawful state.new.current
+        × Acyclic state.new.current × ShortQueues state.new.current) }
     ensures unlawful { IsErrOf result SnapshotFault.NotLawful → IsLawfulSnapshot snapshot.now → ⊥ }
 {
     serial_fits(snapshot);

@@ -57,74 +57,103 @@ entry_more counts (Some (Dead references)) = counts
 
 abbrev pub entry_fewer : Counts → Option Entry → Counts
 entry_fewer counts None = counts
-entry_fewer counts (Some (Port rights)) = send_fewer (target_fewer counts rights.dead_name_target) rights.send rights.port
+entry_fewer counts (Some (Port rights)) =
+    send_fewer (target_fewer counts rights.dead_name_target) rights.send rights.port
 entry_fewer counts (Some (SendOnce port target)) = right_fewer (target_fewer counts target) kind.SendOnce port
 entry_fewer counts (Some Set) = counts
 entry_fewer counts (Some (Dead references)) = counts
 
 module _ (f : Weight → ℕ) (counts : Counts) where
-  target_counted : (target : Option ℕ) → IsWordIfSome target → AreCounted f counts → AreCounted (λ w. f w + target_weigh w target) (target_more counts target)
+  target_counted : (target : Option ℕ) → IsWordIfSome target → AreCounted f counts
+      → AreCounted (λ w. f w + target_weigh w target) (target_more counts target)
   target_counted None small are = counted_same f (λ w. f w + 0) counts (λ w. omega arith) are
   target_counted (Some serial) small are = counted_more f counts kind.SendOnce serial small are
 
-  target_discounted : (target : Option ℕ) → IsWordIfSome target → AreCounted (λ w. f w + target_weigh w target) counts → AreCounted f (target_fewer counts target)
+  target_discounted : (target : Option ℕ) → IsWordIfSome target → AreCounted (λ w. f w + target_weigh w target) counts
+      → AreCounted f (target_fewer counts target)
   target_discounted None small are = counted_same (λ w. f w + 0) f counts (λ w. omega arith) are
   target_discounted (Some serial) small are = counted_fewer f counts kind.SendOnce serial small are
 
-  send_counted : (references port : ℕ) → port < 2 ^ 64 → AreCounted f counts → AreCounted (λ w. f w + (if references == 0 then 0 else w kind.Send port)) (send_more counts references port)
-  send_counted references port small are = elim (references == 0) as (λ (b : Bool). AreCounted (λ w. f w + cond b 0 (w kind.Send port)) (cond b counts (right_more counts kind.Send port))) [
-    | true ↦ counted_same f (λ w. f w + 0) counts (λ w. omega arith) are
-    | false ↦ counted_more f counts kind.Send port small are
-  ]
+  send_counted : (references port : ℕ) → port < 2 ^ 64 → AreCounted f counts
+      → AreCounted (λ w. f w + (if references == 0 then 0 else w kind.Send port)) (send_more counts references port)
+  send_counted references port small are =
+      elim (references == 0) as (λ (b : Bool). AreCounted
+      (λ w. f w + cond b 0 (w kind.Send port)) (cond b counts (right_more counts kind.Send port))) [
+        | true ↦ counted_same f (λ w. f w + 0) counts (λ w. omega arith) are
+        | false ↦ counted_more f counts kind.Send port small are
+      ]
 
-  send_discounted : (references port : ℕ) → port < 2 ^ 64 → AreCounted (λ w. f w + (if references == 0 then 0 else w kind.Send port)) counts → AreCounted f (send_fewer counts references port)
-  send_discounted references port small are = elim (references == 0) as (λ (b : Bool). AreCounted (λ w. f w + cond b 0 (w kind.Send port)) counts → AreCounted f (cond b counts (right_fewer counts kind.Send port))) [
-    | true ↦ λ (had : _). counted_same (λ w. f w + 0) f counts (λ w. omega arith) had
-    | false ↦ λ (had : _). counted_fewer f counts kind.Send port small had
-  ] are
+  send_discounted : (references port : ℕ) → port < 2 ^ 64
+      → AreCounted (λ w. f w + (if references == 0 then 0 else w kind.Send port)) counts
+      → AreCounted f (send_fewer counts references port)
+  send_discounted references port small are =
+      elim (references == 0) as (λ (b : Bool). AreCounted (λ w. f w + cond b 0 (w kind.Send port)) counts
+      → AreCounted f (cond b counts (right_fewer counts kind.Send port))) [
+        | true ↦ λ (had : _). counted_same (λ w. f w + 0) f counts (λ w. omega arith) had
+        | false ↦ λ (had : _). counted_fewer f counts kind.Send port small had
+      ] are
 
-  receive_counted : (receive : Bool) (port : ℕ) → port < 2 ^ 64 → AreCounted f counts → AreCounted (λ w. f w + (if receive then w kind.Receive port else 0)) counts
+  receive_counted : (receive : Bool) (port : ℕ) → port < 2 ^ 64 → AreCounted f counts
+      → AreCounted (λ w. f w + (if receive then w kind.Receive port else 0)) counts
   receive_counted true port small are = counted_more f counts kind.Receive port small are
   receive_counted false port small are = counted_same f (λ w. f w + 0) counts (λ w. omega arith) are
 
-  receive_discounted : (receive : Bool) (port : ℕ) → port < 2 ^ 64 → AreCounted (λ w. f w + (if receive then w kind.Receive port else 0)) counts → AreCounted f counts
+  receive_discounted : (receive : Bool) (port : ℕ) → port < 2 ^ 64
+      → AreCounted (λ w. f w + (if receive then w kind.Receive port else 0)) counts → AreCounted f counts
   receive_discounted true port small are = counted_fewer f counts kind.Receive port small are
   receive_discounted false port small are = counted_same (λ w. f w + 0) f counts (λ w. omega arith) are
 
 -- what a name stands for is counted, or no longer counted
-pub entry_counted : (f : Weight → ℕ) (counts : Counts) (entry : Option Entry) → AreWords entry → AreCounted f counts → AreCounted (λ w. f w + under w entry) (entry_more counts entry)
+pub entry_counted : (f : Weight → ℕ) (counts : Counts) (entry : Option Entry) → AreWords entry → AreCounted f counts
+    → AreCounted (λ w. f w + under w entry) (entry_more counts entry)
 entry_counted f counts None small are = counted_same f (λ w. f w + 0) counts (λ w. omega arith) are
 entry_counted f counts (Some (Port rights)) small are =
     counted_same _ (λ w. f w + entry_weigh w (Port rights)) _ (λ w. omega arith)
     (target_counted _ (send_more counts rights.send rights.port) rights.dead_name_target small.1
-    (send_counted (λ w. f w + (if rights.receive then w kind.Receive rights.port else 0)) counts rights.send rights.port small.0 (receive_counted f counts rights.receive rights.port small.0 are)))
+    (send_counted (λ w. f w + (if rights.receive then w kind.Receive rights.port else 0)) counts rights.send rights.port
+    small.0 (receive_counted f counts rights.receive rights.port small.0 are)))
 entry_counted f counts (Some (SendOnce port target)) small are =
     counted_same _ (λ w. f w + entry_weigh w (SendOnce port target)) _ (λ w. omega arith)
-    (target_counted (λ w. f w + w kind.SendOnce port) (right_more counts kind.SendOnce port) target small.1 (counted_more f counts kind.SendOnce port small.0 are))
+    (target_counted (λ w. f w + w kind.SendOnce port) (right_more counts kind.SendOnce port) target small.1
+    (counted_more f counts kind.SendOnce port small.0 are))
 entry_counted f counts (Some Set) small are = counted_same f (λ w. f w + 0) counts (λ w. omega arith) are
 entry_counted f counts (Some (Dead references)) small are = counted_same f (λ w. f w + 0) counts (λ w. omega arith) are
 
-pub entry_discounted : (f : Weight → ℕ) (counts : Counts) (entry : Option Entry) → AreWords entry → AreCounted (λ w. f w + under w entry) counts → AreCounted f (entry_fewer counts entry)
+pub entry_discounted : (f : Weight → ℕ) (counts : Counts) (entry : Option Entry) → AreWords entry
+    → AreCounted (λ w. f w + under w entry) counts → AreCounted f (entry_fewer counts entry)
 entry_discounted f counts None small are = counted_same (λ w. f w + 0) f counts (λ w. omega arith) are
 entry_discounted f counts (Some (Port rights)) small are =
     let received : Weight → ℕ = λ w. f w + (if rights.receive then w kind.Receive rights.port else 0) in
     let sent : Weight → ℕ = λ w. received w + (if rights.send == 0 then 0 else w kind.Send rights.port) in
     receive_discounted f _ rights.receive rights.port small.0
     (send_discounted received _ rights.send rights.port small.0
-    (target_discounted sent counts rights.dead_name_target small.1 (counted_same (λ w. f w + entry_weigh w (Port rights)) (λ w. sent w + target_weigh w rights.dead_name_target) counts (λ w. omega arith) are)))
+    (target_discounted sent counts rights.dead_name_target small.1
+    (counted_same (λ w. f w + entry_weigh w (Port rights))
+    (λ w. sent w + target_weigh w rights.dead_name_target) counts (λ w. omega arith) are)))
 entry_discounted f counts (Some (SendOnce port target)) small are =
     let sent : Weight → ℕ = λ w. f w + w kind.SendOnce port in
     counted_fewer f _ kind.SendOnce port small.0
-    (target_discounted sent counts target small.1 (counted_same (λ w. f w + entry_weigh w (SendOnce port target)) (λ w. sent w + target_weigh w target) counts (λ w. omega arith) are))
+    (target_discounted sent counts target small.1
+    (counted_same (λ w. f w + entry_weigh w (SendOnce port target)) (λ w. sent w + target_weigh w target) counts
+    (λ w. omega arith) are))
 entry_discounted f counts (Some Set) small are = counted_same (λ w. f w + 0) f counts (λ w. omega arith) are
-entry_discounted f counts (Some (Dead references)) small are = counted_same (λ w. f w + 0) f counts (λ w. omega arith) are
+entry_discounted f counts (Some (Dead references)) small are =
+    counted_same (λ w. f w + 0) f counts (λ w. omega arith) are
 
 -- What the spaces weigh once what a name stands for was replaced.
-replaced : (names : Names) (name : ℕ) (change : Names → Names) (o : Option Entry) → ((n : ℕ) → get (change names) n ≡ cond (eq_by_cmp nat_cmp n name) o (get names n)) → change names ≡ changed names name o
-replaced names name change None each = same_map nat_cmp_total nat_cmp-IsAntisymmetric (change names) (remove names name) (λ n. each n ∙ sym (get-remove nat_cmp_total names name n))
-replaced names name change (Some entry) each = same_map nat_cmp_total nat_cmp-IsAntisymmetric (change names) (insert names name entry) (λ n. each n ∙ sym (get-insert nat_cmp_total names name entry n))
+replaced : (names : Names) (name : ℕ) (change : Names → Names) (o : Option Entry)
+    → ((n : ℕ) → get (change names) n ≡ cond (eq_by_cmp nat_cmp n name) o (get names n))
+    → change names ≡ changed names name o
+replaced names name change None each =
+    same_map nat_cmp_total nat_cmp-IsAntisymmetric (change names) (remove names name)
+    (λ n. each n ∙ sym (get-remove nat_cmp_total names name n))
+replaced names name change (Some entry) each =
+    same_map nat_cmp_total nat_cmp-IsAntisymmetric (change names) (insert names name entry)
+    (λ n. each n ∙ sym (get-insert nat_cmp_total names name entry n))
 
-pub moved_weight : (w : Weight) (spaces : SpaceMap) (space name : ℕ) (names : Names) (change : Names → Names) (o : Option Entry) → get spaces space ≡ Some names → ((n : ℕ) → get (change names) n ≡ cond (eq_by_cmp nat_cmp n name) o (get names n))
+pub moved_weight : (w : Weight) (spaces : SpaceMap) (space name : ℕ) (names : Names) (change : Names → Names)
+    (o : Option Entry) → get spaces space ≡ Some names
+    → ((n : ℕ) → get (change names) n ≡ cond (eq_by_cmp nat_cmp n name) o (get names n))
     → spaces_weigh w spaces + under w o ≡ spaces_weigh w (names_changed spaces space change) + under w (get names name)
 moved_weight w spaces space name names change o there each =
     omega (
@@ -133,20 +162,26 @@ moved_weight w spaces space name names change o there each =
       ap (weight (λ (s : ℕ) (ns : Names). names_weigh w ns) space) there,
       ap (names_weigh w) (replaced names name change o each),
       changed_weight w names name (get names name) o refl,
-      ap (λ (m : Option Names). spaces_weigh w (elim m as (λ _. SpaceMap) [ None ↦ spaces | Some ns ↦ insert spaces space (change ns) ])) there,
+      ap (λ (m : Option Names). spaces_weigh w
+          (elim m as (λ _. SpaceMap) [ None ↦ spaces | Some ns ↦ insert spaces space (change ns) ])) there,
     )
 
 -- counts of what all names of the spaces stand for
 abbrev pub SpacesAreCounted : SpaceMap → Counts → Type 0
 SpacesAreCounted spaces counts = AreCounted (λ w. spaces_weigh w spaces) counts
 
-pub moved_counted : (spaces : SpaceMap) (old new : Counts) (space name : ℕ) (names : Names) (change : Names → Names) (o : Option Entry) → get spaces space ≡ Some names
-    → ((n : ℕ) → get (change names) n ≡ cond (eq_by_cmp nat_cmp n name) o (get names n)) → AreWords (get names name) → AreWords o → new ≡ entry_fewer (entry_more old o) (get names name) → SpacesAreCounted spaces old
+pub moved_counted : (spaces : SpaceMap) (old new : Counts) (space name : ℕ) (names : Names) (change : Names → Names)
+    (o : Option Entry) → get spaces space ≡ Some names
+    → ((n : ℕ) → get (change names) n ≡ cond (eq_by_cmp nat_cmp n name) o (get names n)) → AreWords (get names name)
+    → AreWords o → new ≡ entry_fewer (entry_more old o) (get names name) → SpacesAreCounted spaces old
     → SpacesAreCounted (names_changed spaces space change) new
 moved_counted spaces old new space name names change o there each small other is are =
     subst (SpacesAreCounted (names_changed spaces space change)) (sym is)
-    (entry_discounted (λ w. spaces_weigh w (names_changed spaces space change)) (entry_more old o) (get names name) small
-    (counted_same (λ w. spaces_weigh w spaces + under w o) (λ w. spaces_weigh w (names_changed spaces space change) + under w (get names name)) (entry_more old o) (λ w. moved_weight w spaces space name names change o there each)
+    (entry_discounted (λ w. spaces_weigh w (names_changed spaces space change)) (entry_more old o)
+    (get names name) small
+    (counted_same (λ w. spaces_weigh w spaces + under w o)
+    (λ w. spaces_weigh w (names_changed spaces space change) + under w (get names name)) (entry_more old o)
+    (λ w. moved_weight w spaces space name names change o there each)
     (entry_counted (λ w. spaces_weigh w spaces) old o other are)))
 
 -- nothing is counted
@@ -156,27 +191,42 @@ no_names w = ap (weigh (λ (e : ℕ × Entry). entry_weigh w e.1)) entries_none
 no_spaces : (w : Weight) → spaces_weigh w empty ≡ 0
 no_spaces w = ap (weigh (λ (e : ℕ × Names). names_weigh w e.1)) entries_none
 
-pub nothing_counted : (spaces : SpaceMap) (counts : Counts) → spaces ≡ empty → counts ≡ empty → SpacesAreCounted spaces counts
+pub nothing_counted : (spaces : SpaceMap) (counts : Counts) → spaces ≡ empty → counts ≡ empty
+    → SpacesAreCounted spaces counts
 nothing_counted spaces counts none nothing = record {
   sends = λ serial small. none_of 0 serial ∙ sym (weighs_none (right_weight kind.Send serial));
   onces = λ serial small. none_of 1 serial ∙ sym (weighs_none (right_weight kind.SendOnce serial));
 }
   where
     none_of : (first serial : ℕ) → count_at counts first serial ≡ 0
-    none_of first serial = ap (λ (m : Counts). count_at m first serial) nothing ∙ none_counted empty first serial (get-empty nat_cmp _)
+    none_of first serial =
+        ap (λ (m : Counts). count_at m first serial) nothing ∙ none_counted empty first serial (get-empty nat_cmp _)
 
     weighs_none : (w : Weight) → spaces_weigh w spaces ≡ 0
     weighs_none w = ap (spaces_weigh w) none ∙ no_spaces w
 
 -- a space without names counts nothing, whether it exists or not
-pub opened_counted : (spaces : SpaceMap) (space : ℕ) (counts : Counts) → get spaces space ≡ None → SpacesAreCounted spaces counts → SpacesAreCounted (insert spaces space empty) counts
+pub opened_counted : (spaces : SpaceMap) (space : ℕ) (counts : Counts) → get spaces space ≡ None
+    → SpacesAreCounted spaces counts → SpacesAreCounted (insert spaces space empty) counts
 opened_counted spaces space counts none are =
-    counted_same (λ w. spaces_weigh w spaces) (λ w. spaces_weigh w (insert spaces space empty)) counts (λ w. omega (arith, total-new (λ (s : ℕ) (ns : Names). names_weigh w ns) spaces space empty none, no_names w)) are
+    counted_same (λ w. spaces_weigh w spaces) (λ w. spaces_weigh w (insert spaces space empty)) counts
+    (λ w. omega (arith, total-new (λ (s : ℕ) (ns : Names). names_weigh w ns) spaces space empty none, no_names w))
+    are
 
-pub closed_counted : (spaces : SpaceMap) (space : ℕ) (counts : Counts) → ((names : Names) → get spaces space ≡ Some names → names ≡ empty) → SpacesAreCounted spaces counts → SpacesAreCounted (remove spaces space) counts
+pub closed_counted : (spaces : SpaceMap) (space : ℕ) (counts : Counts)
+    → ((names : Names) → get spaces space ≡ Some names → names ≡ empty) → SpacesAreCounted spaces counts
+    → SpacesAreCounted (remove spaces space) counts
 closed_counted spaces space counts none are =
-    counted_same (λ w. spaces_weigh w spaces) (λ w. spaces_weigh w (remove spaces space)) counts (λ w. omega (arith, total-remove (λ (s : ℕ) (ns : Names). names_weigh w ns) spaces space, weighs_none w (get spaces space) refl)) are
+    counted_same (λ w. spaces_weigh w spaces) (λ w. spaces_weigh w (remove spaces space)) counts
+    (λ w. omega (
+      arith,
+      total-remove (λ (s : ℕ) (ns : Names). names_weigh w ns) spaces space,
+      weighs_none w (get spaces space) refl,
+    )) are
   where
-    weighs_none : (w : Weight) (o : Option Names) → get spaces space ≡ o → weight (λ (s : ℕ) (ns : Names). names_weigh w ns) space (get spaces space) ≡ 0
+    weighs_none : (w : Weight) (o : Option Names) → get spaces space ≡ o
+        → weight (λ (s : ℕ) (ns : Names). names_weigh w ns) space (get spaces space) ≡ 0
     weighs_none w None at = ap (weight (λ (s : ℕ) (ns : Names). names_weigh w ns) space) at
-    weighs_none w (Some names) at = ap (weight (λ (s : ℕ) (ns : Names). names_weigh w ns) space) at ∙ ap (names_weigh w) (none names at) ∙ no_names w
+    weighs_none w (Some names) at =
+        ap (weight (λ (s : ℕ) (ns : Names). names_weigh w ns) space) at ∙ ap (names_weigh w) (none names at)
+        ∙ no_names w

@@ -7,8 +7,10 @@ use Rattle.tracked_map.specs.Slots.{picked, get_picked}
 
 -- the least number, from a given one on, that a space has, among the numbers of 32 bits
 abbrev pub IsNextSpace : SpaceMap → ℕ → Option ℕ → Type 0
-IsNextSpace spaces from found = MatchOption found ((number : ℕ) → from ≤ number → number < 2 ^ 32 → get spaces number ≡ None)
-    (λ next. (from ≤ next) × (is_some (get spaces next) ≡ true) × ((number : ℕ) → from ≤ number → number < next → get spaces number ≡ None))
+IsNextSpace spaces from found =
+    MatchOption found ((number : ℕ) → from ≤ number → number < 2 ^ 32 → get spaces number ≡ None)
+    (λ next. (from ≤ next) × (is_some (get spaces next) ≡ true)
+    × ((number : ℕ) → from ≤ number → number < next → get spaces number ≡ None))
 
 -- no space has a number from `from` on that is below `at`
 abbrev pub ArePassed : SpaceMap → ℕ → ℕ → Type 0
@@ -16,7 +18,8 @@ ArePassed spaces from at = (number : ℕ) → from ≤ number → number < at �
 
 module _ (slots : SpaceSlots) (from at : ℕ) (passed : ArePassed (picked is slots) from at) where
   -- where there are no slots there are no spaces
-  pub passed_on : (next : ℕ) → ((number : ℕ) → at ≤ number → number < next → get slots number ≡ None) → ArePassed (picked is slots) from next
+  pub passed_on : (next : ℕ) → ((number : ℕ) → at ≤ number → number < next → get slots number ≡ None)
+      → ArePassed (picked is slots) from next
   passed_on next none = λ number le below. less_or_not number at (get (picked is slots) number ≡ None)
       (λ less. passed number le less)
       (λ more. get_picked is slots number ∙ ap (option_and_then is) (none number more below))
@@ -25,7 +28,8 @@ module _ (slots : SpaceSlots) (from at : ℕ) (passed : ArePassed (picked is slo
   pub passed_slot : is_some (option_and_then is (get slots at)) ≡ false → ArePassed (picked is slots) from (at + 1)
   passed_slot gone = λ number le below. less_or_not number at (get (picked is slots) number ≡ None)
       (λ less. passed number le less)
-      (λ more. ap (get (picked is slots)) (omega (arith, more, below)) ∙ get_picked is slots at ∙ nothing (option_and_then is (get slots at)) gone)
+      (λ more. ap (get (picked is slots)) (omega (arith, more, below)) ∙ get_picked is slots at
+      ∙ nothing (option_and_then is (get slots at)) gone)
     where
       nothing : {X : Type 0} (o : Option X) → is_some o ≡ false → o ≡ None
       nothing None none = refl

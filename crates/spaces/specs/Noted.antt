@@ -16,7 +16,8 @@ entry_at_place spaces number = entry_in spaces (number / 2 ^ 32) (number % 2 ^ 3
 
 -- each name whose place isn't among these stands for what it stood for
 abbrev pub AreNoted : SpaceMap → SpaceMap → List ℕ → Type 0
-AreNoted before current places = (number : ℕ) → is_touched number places ≡ false → entry_at_place current number ≡ entry_at_place before number
+AreNoted before current places =
+    (number : ℕ) → is_touched number places ≡ false → entry_at_place current number ≡ entry_at_place before number
 
 or_false : (a b : Bool) → (a || (b || false)) ≡ false → (a ≡ false) × (b ≡ false)
 or_false true b e = absurd (cc e)
@@ -28,34 +29,54 @@ pub none_noted : (before current : SpaceMap) (places : List ℕ) → current ≡
 none_noted before current places same number off = ap (λ (s : SpaceMap). entry_at_place s number) same
 
 -- names that look alike
-pub alike_noted : (before current after : SpaceMap) (places : List ℕ) → ((space name : ℕ) → entry_in current space name ≡ entry_in after space name) → AreNoted before current places → AreNoted before after places
-alike_noted before current after places alike are number off = sym (alike (number / 2 ^ 32) (number % 2 ^ 32)) ∙ are number off
+pub alike_noted : (before current after : SpaceMap) (places : List ℕ)
+    → ((space name : ℕ) → entry_in current space name ≡ entry_in after space name) → AreNoted before current places
+    → AreNoted before after places
+alike_noted before current after places alike are number off =
+    sym (alike (number / 2 ^ 32) (number % 2 ^ 32)) ∙ are number off
 
 -- the map from before is replaced by an equal one
-pub before_noted : (before other current : SpaceMap) (places : List ℕ) → other ≡ before → AreNoted before current places → AreNoted other current places
-before_noted before other current places same are number off = are number off ∙ ap (λ (s : SpaceMap). entry_at_place s number) (sym same)
+pub before_noted : (before other current : SpaceMap) (places : List ℕ) → other ≡ before → AreNoted before current places
+    → AreNoted other current places
+before_noted before other current places same are number off =
+    are number off ∙ ap (λ (s : SpaceMap). entry_at_place s number) (sym same)
 
 -- one name of a space has changed
-pub one_noted : (before current after : SpaceMap) (places then : List ℕ) (space name : ℕ) (change : Names → Names) (o : Option Entry) → name < 2 ^ 32
-    → ((names : Names) (n : ℕ) → get (change names) n ≡ cond (eq_by_cmp nat_cmp n name) o (get names n)) → after ≡ names_changed current space change → then ≡ places ++ place space name ∷ []
+pub one_noted : (before current after : SpaceMap) (places then : List ℕ) (space name : ℕ) (change : Names → Names)
+    (o : Option Entry) → name < 2 ^ 32
+    → ((names : Names) (n : ℕ) → get (change names) n ≡ cond (eq_by_cmp nat_cmp n name) o (get names n))
+    → after ≡ names_changed current space change → then ≡ places ++ place space name ∷ []
     → AreNoted before current places → AreNoted before after then
 one_noted before current after places then space name change o small changed is noted are number off =
     ap (λ (s : SpaceMap). entry_at_place s number) is
-    ∙ ap (option_and_then (λ (names : Names). get names (number % 2 ^ 32))) (get_names_changed current space change (number / 2 ^ 32) (get current space) refl)
+    ∙ ap (option_and_then (λ (names : Names). get names (number % 2 ^ 32)))
+    (get_names_changed current space change (number / 2 ^ 32) (get current space) refl)
     ∙ go (eq_by_cmp nat_cmp (number / 2 ^ 32) space) refl
     ∙ are number parts.0
   where
     parts : (is_touched number places ≡ false) × (eq_by_cmp nat_cmp number (place space name) ≡ false)
-    parts = or_false (is_touched number places) (eq_by_cmp nat_cmp number (place space name)) (sym (ap (is_touched number) noted ∙ touched_append number places (place space name ∷ [])) ∙ off)
+    parts =
+        or_false (is_touched number places) (eq_by_cmp nat_cmp number (place space name))
+        (sym (ap (is_touched number) noted ∙ touched_append number places (place space name ∷ [])) ∙ off)
 
     apart : eq_by_cmp nat_cmp (number / 2 ^ 32) space ≡ true → eq_by_cmp nat_cmp (number % 2 ^ 32) name ≡ false
-    apart first = sym (ap (λ (b : Bool). b && eq_by_cmp nat_cmp (number % 2 ^ 32) name) first) ∙ sym (place_same number space name small) ∙ parts.1
+    apart first =
+        sym (ap (λ (b : Bool). b && eq_by_cmp nat_cmp (number % 2 ^ 32) name) first)
+        ∙ sym (place_same number space name small) ∙ parts.1
 
-    there : (m : Option Names) → eq_by_cmp nat_cmp (number / 2 ^ 32) space ≡ true → option_and_then (λ (names : Names). get names (number % 2 ^ 32)) (option_map change m) ≡ option_and_then (λ (names : Names). get names (number % 2 ^ 32)) m
+    there : (m : Option Names) → eq_by_cmp nat_cmp (number / 2 ^ 32) space ≡ true
+        → option_and_then (λ (names : Names). get names (number % 2 ^ 32)) (option_map change m) ≡ option_and_then
+        (λ (names : Names). get names (number % 2 ^ 32)) m
     there None first = refl
-    there (Some names) first = changed names (number % 2 ^ 32) ∙ ap (λ (b : Bool). cond b o (get names (number % 2 ^ 32))) (apart first)
+    there (Some names) first =
+        changed names (number % 2 ^ 32) ∙ ap (λ (b : Bool). cond b o (get names (number % 2 ^ 32))) (apart first)
 
     go : (b : Bool) → eq_by_cmp nat_cmp (number / 2 ^ 32) space ≡ b
-        → option_and_then (λ (names : Names). get names (number % 2 ^ 32)) (cond b (option_map change (get current space)) (get current (number / 2 ^ 32))) ≡ entry_at_place current number
-    go true same = there (get current space) same ∙ ap (λ (k : ℕ). option_and_then (λ (names : Names). get names (number % 2 ^ 32)) (get current k)) (sym (key_is (number / 2 ^ 32) space same))
+        → option_and_then (λ (names : Names). get names (number % 2 ^ 32))
+        (cond b (option_map change (get current space)) (get current (number / 2 ^ 32)))
+        ≡ entry_at_place current number
+    go true same =
+        there (get current space) same ∙ ap
+        (λ (k : ℕ). option_and_then (λ (names : Names). get names (number % 2 ^ 32)) (get current k))
+        (sym (key_is (number / 2 ^ 32) space same))
     go false _ = refl

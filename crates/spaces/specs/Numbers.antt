@@ -34,37 +34,55 @@ pub record IsFreeNumber (spaces : SpaceMap) (number : ℕ) : Type 0 where
   pub least : (k : ℕ) → 0 < k → k < number → IsSome (get spaces k)
 
 pub none_taken : (numbers : Numbers) → ((k : ℕ) → place_at numbers k ≡ 0) → AreTaken numbers empty
-none_taken numbers free = record { each = λ k few. free k ∙ sym (ap (λ (o : Option Names). cond {A = ℕ} (is_some o) 1 0) (get-empty nat_cmp (k + 1))) }
+none_taken numbers free =
+    record {
+      each = λ k few. free k
+          ∙ sym (ap (λ (o : Option Names). cond {A = ℕ} (is_some o) 1 0) (get-empty nat_cmp (k + 1)));
+    }
 
 -- spaces of the same numbers
-pub same_taken : (numbers : Numbers) (spaces other : SpaceMap) → ((q : ℕ) → is_some (get other q) ≡ is_some (get spaces q)) → AreTaken numbers spaces → AreTaken numbers other
-same_taken numbers spaces other same taken = record { each = λ k few. taken.each k few ∙ ap (λ (b : Bool). cond {A = ℕ} b 1 0) (sym (same (k + 1))) }
+pub same_taken : (numbers : Numbers) (spaces other : SpaceMap)
+    → ((q : ℕ) → is_some (get other q) ≡ is_some (get spaces q)) → AreTaken numbers spaces → AreTaken numbers other
+same_taken numbers spaces other same taken =
+    record { each = λ k few. taken.each k few ∙ ap (λ (b : Bool). cond {A = ℕ} b 1 0) (sym (same (k + 1))) }
 
 -- different numbers have different places
 apart : (k number place : ℕ) → number ≡ place + 1 → eq_by_cmp nat_cmp (k + 1) number ≡ false → k ≢ place
-apart k number place at other same = absurd (cc (sym other ∙ ap (λ (q : ℕ). eq_by_cmp nat_cmp q number) (omega (arith, same, at)) ∙ same_key number))
+apart k number place at other same =
+    absurd (cc (sym other ∙ ap (λ (q : ℕ). eq_by_cmp nat_cmp q number) (omega (arith, same, at)) ∙ same_key number))
 
-module _ (old new : Numbers) (number place : ℕ) (at : number ≡ place + 1) (others : (k : ℕ) → k ≢ place → place_at new k ≡ place_at old k) (spaces : SpaceMap) (taken : AreTaken old spaces) where
+module _ (old new : Numbers) (number place : ℕ) (at : number ≡ place + 1)
+    (others : (k : ℕ) → k ≢ place → place_at new k ≡ place_at old k) (spaces : SpaceMap)
+    (taken : AreTaken old spaces) where
   pub added_taken : (names : Names) → place_at new place ≡ 1 → AreTaken new (insert spaces number names)
   added_taken names is = record {
-    each = λ k few. go k few (eq_by_cmp nat_cmp (k + 1) number) refl ∙ sym (ap (λ (o : Option Names). cond {A = ℕ} (is_some o) 1 0) (get-insert nat_cmp_total spaces number names (k + 1)));
+    each =
+        λ k few. go k few (eq_by_cmp nat_cmp (k + 1) number) refl
+        ∙ sym (ap (λ (o : Option Names). cond {A = ℕ} (is_some o) 1 0)
+        (get-insert nat_cmp_total spaces number names (k + 1)));
   }
     where
-      go : (k : ℕ) → k < 256 → (b : Bool) → eq_by_cmp nat_cmp (k + 1) number ≡ b → place_at new k ≡ cond {A = ℕ} (is_some (cond b (Some names) (get spaces (k + 1)))) 1 0
+      go : (k : ℕ) → k < 256 → (b : Bool) → eq_by_cmp nat_cmp (k + 1) number ≡ b
+          → place_at new k ≡ cond {A = ℕ} (is_some (cond b (Some names) (get spaces (k + 1)))) 1 0
       go k few true same = ap (place_at new) (omega (arith, key_is (k + 1) number same, at)) ∙ is
       go k few false other = others k (apart k number place at other) ∙ taken.each k few
 
   pub removed_taken : place_at new place ≡ 0 → AreTaken new (remove spaces number)
   removed_taken is = record {
-    each = λ k few. go k few (eq_by_cmp nat_cmp (k + 1) number) refl ∙ sym (ap (λ (o : Option Names). cond {A = ℕ} (is_some o) 1 0) (get-remove nat_cmp_total spaces number (k + 1)));
+    each =
+        λ k few. go k few (eq_by_cmp nat_cmp (k + 1) number) refl
+        ∙ sym (ap (λ (o : Option Names). cond {A = ℕ} (is_some o) 1 0)
+        (get-remove nat_cmp_total spaces number (k + 1)));
   }
     where
-      go : (k : ℕ) → k < 256 → (b : Bool) → eq_by_cmp nat_cmp (k + 1) number ≡ b → place_at new k ≡ cond {A = ℕ} (is_some (cond b None (get spaces (k + 1)))) 1 0
+      go : (k : ℕ) → k < 256 → (b : Bool) → eq_by_cmp nat_cmp (k + 1) number ≡ b
+          → place_at new k ≡ cond {A = ℕ} (is_some (cond b None (get spaces (k + 1)))) 1 0
       go k few true same = ap (place_at new) (omega (arith, key_is (k + 1) number same, at)) ∙ is
       go k few false other = others k (apart k number place at other) ∙ taken.each k few
 
 -- a number that has no place
-module _ (numbers : Numbers) (number : ℕ) (outside : (k : ℕ) → k < 256 → number ≡ k + 1 → ⊥) (spaces : SpaceMap) (taken : AreTaken numbers spaces) where
+module _ (numbers : Numbers) (number : ℕ) (outside : (k : ℕ) → k < 256 → number ≡ k + 1 → ⊥) (spaces : SpaceMap)
+    (taken : AreTaken numbers spaces) where
   other_place : (k : ℕ) → k < 256 → eq_by_cmp nat_cmp (k + 1) number ≡ false
   other_place k few = go (eq_by_cmp nat_cmp (k + 1) number) refl
     where
@@ -74,25 +92,38 @@ module _ (numbers : Numbers) (number : ℕ) (outside : (k : ℕ) → k < 256 →
 
   pub added_outside : (names : Names) → AreTaken numbers (insert spaces number names)
   added_outside names = record {
-    each = λ k few. taken.each k few ∙ sym (ap (λ (o : Option Names). cond {A = ℕ} (is_some o) 1 0) (get-insert nat_cmp_total spaces number names (k + 1) ∙ ap (λ (b : Bool). cond b (Some names) (get spaces (k + 1))) (other_place k few)));
+    each =
+        λ k few. taken.each k few ∙ sym
+        (ap (λ (o : Option Names). cond {A = ℕ} (is_some o) 1 0)
+        (get-insert nat_cmp_total spaces number names (k + 1) ∙ ap
+        (λ (b : Bool). cond b (Some names) (get spaces (k + 1))) (other_place k few)));
   }
 
   pub removed_outside : AreTaken numbers (remove spaces number)
   removed_outside = record {
-    each = λ k few. taken.each k few ∙ sym (ap (λ (o : Option Names). cond {A = ℕ} (is_some o) 1 0) (get-remove nat_cmp_total spaces number (k + 1) ∙ ap (λ (b : Bool). cond b None (get spaces (k + 1))) (other_place k few)));
+    each =
+        λ k few. taken.each k few ∙ sym
+        (ap (λ (o : Option Names). cond {A = ℕ} (is_some o) 1 0)
+        (get-remove nat_cmp_total spaces number (k + 1) ∙ ap
+        (λ (b : Bool). cond b None (get spaces (k + 1))) (other_place k few)));
   }
 
 -- the places of the words after one
-pub word_taken : (numbers : Numbers) (words word k : ℕ) → word ≡ get_or numbers.words words 0 → ((i : ℕ) → i < 64 → bit_at word i ≡ 1) → ((q : ℕ) → q < 64 * words → place_at numbers q ≡ 1) → k < 64 * words + 64 → place_at numbers k ≡ 1
-word_taken numbers words word k is all before less = elim (nat_lt k (64 * words)) as (λ (b : Bool). nat_lt k (64 * words) ≡ b → place_at numbers k ≡ 1) [
-  | true ↦ λ (e : _). before k (ltb-true k (64 * words) e)
-  | false ↦ λ (e : _).
-      let here : k / 64 ≡ words = omega (arith, less, ltb-false k (64 * words) e) in
-      ap (λ (w : ℕ). bit_at (get_or numbers.words w 0) (k % 64)) here ∙ ap (λ (w : ℕ). bit_at w (k % 64)) (sym is) ∙ all (k % 64) (omega arith)
-] refl
+pub word_taken : (numbers : Numbers) (words word k : ℕ) → word ≡ get_or numbers.words words 0
+    → ((i : ℕ) → i < 64 → bit_at word i ≡ 1) → ((q : ℕ) → q < 64 * words → place_at numbers q ≡ 1) → k < 64 * words + 64
+    → place_at numbers k ≡ 1
+word_taken numbers words word k is all before less =
+    elim (nat_lt k (64 * words)) as (λ (b : Bool). nat_lt k (64 * words) ≡ b → place_at numbers k ≡ 1) [
+      | true ↦ λ (e : _). before k (ltb-true k (64 * words) e)
+      | false ↦ λ (e : _).
+          let here : k / 64 ≡ words = omega (arith, less, ltb-false k (64 * words) e) in
+          ap (λ (w : ℕ). bit_at (get_or numbers.words w 0) (k % 64)) here ∙ ap (λ (w : ℕ). bit_at w (k % 64)) (sym is)
+          ∙ all (k % 64) (omega arith)
+    ] refl
 
 -- the first free place of the words is in this one
-pub found_free : (numbers : Numbers) (words word bit found : ℕ) → words < 4 → word ≡ get_or numbers.words words 0 → found ≡ 64 * words + bit → (bit < 64) × (bit_at word bit ≡ 0) × ((i : ℕ) → i < bit → bit_at word i ≡ 1)
+pub found_free : (numbers : Numbers) (words word bit found : ℕ) → words < 4 → word ≡ get_or numbers.words words 0
+    → found ≡ 64 * words + bit → (bit < 64) × (bit_at word bit ≡ 0) × ((i : ℕ) → i < bit → bit_at word i ≡ 1)
     → ((q : ℕ) → q < 64 * words → place_at numbers q ≡ 1) → IsFirstFree numbers found
 found_free numbers words word bit found few is at first before = record {
   few = omega (arith, few, at, first.0);
@@ -101,15 +132,19 @@ found_free numbers words word bit found few is at first before = record {
     | true ↦ λ (e : _). before k (ltb-true k (64 * words) e)
     | false ↦ λ (e : _).
         let more : 64 * words ≤ k = ltb-false k (64 * words) e in
-        in_word k (k - 64 * words) (omega (arith, less, more, at, first.0)) (omega (arith, less, more, at, first.0)) ∙ first.2 (k - 64 * words) (omega (arith, less, more, at))
+        in_word k (k - 64 * words) (omega (arith, less, more, at, first.0)) (omega (arith, less, more, at, first.0))
+        ∙ first.2 (k - 64 * words) (omega (arith, less, more, at))
   ] refl;
 }
   where
     in_word : (k i : ℕ) → k / 64 ≡ words → k % 64 ≡ i → place_at numbers k ≡ bit_at word i
-    in_word k i here there = ap (λ (w : ℕ). bit_at (get_or numbers.words w 0) (k % 64)) here ∙ ap (λ (w : ℕ). bit_at w (k % 64)) (sym is) ∙ ap (bit_at word) there
+    in_word k i here there =
+        ap (λ (w : ℕ). bit_at (get_or numbers.words w 0) (k % 64)) here ∙ ap (λ (w : ℕ). bit_at w (k % 64)) (sym is)
+        ∙ ap (bit_at word) there
 
 -- the number after the first free place
-pub free_is : (numbers : Numbers) (spaces : SpaceMap) (found : ℕ) → AreTaken numbers spaces → IsFirstFree numbers found → len spaces < MAX_SPACES → IsFreeNumber spaces (found + 1)
+pub free_is : (numbers : Numbers) (spaces : SpaceMap) (found : ℕ) → AreTaken numbers spaces → IsFirstFree numbers found
+    → len spaces < MAX_SPACES → IsFreeNumber spaces (found + 1)
 free_is numbers spaces found taken free room = record {
   first = omega arith;
   few = omega (arith, short);
@@ -119,7 +154,10 @@ free_is numbers spaces found taken free room = record {
   where
     used : (k : ℕ) → 0 < k → k ≤ found → is_some (get spaces k) ≡ true
     used k some less =
-        ap (λ (q : ℕ). is_some (get spaces q)) (omega (arith, some)) ∙ there (get spaces ((k - 1) + 1)) (sym (taken.each (k - 1) (omega (arith, some, less, free.few))) ∙ free.taken (k - 1) (omega (arith, some, less)))
+        ap (λ (q : ℕ). is_some (get spaces q)) (omega (arith, some))
+        ∙ there (get spaces ((k - 1) + 1))
+        (sym (taken.each (k - 1) (omega (arith, some, less, free.few)))
+        ∙ free.taken (k - 1) (omega (arith, some, less)))
       where
         there : (o : Option Names) → cond {A = ℕ} (is_some o) 1 0 ≡ 1 → is_some o ≡ true
         there None is = absurd (omega (arith, is))
@@ -128,7 +166,13 @@ free_is numbers spaces found taken free room = record {
     short : found < 256
     short = elim (nat_lt found 256) as (λ (b : Bool). nat_lt found 256 ≡ b → found < 256) [
       | true ↦ λ (less : _). ltb-true found 256 less
-      | false ↦ λ (more : _). absurd (omega (arith, room, crowded 256 spaces 1 (λ k le lt. used k (omega (arith, le)) (omega (arith, lt, ltb-false found 256 more)))))
+      | false ↦ λ (more : _). absurd
+          (omega (
+            arith,
+            room,
+            crowded 256 spaces 1
+                (λ k le lt. used k (omega (arith, le)) (omega (arith, lt, ltb-false found 256 more))),
+          ))
     ] refl
 
     none : (o : Option Names) → cond {A = ℕ} (is_some o) 1 0 ≡ 0 → o ≡ None

@@ -4,5 +4,18 @@ pub use Rattle.place_index.specs.Indexed.{IsIndexed, alike_indexed, nothing_inde
 pub use Rattle.place_index.specs.Places.{IsNext, Numbers, moved, stands_at}
 pub use Rattle.port_space.specs.References.{AreFewReferences}
 pub use Rattle.port_space.specs.Renaming.{under_other_name}
-pub use Rattle.port_space.specs.Walking.{IsNextEntry, above_all, below_none, entries_alike, entries_from, entries_none, entries_split, from_end, from_first, from_next, from_on, nothing_from}
+pub use Rattle.port_space.specs.Walking.{
+  IsNextEntry,
+  above_all,
+  below_none,
+  entries_alike,
+  entries_from,
+  entries_none,
+  entries_split,
+  from_end,
+  from_first,
+  from_next,
+  from_on,
+  nothing_from,
+}
 pub use Rattle.tracked_map.specs.Tracked.{Tracked}

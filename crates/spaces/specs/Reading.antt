@@ -25,10 +25,16 @@ module _ (spaces : SpaceMap) (space : ℕ) (gone : None ≡ get spaces space) wh
   no_name name = ap (λ (n : Names). get n name) no_names ∙ get-empty nat_cmp name
 
   pub no_port : (port : ℕ) → None ≡ name_of_port (names_of spaces space) port
-  no_port port = sym (ap (λ (n : Names). name_of_port n port) no_names ∙ ap (λ (es : List (ℕ × Entry)). option_map (λ e. e.0) (find (λ e. is_number (port_held e.1) port) es)) entries_none)
+  no_port port =
+      sym (ap (λ (n : Names). name_of_port n port) no_names ∙ ap
+      (λ (es : List (ℕ × Entry)). option_map (λ e. e.0) (find (λ e. is_number (port_held e.1) port) es))
+      entries_none)
 
   pub nowhere : (name port : ℕ) → false ≡ stands_elsewhere (names_of spaces space) name port
-  nowhere name port = sym (ap (λ (n : Names). stands_elsewhere n name port) no_names ∙ ap (λ (es : List (ℕ × Entry)). list_any (λ e. is_number (port_held e.1) port && not (e.0 == name)) es) entries_none)
+  nowhere name port =
+      sym (ap (λ (n : Names). stands_elsewhere n name port) no_names ∙ ap
+      (λ (es : List (ℕ × Entry)). list_any (λ e. is_number (port_held e.1) port && not (e.0 == name)) es)
+      entries_none)
 
   pub unused : (name : ℕ) → 0 < name → name < MACH_PORT_DEAD → IsUnused (names_of spaces space) name
   unused name least below = record { least = least; below_dead = below; free = no_name name }

@@ -17,57 +17,81 @@ use Rattle.spaces.specs.Slots.{SpaceMap, names_changed}
 
 -- A name is taken out of use, and another stands for what it stood for.
 pub renamed : (spaces : SpaceMap) (space from to : ℕ) (entry : Entry) → entry_in spaces space from ≡ Some entry
-    → names_changed (names_changed spaces space (λ names. remove names from)) space (λ names. insert names to entry) ≡ names_changed spaces space (λ names. under_other_name names from to)
+    → names_changed (names_changed spaces space (λ names. remove names from)) space (λ names. insert names to entry)
+    ≡ names_changed spaces space (λ names. under_other_name names from to)
 renamed spaces space from to entry stands = go (get spaces space) refl
   where
     go : (o : Option Names) → get spaces space ≡ o
-        → names_changed (names_changed spaces space (λ names. remove names from)) space (λ names. insert names to entry) ≡ names_changed spaces space (λ names. under_other_name names from to)
+        → names_changed (names_changed spaces space (λ names. remove names from)) space (λ names. insert names to entry)
+        ≡ names_changed spaces space (λ names. under_other_name names from to)
     go None at = absurd (cc (sym stands ∙ ap (option_and_then (λ (n : Names). get n from)) at))
     go (Some names) at =
         let here : get names from ≡ Some entry = sym (ap (option_and_then (λ (n : Names). get n from)) at) ∙ stands in
         let other : Names = insert (remove names from) to entry in
-        ap (λ (s : SpaceMap). names_changed s space (λ names. insert names to entry)) (changed_there spaces space (λ names. remove names from) names at)
-        ∙ changed_there (insert spaces space (remove names from)) space (λ names. insert names to entry) (remove names from) (get-here spaces space (remove names from))
+        ap (λ (s : SpaceMap). names_changed s space (λ names. insert names to entry))
+        (changed_there spaces space (λ names. remove names from) names at)
+        ∙ changed_there (insert spaces space (remove names from)) space
+        (λ names. insert names to entry) (remove names from) (get-here spaces space (remove names from))
         ∙ insert-insert spaces space (remove names from) other
-        ∙ sym (changed_there spaces space (λ names. under_other_name names from to) names at ∙ ap (λ (o : Option Entry). insert spaces space (elim o as (λ _. Names) [ None ↦ names | Some e ↦ insert (remove names from) to e ])) here)
+        ∙ sym (changed_there spaces space (λ names. under_other_name names from to) names at ∙ ap
+        (λ (o : Option Entry). insert spaces space
+        (elim o as (λ _. Names) [ None ↦ names | Some e ↦ insert (remove names from) to e ])) here)
 
-pub not_renamed : (spaces : SpaceMap) (space from to : ℕ) → entry_in spaces space from ≡ None → spaces ≡ names_changed spaces space (λ names. under_other_name names from to)
+pub not_renamed : (spaces : SpaceMap) (space from to : ℕ) → entry_in spaces space from ≡ None
+    → spaces ≡ names_changed spaces space (λ names. under_other_name names from to)
 not_renamed spaces space from to nothing = go (get spaces space) refl
   where
-    go : (o : Option Names) → get spaces space ≡ o → spaces ≡ names_changed spaces space (λ names. under_other_name names from to)
+    go : (o : Option Names) → get spaces space ≡ o
+        → spaces ≡ names_changed spaces space (λ names. under_other_name names from to)
     go None at = sym (changed_absent spaces space (λ names. under_other_name names from to) at)
     go (Some names) at =
         let here : get names from ≡ None = sym (ap (option_and_then (λ (n : Names). get n from)) at) ∙ nothing in
-        sym (changed_there spaces space (λ names. under_other_name names from to) names at ∙ ap (λ (o : Option Entry). insert spaces space (elim o as (λ _. Names) [ None ↦ names | Some e ↦ insert (remove names from) to e ])) here ∙ insert-same spaces space names at)
+        sym (changed_there spaces space (λ names. under_other_name names from to) names at ∙ ap
+        (λ (o : Option Entry). insert spaces space
+        (elim o as (λ _. Names) [ None ↦ names | Some e ↦ insert (remove names from) to e ])) here
+        ∙ insert-same spaces space names at)
 
 -- A name that stands for nothing is taken out of use.
 nothing_removed : (names : Names) (name : ℕ) → get names name ≡ None → remove names name ≡ names
-nothing_removed names name none = same_map nat_cmp_total nat_cmp-IsAntisymmetric _ _ (λ q. get-remove nat_cmp_total names name q ∙ go q (eq_by_cmp nat_cmp q name) refl)
+nothing_removed names name none =
+    same_map nat_cmp_total nat_cmp-IsAntisymmetric _ _
+    (λ q. get-remove nat_cmp_total names name q ∙ go q (eq_by_cmp nat_cmp q name) refl)
   where
     go : (q : ℕ) (b : Bool) → eq_by_cmp nat_cmp q name ≡ b → cond b None (get names q) ≡ get names q
     go q true same = sym (ap (get names) (key_is q name same) ∙ none)
     go q false _ = refl
 
-pub none_removed : (spaces : SpaceMap) (space name : ℕ) → entry_in spaces space name ≡ None → names_changed spaces space (λ names. remove names name) ≡ spaces
+pub none_removed : (spaces : SpaceMap) (space name : ℕ) → entry_in spaces space name ≡ None
+    → names_changed spaces space (λ names. remove names name) ≡ spaces
 none_removed spaces space name nothing = go (get spaces space) refl
   where
     go : (o : Option Names) → get spaces space ≡ o → names_changed spaces space (λ names. remove names name) ≡ spaces
     go None at = changed_absent spaces space (λ names. remove names name) at
     go (Some names) at =
         let here : get names name ≡ None = sym (ap (option_and_then (λ (n : Names). get n name)) at) ∙ nothing in
-        changed_there spaces space (λ names. remove names name) names at ∙ ap (insert spaces space) (nothing_removed names name here) ∙ insert-same spaces space names at
+        changed_there spaces space (λ names. remove names name) names at
+        ∙ ap (insert spaces space) (nothing_removed names name here) ∙ insert-same spaces space names at
 
 -- If a name is taken out of use, there is room for another.
-pub room_left : (spaces : SpaceMap) (space from : ℕ) (entry : Entry) (names : Names) → entry_in spaces space from ≡ Some entry → get (names_changed spaces space (λ ns. remove ns from)) space ≡ Some names
+pub room_left : (spaces : SpaceMap) (space from : ℕ) (entry : Entry) (names : Names)
+    → entry_in spaces space from ≡ Some entry
+    → get (names_changed spaces space (λ ns. remove ns from)) space ≡ Some names
     → len (names_of spaces space) ≤ MAX_NAMES → len names < MAX_NAMES
 room_left spaces space from entry names stood there few = go (get spaces space) refl
   where
     go : (o : Option Names) → get spaces space ≡ o → len names < MAX_NAMES
     go None at = absurd (cc (sym stood ∙ ap (option_and_then (λ (n : Names). get n from)) at))
     go (Some former) at =
-        let same : names ≡ remove former from = some_same names (remove former from) (sym there ∙ ap (λ (s : SpaceMap). get s space) (changed_there spaces space (λ ns. remove ns from) former at) ∙ get-here spaces space (remove former from)) in
+        let same : names ≡ remove former from =
+        some_same names (remove former from)
+        (sym there ∙ ap (λ (s : SpaceMap). get s space)
+        (changed_there spaces space (λ ns. remove ns from) former at)
+        ∙ get-here spaces space (remove former from)) in
         let had : get former from ≡ Some entry = sym (ap (option_and_then (λ (n : Names). get n from)) at) ∙ stood in
-        let less : len (remove former from) ≡ len former - 1 = len-remove nat_cmp_total former from ∙ ap (λ (e : Option Entry). cond (is_some e) (len former - 1) (len former)) had in
-        let many : len (names_of spaces space) ≡ len former = ap (λ (o : Option Names). len (elim o as (λ _. Names) [ None ↦ empty | Some n ↦ n ])) at in
+        let less : len (remove former from) ≡ len former - 1 =
+        len-remove nat_cmp_total former from ∙ ap
+        (λ (e : Option Entry). cond (is_some e) (len former - 1) (len former)) had in
+        let many : len (names_of spaces space) ≡ len former =
+        ap (λ (o : Option Names). len (elim o as (λ _. Names) [ None ↦ empty | Some n ↦ n ])) at in
         let fewer : len (remove former from) < MAX_NAMES = omega (arith, less, many, few) in
         subst (λ (n : Names). len n < MAX_NAMES) (sym same) fewer

@@ -16,7 +16,9 @@ pub record SpaceSlot : Type 0 where
   pub current : Option Names
 
 abbrev pub slot_code : Coded SpaceSlot
-slot_code = code_by (Option Names × Option Names) (coded× (coded_option names_code) (coded_option names_code)) (λ s. (s.before, s.current)) (λ p. record { before = p.0; current = p.1 }) (λ _. refl)
+slot_code =
+    code_by (Option Names × Option Names) (coded× (coded_option names_code) (coded_option names_code))
+    (λ s. (s.before, s.current)) (λ p. record { before = p.0; current = p.1 }) (λ _. refl)
 
 -- a slot without changes to commit or roll back
 abbrev pub slot_at_rest : Option Names → SpaceSlot
@@ -32,7 +34,9 @@ pub record TrackedSpaces : Type 0 where
   pub current : SpaceMap
 
 abbrev pub spaces_code : Coded TrackedSpaces
-spaces_code = code_by (SpaceMap × SpaceMap) (coded× (map.code coded_ℕ names_code) (map.code coded_ℕ names_code)) (λ s. (s.before, s.current)) (λ p. record { before = p.0; current = p.1 }) (λ _. refl)
+spaces_code =
+    code_by (SpaceMap × SpaceMap) (coded× (map.code coded_ℕ names_code) (map.code coded_ℕ names_code))
+    (λ s. (s.before, s.current)) (λ p. record { before = p.0; current = p.1 }) (λ _. refl)
 
 abbrev pub spaces_at_rest : SpaceMap → TrackedSpaces
 spaces_at_rest spaces = record { before = spaces; current = spaces }
@@ -55,11 +59,14 @@ SpaceSlots = map.FinMap {K = ℕ} nat_cmp SpaceSlot
 
 -- what a name of a slot's space stands for
 abbrev pub stood_at : SpaceSlots → ℕ → ℕ → Option Entry
-stood_at slots space name = option_and_then (λ (slot : SpaceSlot). option_and_then (λ (names : Names). map.get names name) slot.current) (map.get slots space)
+stood_at slots space name =
+    option_and_then (λ (slot : SpaceSlot). option_and_then (λ (names : Names). map.get names name) slot.current)
+    (map.get slots space)
 
 -- one slot changed, if there is one of this key
 abbrev pub slot_changed : SpaceSlots → ℕ → (SpaceSlot → SpaceSlot) → SpaceSlots
-slot_changed slots key change = elim (map.get slots key) as (λ _. SpaceSlots) [ None ↦ slots | Some slot ↦ map.insert slots key (change slot) ]
+slot_changed slots key change =
+    elim (map.get slots key) as (λ _. SpaceSlots) [ None ↦ slots | Some slot ↦ map.insert slots key (change slot) ]
 
 -- a space without names is made
 abbrev pub slot_opened : SpaceSlots → ℕ → SpaceSlots
@@ -70,4 +77,6 @@ slot_opened slots key = elim (map.get slots key) as (λ _. SpaceSlots) [
 
 -- the names of one space changed, if it exists
 abbrev pub names_changed : SpaceMap → ℕ → (Names → Names) → SpaceMap
-names_changed spaces space change = elim (map.get spaces space) as (λ _. SpaceMap) [ None ↦ spaces | Some names ↦ map.insert spaces space (change names) ]
+names_changed spaces space change =
+    elim (map.get spaces space) as (λ _. SpaceMap)
+    [ None ↦ spaces | Some names ↦ map.insert spaces space (change names) ]

@@ -21,8 +21,12 @@ impl Spaces {
     /// by space and name; and dead-name requests whose target it is are removed. If an allocation fails, the changes
     /// are rolled back.
     pub fn bury(&mut self, port: u64, effects: &mut Effects) -> Result<(), AllocError>
-        ensures ok { OnOk result (self.new ≡ record self.old { current = map_values (map_values (entry_after_death port)) self.old.current }) }
-        ensures notified { OnOk result (effects.new ≡ effects.old ++ flat_map (λ s. flat_map (λ e. dead_name_of_entry port e.0 e.1) (map.entries s.1)) (map.entries self.old.current)) }
+        ensures ok { OnOk result (self.new
+            ≡ record self.old { current = map_values (map_values (entry_after_death port)) self.old.current }) }
+        ensures notified { OnOk result
+            (effects.new ≡ effects.old ++ flat_map
+            (λ s. flat_map (λ e. dead_name_of_entry port e.0 e.1) (map.entries s.1))
+            (map.entries self.old.current)) }
         ensures err { OnErr result (self.new ≡ spaces_at_rest self.old.before) }
     {
         self.show_counts_small();
@@ -62,8 +66,12 @@ impl Spaces {
 
     /// The name at a place becomes what it is after the death of a port, and the notice for its request is added.
     fn bury_at(&mut self, port: u64, number: u64, effects: &mut Effects) -> Result<(), AllocError>
-        ensures ok { OnOk result (MatchOption (entry_in self.old.current (number / 2 ^ 32) (number % 2 ^ 32)) (self.new ≡ self.old)
-            (λ entry. self.new ≡ record self.old { current = names_changed self.old.current (number / 2 ^ 32) (λ names. map.insert names (number % 2 ^ 32) (entry_after_death port entry)) })) }
+        ensures ok { OnOk result (MatchOption (entry_in self.old.current (number / 2 ^ 32) (number % 2 ^ 32))
+            (self.new ≡ self.old)
+            (λ entry. self.new ≡ record self.old {
+              current = names_changed self.old.current (number / 2 ^ 32)
+                  (λ names. map.insert names (number % 2 ^ 32) (entry_after_death port entry));
+            })) }
         ensures notified { OnOk result (effects.new ≡ effects.old ++ notice_of port self.old.current number) }
         ensures err { OnErr result (self.new ≡ spaces_at_rest self.old.before) }
     {

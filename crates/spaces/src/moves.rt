@@ -17,7 +17,11 @@ impl Spaces {
     pub fn rename(&mut self, space: u32, from: u32, to: u32) -> Result<Option<Entry>, AllocError>
         requires unused { entry_in self.old.current space to ≡ None }
         ensures entry { IfOk result (λ entry. entry ≡ entry_in self.old.current space from) }
-        ensures ok { OnOk result (self.new ≡ record self.old { current = names_changed self.old.current space (λ names. under_other_name names from to) }) }
+        ensures ok { OnOk result (self.new
+            ≡ record self.old {
+              current = names_changed self.old.current space
+                  (λ names. under_other_name names from to);
+            }) }
         ensures err { OnErr result (self.new ≡ spaces_at_rest self.old.before) }
     {
         self.show_names_few(space);

@@ -45,7 +45,8 @@ fn next_there(slots: &NumberTable<Space>, from: u64) -> Option<u32>
 /// The least number of a word from `from` on that has a slot, and whether there is a space in it.
 fn next_slot(slots: &NumberTable<Space>, from: u64) -> Option<(u32, bool)>
     ensures slot { MatchOption result ((number : ℕ) → from ≤ number → number < 2 ^ 32 → map.get slots.now number ≡ None)
-        (λ e. (from ≤ e.0) × (e.1 ≡ is_some (option_and_then is (map.get slots.now e.0))) × ((number : ℕ) → from ≤ number → number < e.0 → map.get slots.now number ≡ None)) }
+        (λ e. (from ≤ e.0) × (e.1 ≡ is_some (option_and_then is (map.get slots.now e.0)))
+        × ((number : ℕ) → from ≤ number → number < e.0 → map.get slots.now number ≡ None)) }
     ensures fits { IfSome result (λ e. e.0 < 2 ^ 32) }
 {
     let Some((key, slot)) = slots.next_from(from) else {

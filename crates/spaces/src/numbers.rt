@@ -24,7 +24,8 @@ impl Numbers {
 
     /// A space has this number from now on.
     pub(crate) fn add(&mut self, number: u32)
-        ensures { (spaces : SpaceMap) → AreTaken self.old spaces → AreTaken self.new (map.insert spaces number map.empty) }
+        ensures { (spaces : SpaceMap) → AreTaken self.old spaces
+            → AreTaken self.new (map.insert spaces number map.empty) }
     {
         if let Some(place) = place_of(number) {
             self.take(place);
@@ -77,7 +78,8 @@ impl Numbers {
 
 /// The place of a number, if it has one.
 fn place_of(number: u32) -> Option<u32>
-    ensures { MatchOption result ((k : ℕ) → k < 256 → number ≡ k + 1 → ⊥) (λ place. (place < 256) × (number ≡ place + 1)) }
+    ensures { MatchOption result ((k : ℕ) → k < 256 → number ≡ k + 1 → ⊥)
+        (λ place. (place < 256) × (number ≡ place + 1)) }
 {
     if 0 < number && number as usize <= MAX_SPACES {
         Some(number - 1)
@@ -88,7 +90,8 @@ fn place_of(number: u32) -> Option<u32>
 
 /// The first bit of a word that isn't set, if there is one.
 fn first_clear(word: u64) -> Option<u32>
-    ensures { MatchOption result ((i : ℕ) → i < 64 → bit_at word i ≡ 1) (λ bit. (bit < 64) × (bit_at word bit ≡ 0) × ((i : ℕ) → i < bit → bit_at word i ≡ 1)) }
+    ensures { MatchOption result ((i : ℕ) → i < 64 → bit_at word i ≡ 1)
+        (λ bit. (bit < 64) × (bit_at word bit ≡ 0) × ((i : ℕ) → i < bit → bit_at word i ≡ 1)) }
 {
     if word == u64::MAX {
         None

@@ -33,7 +33,8 @@ impl Model for Space {
     } };
 
     // A space that doesn't exist has no names.
-    ghost invariant = { λ s. (s.was_there ≡ false → s.names.before ≡ map.empty) × (s.is_there ≡ false → s.names.current ≡ map.empty) };
+    ghost invariant = { λ s. (s.was_there ≡ false → s.names.before ≡ map.empty)
+        × (s.is_there ≡ false → s.names.current ≡ map.empty) };
 }
 
 impl Space {
@@ -88,10 +89,13 @@ impl Space {
     /// Makes a name stand for this, if the space exists, and returns what it stood for. If an allocation fails, the
     /// changes are rolled back.
     pub(crate) fn put(&mut self, name: u32, entry: Entry) -> Result<Option<Entry>, AllocError>
-        requires room { (names : Names) → self.old.current ≡ Some names → map.get names name ≡ None → map.len names < MAX_NAMES }
+        requires room { (names : Names) → self.old.current ≡ Some names → map.get names name ≡ None
+            → map.len names < MAX_NAMES }
         requires few { AreFewReferences entry }
-        ensures former { IfOk result (λ former. former ≡ option_and_then (λ names. map.get names name) self.old.current) }
-        ensures ok { OnOk result (self.new ≡ record self.old { current = option_map (λ names. map.insert names name entry) self.old.current }) }
+        ensures former { IfOk result (λ former. former ≡ option_and_then
+            (λ names. map.get names name) self.old.current) }
+        ensures ok { OnOk result (self.new
+            ≡ record self.old { current = option_map (λ names. map.insert names name entry) self.old.current }) }
         ensures err { OnErr result (self.new ≡ slot_at_rest self.old.before) }
     {
         if !self.is_there {
@@ -108,9 +112,11 @@ impl Space {
 
     /// Takes a name out of use, and returns what it stood for. If an allocation fails, the changes are rolled back.
     pub(crate) fn remove(&mut self, name: u32) -> Result<Option<Entry>, AllocError>
-        ensures former { IfOk result (λ former. former ≡ option_and_then (λ names. map.get names name) self.old.current) }
+        ensures former { IfOk result (λ former. former ≡ option_and_then
+            (λ names. map.get names name) self.old.current) }
         ensures few { IfOk result (λ former. IfSome former AreFewReferences) }
-        ensures ok { OnOk result (self.new ≡ record self.old { current = option_map (λ names. map.remove names name) self.old.current }) }
+        ensures ok { OnOk result (self.new
+            ≡ record self.old { current = option_map (λ names. map.remove names name) self.old.current }) }
         ensures err { OnErr result (self.new ≡ slot_at_rest self.old.before) }
     {
         if !self.is_there {

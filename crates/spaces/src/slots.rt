@@ -35,7 +35,8 @@ pub(crate) fn open_at(
 
 /// Removes a space without names.
 pub(crate) fn close_at(slots: &mut NumberTable<Space>, space: u32)
-    requires empty { (slot : SpaceSlot) → map.get slots.old space ≡ Some slot → (names : Names) → slot.current ≡ Some names → names ≡ map.empty }
+    requires empty { (slot : SpaceSlot) → map.get slots.old space ≡ Some slot → (names : Names)
+        → slot.current ≡ Some names → names ≡ map.empty }
     ensures { slots.new ≡ slot_changed slots.old space (λ slot. record slot { current = None }) }
 {
     if let Some(slot) = slots.get_mut(space) {
@@ -51,10 +52,12 @@ pub(crate) fn put_at(
     name: u32,
     entry: Entry,
 ) -> Result<Option<Entry>, AllocError>
-    requires room { (slot : SpaceSlot) → map.get slots.old space ≡ Some slot → (names : Names) → slot.current ≡ Some names → map.get names name ≡ None → map.len names < MAX_NAMES }
+    requires room { (slot : SpaceSlot) → map.get slots.old space ≡ Some slot → (names : Names)
+        → slot.current ≡ Some names → map.get names name ≡ None → map.len names < MAX_NAMES }
     requires few { AreFewReferences entry }
     ensures former { IfOk result (λ former. former ≡ stood_at slots.old space name) }
-    ensures ok { OnOk result (slots.new ≡ slot_changed slots.old space (λ slot. record slot { current = option_map (λ names. map.insert names name entry) slot.current })) }
+    ensures ok { OnOk result (slots.new ≡ slot_changed slots.old space
+        (λ slot. record slot { current = option_map (λ names. map.insert names name entry) slot.current })) }
     ensures err { OnErr result (slots.new ≡ slot_changed slots.old space (λ slot. slot_at_rest slot.before)) }
 {
     match slots.get_mut(space) {
@@ -72,7 +75,8 @@ pub(crate) fn remove_at(
 ) -> Result<Option<Entry>, AllocError>
     ensures former { IfOk result (λ former. former ≡ stood_at slots.old space name) }
     ensures few { IfOk result (λ former. IfSome former AreFewReferences) }
-    ensures ok { OnOk result (slots.new ≡ slot_changed slots.old space (λ slot. record slot { current = option_map (λ names. map.remove names name) slot.current })) }
+    ensures ok { OnOk result (slots.new ≡ slot_changed slots.old space
+        (λ slot. record slot { current = option_map (λ names. map.remove names name) slot.current })) }
     ensures err { OnErr result (slots.new ≡ slot_changed slots.old space (λ slot. slot_at_rest slot.before)) }
 {
     match slots.get_mut(space) {

@@ -41,7 +41,8 @@ impl Model for Spaces {
 
     ghost invariant = { λ s.
         AreIndexed s.table.before s.indexes.sharers.before s.indexes.requesters.before s.indexes.receivers.before s.indexes.counts.before
-        × AreIndexed s.table.current s.indexes.sharers.current s.indexes.requesters.current s.indexes.receivers.current s.indexes.counts.current
+        × AreIndexed s.table.current s.indexes.sharers.current s.indexes.requesters.current s.indexes.receivers.current
+        s.indexes.counts.current
         × AreNoted s.table.before s.table.current s.indexes.changed.items };
 }
 
@@ -94,10 +95,15 @@ impl Spaces {
         name: u32,
         entry: Entry,
     ) -> Result<Option<Entry>, AllocError>
-        requires room { (names : Names) → map.get self.old.current space ≡ Some names → map.get names name ≡ None → map.len names < MAX_NAMES }
+        requires room { (names : Names) → map.get self.old.current space ≡ Some names → map.get names name ≡ None
+            → map.len names < MAX_NAMES }
         requires few { AreFewReferences entry }
         ensures former { IfOk result (λ former. former ≡ entry_in self.old.current space name) }
-        ensures ok { OnOk result (self.new ≡ record self.old { current = names_changed self.old.current space (λ names. map.insert names name entry) }) }
+        ensures ok { OnOk result (self.new
+            ≡ record self.old {
+              current = names_changed self.old.current space
+                  (λ names. map.insert names name entry);
+            }) }
         ensures err { OnErr result (self.new ≡ spaces_at_rest self.old.before) }
     {
         if !self.contains(space) {
@@ -118,7 +124,8 @@ impl Spaces {
     pub fn remove_name(&mut self, space: u32, name: u32) -> Result<Option<Entry>, AllocError>
         ensures former { IfOk result (λ former. former ≡ entry_in self.old.current space name) }
         ensures few { IfOk result (λ former. IfSome former AreFewReferences) }
-        ensures ok { OnOk result (self.new ≡ record self.old { current = names_changed self.old.current space (λ names. map.remove names name) }) }
+        ensures ok { OnOk result (self.new
+            ≡ record self.old { current = names_changed self.old.current space (λ names. map.remove names name) }) }
         ensures err { OnErr result (self.new ≡ spaces_at_rest self.old.before) }
     {
         if !self.contains(space) {
@@ -139,7 +146,8 @@ impl Spaces {
     pub fn add(&mut self, space: u32) -> Result<(), AllocError>
         requires absent { map.get self.old.current space ≡ None }
         requires room { map.len self.old.current < 2 ^ 32 }
-        ensures ok { OnOk result (self.new ≡ record self.old { current = map.insert self.old.current space map.empty }) }
+        ensures ok { OnOk result (self.new
+            ≡ record self.old { current = map.insert self.old.current space map.empty }) }
         ensures err { OnErr result (self.new ≡ spaces_at_rest self.old.before) }
     {
         match self.table.add(space) {
@@ -196,7 +204,8 @@ impl Spaces {
 
     /// How many send rights to a port names hold.
     pub fn sends(&self, port: u64) -> u64
-        ensures value { result ≡ total (λ space names. names_weigh (right_weight kind.Send port) names) self.now.current }
+        ensures value { result ≡ total
+            (λ space names. names_weigh (right_weight kind.Send port) names) self.now.current }
         ensures few { result < 2 ^ 63 }
     {
         self.indexes.counts.sends(port)
@@ -204,7 +213,8 @@ impl Spaces {
 
     /// How many send-once rights to a port names hold, and dead-name requests have as targets.
     pub fn send_onces(&self, port: u64) -> u64
-        ensures value { result ≡ total (λ space names. names_weigh (right_weight kind.SendOnce port) names) self.now.current }
+        ensures value { result ≡ total
+            (λ space names. names_weigh (right_weight kind.SendOnce port) names) self.now.current }
         ensures few { result < 2 ^ 63 }
     {
         self.indexes.counts.send_onces(port)
@@ -273,11 +283,14 @@ fn put_in_both(
     name: u32,
     entry: Entry,
 ) -> Result<Option<Entry>, AllocError>
-    requires room { (names : Names) → map.get table.old.current space ≡ Some names → map.get names name ≡ None → map.len names < MAX_NAMES }
+    requires room { (names : Names) → map.get table.old.current space ≡ Some names → map.get names name ≡ None
+        → map.len names < MAX_NAMES }
     requires few { AreFewReferences entry }
     ensures former { IfOk result (λ former. former ≡ entry_in table.old.current space name) }
-    ensures table { OnOk result (table.new ≡ record table.old { current = names_changed table.old.current space (λ names. map.insert names name entry) }) }
-    ensures indexes { OnOk result (IsMoved indexes.old indexes.new (place space name) (entry_in table.old.current space name) (Some entry)) }
+    ensures table { OnOk result (table.new
+        ≡ record table.old { current = names_changed table.old.current space (λ names. map.insert names name entry) }) }
+    ensures indexes { OnOk result (IsMoved indexes.old indexes.new (place space name)
+        (entry_in table.old.current space name) (Some entry)) }
     ensures before { table.new.before ≡ table.old.before }
     ensures indexes_before { SameBefore indexes.old indexes.new }
 {
@@ -295,8 +308,10 @@ fn remove_from_both(
 ) -> Result<Option<Entry>, AllocError>
     ensures former { IfOk result (λ former. former ≡ entry_in table.old.current space name) }
     ensures few { IfOk result (λ former. IfSome former AreFewReferences) }
-    ensures table { OnOk result (table.new ≡ record table.old { current = names_changed table.old.current space (λ names. map.remove names name) }) }
-    ensures indexes { OnOk result (IsMoved indexes.old indexes.new (place space name) (entry_in table.old.current space name) None) }
+    ensures table { OnOk result (table.new
+        ≡ record table.old { current = names_changed table.old.current space (λ names. map.remove names name) }) }
+    ensures indexes { OnOk result (IsMoved indexes.old indexes.new (place space name)
+        (entry_in table.old.current space name) None) }
     ensures before { table.new.before ≡ table.old.before }
     ensures indexes_before { SameBefore indexes.old indexes.new }
 {

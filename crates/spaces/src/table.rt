@@ -102,7 +102,8 @@ impl SpaceTable {
     pub fn add(&mut self, space: u32) -> Result<(), AllocError>
         requires absent { map.get self.old.current space ≡ None }
         requires room { map.len self.old.current < 2 ^ 32 }
-        ensures ok { OnOk result (self.new ≡ record self.old { current = map.insert self.old.current space map.empty }) }
+        ensures ok { OnOk result (self.new
+            ≡ record self.old { current = map.insert self.old.current space map.empty }) }
         ensures err { OnErr result (self.new ≡ spaces_at_rest self.old.before) }
     {
         if self.touched.reserve(1).is_err() {
@@ -126,10 +127,15 @@ impl SpaceTable {
     /// Makes a name of a space stand for this, if the space exists, and returns what it stood for. If an allocation
     /// fails, the changes are rolled back.
     pub fn put(&mut self, space: u32, name: u32, entry: Entry) -> Result<Option<Entry>, AllocError>
-        requires room { (names : Names) → map.get self.old.current space ≡ Some names → map.get names name ≡ None → map.len names < MAX_NAMES }
+        requires room { (names : Names) → map.get self.old.current space ≡ Some names → map.get names name ≡ None
+            → map.len names < MAX_NAMES }
         requires few { AreFewReferences entry }
         ensures former { IfOk result (λ former. former ≡ entry_in self.old.current space name) }
-        ensures ok { OnOk result (self.new ≡ record self.old { current = names_changed self.old.current space (λ names. map.insert names name entry) }) }
+        ensures ok { OnOk result (self.new
+            ≡ record self.old {
+              current = names_changed self.old.current space
+                  (λ names. map.insert names name entry);
+            }) }
         ensures err { OnErr result (self.new ≡ spaces_at_rest self.old.before) }
     {
         if self.touched.reserve(1).is_err() {
@@ -156,7 +162,8 @@ impl SpaceTable {
     pub fn remove(&mut self, space: u32, name: u32) -> Result<Option<Entry>, AllocError>
         ensures former { IfOk result (λ former. former ≡ entry_in self.old.current space name) }
         ensures few { IfOk result (λ former. IfSome former AreFewReferences) }
-        ensures ok { OnOk result (self.new ≡ record self.old { current = names_changed self.old.current space (λ names. map.remove names name) }) }
+        ensures ok { OnOk result (self.new
+            ≡ record self.old { current = names_changed self.old.current space (λ names. map.remove names name) }) }
         ensures err { OnErr result (self.new ≡ spaces_at_rest self.old.before) }
     {
         if self.touched.reserve(1).is_err() {

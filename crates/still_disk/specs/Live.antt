@@ -8,7 +8,8 @@ module _ {Moment : Type 0} (Later : Moment → Moment → Type 0) (slot : Moment
   -- before it when it was read.
   pub data Copied (begun : Moment) : Moment → List ℕ → Type 0 where
     nothing_yet : Copied begun begun []
-    one_piece_more : {last : Moment} {copy : List ℕ} (now : Moment) (count : ℕ) (longer : List ℕ) → Copied begun last copy → Later last now
+    one_piece_more : {last : Moment} {copy : List ℕ} (now : Moment) (count : ℕ) (longer : List ℕ)
+        → Copied begun last copy → Later last now
         → longer ≡ copy ++ take count (drop (length copy) (slot now)) → Copied begun now longer
 
   -- A copy is whole once nothing comes after it.
@@ -66,8 +67,10 @@ module _ {Moment : Type 0} (Later : Moment → Moment → Type 0) (slots : Momen
 
   -- copies between two readings of the fronts that agree
   abbrev pub IsReading : Moment → Moment → Slots → Type 0
-  IsReading begun ended copies = (fronts again : Slots) × Tried begun ended fronts copies again × Agree fronts copies again
+  IsReading begun ended copies =
+      (fronts again : Slots) × Tried begun ended fronts copies again × Agree fronts copies again
 
   -- copies between two readings of the fronts that don't agree
   abbrev pub HasChanged : Moment → Moment → Type 0
-  HasChanged begun ended = (fronts copies again : Slots) × Tried begun ended fronts copies again × (Agree fronts copies again → ⊥)
+  HasChanged begun ended =
+      (fronts copies again : Slots) × Tried begun ended fronts copies again × (Agree fronts copies again → ⊥)

@@ -23,7 +23,8 @@ fn read_slots<S: LiveSlots>(
     piece: &mut [u8],
 ) -> Result<StillDisk, CopyFault>
     requires { 0 < length piece.old }
-    ensures copied { S.honest → IfOk result (λ copy. SlotsCopied S.later S.slots (S.now live.old) (S.now live.new) (still_slots copy)) }
+    ensures copied { S.honest → IfOk result
+        (λ copy. SlotsCopied S.later S.slots (S.now live.old) (S.now live.new) (still_slots copy)) }
     ensures unfailed { IfOk result (λ copy. copy.failures ≡ 0) }
     ensures later { S.honest → S.later (S.now live.old) (S.now live.new) }
     ensures idle { IfErr result (λ fault. fault ≢ CopyFault.Busy) }
@@ -45,8 +46,11 @@ fn try_copy<S: LiveSlots>(
     piece: &mut [u8],
 ) -> Result<Option<StillDisk>, CopyFault>
     requires { 0 < length piece.old }
-    ensures reading { S.honest → IfOk result (λ found. IfSome found (λ copy. IsReading S.later S.slots (S.now live.old) (S.now live.new) (still_slots copy))) }
-    ensures changed { S.honest → IfOk result (λ found. IfNone found (HasChanged S.later S.slots (S.now live.old) (S.now live.new))) }
+    ensures reading { S.honest → IfOk result
+        (λ found. IfSome found (λ copy. IsReading S.later S.slots (S.now live.old) (S.now live.new)
+        (still_slots copy))) }
+    ensures changed { S.honest → IfOk result
+        (λ found. IfNone found (HasChanged S.later S.slots (S.now live.old) (S.now live.new))) }
     ensures unfailed { IfOk result (λ found. IfSome found (λ copy. copy.failures ≡ 0)) }
     ensures later { S.honest → S.later (S.now live.old) (S.now live.new) }
     ensures idle { IfErr result (λ fault. fault ≢ CopyFault.Busy) }
@@ -70,8 +74,11 @@ fn copy_by<S: LiveSlots>(
     piece: &mut [u8],
 ) -> Result<StillDisk, CopyFault>
     requires { 0 < length piece.old }
-    ensures reading { S.honest → IfOk result (λ copy. (begun : S.Moment) × S.later (S.now live.old) begun × IsReading S.later S.slots begun (S.now live.new) (still_slots copy)) }
-    ensures busy { S.honest → IsErrOf result CopyFault.Busy → (begun ended : S.Moment) × S.later (S.now live.old) begun × HasChanged S.later S.slots begun ended }
+    ensures reading { S.honest → IfOk result
+        (λ copy. (begun : S.Moment) × S.later (S.now live.old) begun
+        × IsReading S.later S.slots begun (S.now live.new) (still_slots copy)) }
+    ensures busy { S.honest → IsErrOf result CopyFault.Busy → (begun ended : S.Moment) × S.later (S.now live.old) begun
+        × HasChanged S.later S.slots begun ended }
     ensures unfailed { IfOk result (λ copy. copy.failures ≡ 0) }
     ensures later { S.honest → S.later (S.now live.old) (S.now live.new) }
     ensures failures { S.failed live.new ≡ counted result (S.failed live.old) }
@@ -94,8 +101,11 @@ fn copy_by<S: LiveSlots>(
 ///
 /// `Device`: the device failed. `NoMemory`: out of memory. `Busy`: a front changed during each of a hundred tries.
 pub fn live_copy<S: LiveSlots>(alloc: Global, live: &mut S) -> Result<StillDisk, CopyFault>
-    ensures reading { S.honest → IfOk result (λ copy. (begun : S.Moment) × S.later (S.now live.old) begun × IsReading S.later S.slots begun (S.now live.new) (still_slots copy)) }
-    ensures busy { S.honest → IsErrOf result CopyFault.Busy → (begun ended : S.Moment) × S.later (S.now live.old) begun × HasChanged S.later S.slots begun ended }
+    ensures reading { S.honest → IfOk result
+        (λ copy. (begun : S.Moment) × S.later (S.now live.old) begun
+        × IsReading S.later S.slots begun (S.now live.new) (still_slots copy)) }
+    ensures busy { S.honest → IsErrOf result CopyFault.Busy → (begun ended : S.Moment) × S.later (S.now live.old) begun
+        × HasChanged S.later S.slots begun ended }
     ensures unfailed { IfOk result (λ copy. ⟦<StillDisk as Disk>⟧.failed_calls copy ≡ 0) }
     ensures later { S.honest → S.later (S.now live.old) (S.now live.new) }
     ensures failures { S.failed live.new ≡ counted result (S.failed live.old) }

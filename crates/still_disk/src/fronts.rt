@@ -39,7 +39,8 @@ fn read_front<S: LiveSlots>(
     size: usize,
 ) -> Result<Vec<u8>, CopyFault>
     requires { size ≤ 24 }
-    ensures front { S.honest → IfOk result (λ front. front.items ≡ take size (slot_of (S.slots (S.now live.new)) slot)) }
+    ensures front { S.honest → IfOk result
+        (λ front. front.items ≡ take size (slot_of (S.slots (S.now live.new)) slot)) }
     ensures later { S.honest → S.later (S.now live.old) (S.now live.new) }
     ensures idle { IfErr result (λ fault. fault ≢ CopyFault.Busy) }
     ensures failures { S.failed live.new ≡ counted result (S.failed live.old) }
@@ -51,7 +52,8 @@ fn read_front<S: LiveSlots>(
 
 /// The fronts of the four slots.
 pub(crate) fn read_fronts<S: LiveSlots>(alloc: Global, live: &mut S) -> Result<Fronts, CopyFault>
-    ensures fronts { S.honest → IfOk result (λ fronts. FrontsRead S.later S.slots (S.now live.old) (S.now live.new) (front_slots fronts)) }
+    ensures fronts { S.honest → IfOk result
+        (λ fronts. FrontsRead S.later S.slots (S.now live.old) (S.now live.new) (front_slots fronts)) }
     ensures later { S.honest → S.later (S.now live.old) (S.now live.new) }
     ensures idle { IfErr result (λ fault. fault ≢ CopyFault.Busy) }
     ensures failures { S.failed live.new ≡ counted result (S.failed live.old) }

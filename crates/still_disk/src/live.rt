@@ -33,9 +33,11 @@ pub trait LiveSlots {
     /// for only at the slot's end.
     fn read_live(&mut self, slot: Slot, at: u64, buffer: &mut [u8]) -> Result<usize, DiskFault>
         ensures later { honest → later (now self.old) (now self.new) }
-        ensures count { honest → IfOk result (λ n. n ≡ min (length buffer.old) (length (slot_of (slots (now self.new)) slot) - at)) }
+        ensures count { honest → IfOk result
+            (λ n. n ≡ min (length buffer.old) (length (slot_of (slots (now self.new)) slot) - at)) }
         ensures within { IfOk result (λ n. n ≤ length buffer.old) }
-        ensures bytes { honest → IfOk result (λ n. buffer.new ≡ take n (drop at (slot_of (slots (now self.new)) slot)) ++ drop n buffer.old) }
+        ensures bytes { honest → IfOk result
+            (λ n. buffer.new ≡ take n (drop at (slot_of (slots (now self.new)) slot)) ++ drop n buffer.old) }
         ensures failures { CountsFailure (failed self.old) (failed self.new) result };
 }
 

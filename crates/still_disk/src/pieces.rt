@@ -16,9 +16,11 @@ fn read_on<S: LiveSlots>(
     bytes: &mut Vec<u8>,
 ) -> Result<usize, CopyFault>
     requires { 0 < length piece.old }
-    ensures more { S.honest → (begun : S.Moment) → Copied S.later (λ m. slot_of (S.slots m) slot) begun (S.now live.old) bytes.old.items
+    ensures more { S.honest → (begun : S.Moment)
+        → Copied S.later (λ m. slot_of (S.slots m) slot) begun (S.now live.old) bytes.old.items
         → OnOk result (Copied S.later (λ m. slot_of (S.slots m) slot) begun (S.now live.new) bytes.new.items) }
-    ensures end { S.honest → IfOk result (λ n. n ≡ 0 → length (slot_of (S.slots (S.now live.new)) slot) ≤ length bytes.new.items) }
+    ensures end { S.honest → IfOk result
+        (λ n. n ≡ 0 → length (slot_of (S.slots (S.now live.new)) slot) ≤ length bytes.new.items) }
     ensures longer { IfOk result (λ n. length bytes.new.items ≡ length bytes.old.items + n) }
     ensures later { S.honest → S.later (S.now live.old) (S.now live.new) }
     ensures idle { IfErr result (λ fault. fault ≢ CopyFault.Busy) }
@@ -41,7 +43,8 @@ pub(crate) fn read_slot<S: LiveSlots>(
     piece: &mut [u8],
 ) -> Result<Vec<u8>, CopyFault>
     requires { 0 < length piece.old }
-    ensures copied { S.honest → IfOk result (λ bytes. IsCopy S.later (λ m. slot_of (S.slots m) slot) (S.now live.old) (S.now live.new) bytes.items) }
+    ensures copied { S.honest → IfOk result
+        (λ bytes. IsCopy S.later (λ m. slot_of (S.slots m) slot) (S.now live.old) (S.now live.new) bytes.items) }
     ensures later { S.honest → S.later (S.now live.old) (S.now live.new) }
     ensures idle { IfErr result (λ fault. fault ≢ CopyFault.Busy) }
     ensures failures { S.failed live.new ≡ counted result (S.failed live.old) }

@@ -13,11 +13,13 @@ use Rattle.store_half.specs.Values.{CheckpointValue, StoreValue}
 
 -- the post-crash contents while a batch is appended to an epoch's segment
 abbrev pub PassesAppend : ℕ → View → View → BatchValue → Type 0
-PassesAppend epoch old new batch = Passes old new (Follows old (segment_slot epoch) (λ before after. IsMidAppend before (content_of batch) after))
+PassesAppend epoch old new batch =
+    Passes old new (Follows old (segment_slot epoch) (λ before after. IsMidAppend before (content_of batch) after))
 
 -- a batch stands in an epoch's segment, after what stood there before
 abbrev pub IsAppended : ℕ → Slots → Slots → BatchValue → Type 0
-IsAppended epoch old new batch = new ≡ with_slot old (segment_slot epoch) (with_batch (slot_of old (segment_slot epoch)) (content_of batch))
+IsAppended epoch old new batch =
+    new ≡ with_slot old (segment_slot epoch) (with_batch (slot_of old (segment_slot epoch)) (content_of batch))
 
 -- which step of a checkpoint comes next
 
@@ -52,9 +54,13 @@ module _ {D : Type 0} (honest : Type 0) (view : D → View) where
     pub rest : new ≡ record old { disk = new.disk; checkpoint = Some (record checkpoint { rolled = 1 }) }
     pub begun : honest → 0 < length (slot_of (view new.disk).seen (segment_slot checkpoint.epoch))
     pub closed : honest → IsClosed (slot_of (view new.disk).seen (segment_slot checkpoint.epoch))
-    pub others : honest → (view new.disk).seen ≡ with_slot (view old.disk).seen (segment_slot checkpoint.epoch) (slot_of (view new.disk).seen (segment_slot checkpoint.epoch))
+    pub others : honest → (view new.disk).seen
+        ≡ with_slot (view old.disk).seen (segment_slot checkpoint.epoch)
+        (slot_of (view new.disk).seen (segment_slot checkpoint.epoch))
     pub synced : honest → IsSynced (view new.disk) (segment_slot checkpoint.epoch)
-    pub passes : honest → IsSynced (view old.disk) (segment_slot checkpoint.epoch) → Passes (view old.disk) (view new.disk) (Follows (view old.disk) (segment_slot checkpoint.epoch) (IsClosing 16))
+    pub passes : honest → IsSynced (view old.disk) (segment_slot checkpoint.epoch)
+        → Passes (view old.disk) (view new.disk)
+        (Follows (view old.disk) (segment_slot checkpoint.epoch) (IsClosing 16))
 
   -- Its header stands after the gate, and a closed gate after the header.
   pub record RollsHead (old new : StoreValue D) : Type 0 where
@@ -64,9 +70,11 @@ module _ {D : Type 0} (honest : Type 0) (view : D → View) where
     pub unfailed : old.failed ≡ false
     pub rest : new ≡ record old { disk = new.disk; checkpoint = Some (record checkpoint { rolled = 2 }) }
     pub header : honest → (view new.disk).seen ≡ with_slot (view old.disk).seen (segment_slot checkpoint.epoch)
-        (take 1 (slot_of (view old.disk).seen (segment_slot checkpoint.epoch)) ++ (epoch_encoding checkpoint.epoch ++ closed_gate ∷ []))
+        (take 1 (slot_of (view old.disk).seen (segment_slot checkpoint.epoch))
+        ++ (epoch_encoding checkpoint.epoch ++ closed_gate ∷ []))
     pub synced : honest → IsSynced (view new.disk) (segment_slot checkpoint.epoch)
-    pub passes : honest → IsShut (view old.disk) (segment_slot checkpoint.epoch) → Passes (view old.disk) (view new.disk) (Follows (view old.disk) (segment_slot checkpoint.epoch) IsStillClosed)
+    pub passes : honest → IsShut (view old.disk) (segment_slot checkpoint.epoch)
+        → Passes (view old.disk) (view new.disk) (Follows (view old.disk) (segment_slot checkpoint.epoch) IsStillClosed)
 
   -- It is open: the next epoch's batches are stored there from now on.
   pub record RollsOpen (old new : StoreValue D) : Type 0 where
@@ -75,10 +83,17 @@ module _ {D : Type 0} (honest : Type 0) (view : D → View) where
     pub next : checkpoint.rolled ≡ 2
     pub whole : old.segment.records ≡ checkpoint.log
     pub unfailed : old.failed ≡ false
-    pub rest : new ≡ record old { disk = new.disk; segment = record { epoch = checkpoint.epoch; records = 0 }; checkpoint = Some (record checkpoint { rolled = 3 }) }
-    pub opened : honest → (view new.disk).seen ≡ with_slot (view old.disk).seen (segment_slot checkpoint.epoch) (open_gate ∷ drop 1 (slot_of (view old.disk).seen (segment_slot checkpoint.epoch)))
+    pub rest : new ≡ record old {
+      disk = new.disk;
+      segment = record { epoch = checkpoint.epoch; records = 0 };
+      checkpoint = Some (record checkpoint { rolled = 3 });
+    }
+    pub opened : honest → (view new.disk).seen
+        ≡ with_slot (view old.disk).seen (segment_slot checkpoint.epoch)
+        (open_gate ∷ drop 1 (slot_of (view old.disk).seen (segment_slot checkpoint.epoch)))
     pub synced : honest → IsSynced (view new.disk) (segment_slot checkpoint.epoch)
-    pub passes : honest → Passes (view old.disk) (view new.disk) (Follows (view old.disk) (segment_slot checkpoint.epoch) HasSomeGate)
+    pub passes : honest → Passes (view old.disk) (view new.disk)
+        (Follows (view old.disk) (segment_slot checkpoint.epoch) HasSomeGate)
 
   -- The next image is encoded, and its slot closed and cleared.
   pub record ClosesImage (old new : StoreValue D) : Type 0 where
@@ -87,9 +102,12 @@ module _ {D : Type 0} (honest : Type 0) (view : D → View) where
     pub next : checkpoint.imaged ≡ 0
     pub unfailed : old.failed ≡ false
     pub rest : new ≡ record old { disk = new.disk; checkpoint = Some (record checkpoint { imaged = 1 }) }
-    pub others : honest → (view new.disk).seen ≡ with_slot (view old.disk).seen (image_slot checkpoint.epoch) (slot_of (view new.disk).seen (image_slot checkpoint.epoch))
+    pub others : honest → (view new.disk).seen
+        ≡ with_slot (view old.disk).seen (image_slot checkpoint.epoch)
+        (slot_of (view new.disk).seen (image_slot checkpoint.epoch))
     pub shut : honest → IsShut (view new.disk) (image_slot checkpoint.epoch)
-    pub passes : honest → IsSynced (view old.disk) (image_slot checkpoint.epoch) → Passes (view old.disk) (view new.disk) (Follows (view old.disk) (image_slot checkpoint.epoch) (IsClosing 24))
+    pub passes : honest → IsSynced (view old.disk) (image_slot checkpoint.epoch)
+        → Passes (view old.disk) (view new.disk) (Follows (view old.disk) (image_slot checkpoint.epoch) (IsClosing 24))
 
   -- One more piece of the image stands in the slot.
   pub record WritesPiece (old new : StoreValue D) : Type 0 where
@@ -97,10 +115,17 @@ module _ {D : Type 0} (honest : Type 0) (view : D → View) where
     pub under_way : old.checkpoint ≡ Some checkpoint
     pub next : (0 < checkpoint.imaged) × (checkpoint.imaged < pieces_of checkpoint.encoding + 1)
     pub unfailed : old.failed ≡ false
-    pub rest : new ≡ record old { disk = new.disk; checkpoint = Some (record checkpoint { imaged = checkpoint.imaged + 1 }) }
-    pub others : honest → (view new.disk).seen ≡ with_slot (view old.disk).seen (image_slot checkpoint.epoch) (slot_of (view new.disk).seen (image_slot checkpoint.epoch))
-    pub shut : honest → IsShut (view old.disk) (image_slot checkpoint.epoch) → IsShut (view new.disk) (image_slot checkpoint.epoch)
-    pub passes : honest → IsShut (view old.disk) (image_slot checkpoint.epoch) → Passes (view old.disk) (view new.disk) (Follows (view old.disk) (image_slot checkpoint.epoch) IsStillClosed)
+    pub rest : new ≡ record old {
+      disk = new.disk;
+      checkpoint = Some (record checkpoint { imaged = checkpoint.imaged + 1 });
+    }
+    pub others : honest → (view new.disk).seen
+        ≡ with_slot (view old.disk).seen (image_slot checkpoint.epoch)
+        (slot_of (view new.disk).seen (image_slot checkpoint.epoch))
+    pub shut : honest → IsShut (view old.disk) (image_slot checkpoint.epoch)
+        → IsShut (view new.disk) (image_slot checkpoint.epoch)
+    pub passes : honest → IsShut (view old.disk) (image_slot checkpoint.epoch)
+        → Passes (view old.disk) (view new.disk) (Follows (view old.disk) (image_slot checkpoint.epoch) IsStillClosed)
 
   -- The image is whole, and its gate is open. The checkpoint is over.
   pub record Finishes (old new : StoreValue D) : Type 0 where
@@ -111,9 +136,12 @@ module _ {D : Type 0} (honest : Type 0) (view : D → View) where
     pub rest : new ≡ record old { disk = new.disk; checkpoint = None }
     pub in_use : checkpoint.epoch ≡ old.segment.epoch
     pub fits : length checkpoint.encoding < 2 ^ 64
-    pub made : honest → (view new.disk).seen ≡ with_slot (view old.disk).seen (image_slot checkpoint.epoch) (open_image checkpoint.epoch checkpoint.encoding)
+    pub made : honest → (view new.disk).seen
+        ≡ with_slot (view old.disk).seen (image_slot checkpoint.epoch) (open_image checkpoint.epoch checkpoint.encoding)
     pub synced : honest → IsSynced (view new.disk) (image_slot checkpoint.epoch)
-    pub passes : honest → IsShut (view old.disk) (image_slot checkpoint.epoch) → Passes (view old.disk) (view new.disk) (Follows (view old.disk) (image_slot checkpoint.epoch) (IsFinishing checkpoint.epoch checkpoint.encoding))
+    pub passes : honest → IsShut (view old.disk) (image_slot checkpoint.epoch)
+        → Passes (view old.disk) (view new.disk)
+        (Follows (view old.disk) (image_slot checkpoint.epoch) (IsFinishing checkpoint.epoch checkpoint.encoding))
 
   -- The device failed within such a step, which was possible.
 
@@ -123,7 +151,9 @@ module _ {D : Type 0} (honest : Type 0) (view : D → View) where
     pub next : checkpoint.rolled ≡ 0
     pub unfailed : old.failed ≡ false
     pub rest : new ≡ record old { disk = new.disk; failed = true }
-    pub passes : honest → IsSynced (view old.disk) (segment_slot checkpoint.epoch) → Passes (view old.disk) (view new.disk) (Follows (view old.disk) (segment_slot checkpoint.epoch) (IsClosing 16))
+    pub passes : honest → IsSynced (view old.disk) (segment_slot checkpoint.epoch)
+        → Passes (view old.disk) (view new.disk)
+        (Follows (view old.disk) (segment_slot checkpoint.epoch) (IsClosing 16))
 
   pub record FailsToRollHead (old new : StoreValue D) : Type 0 where
     pub checkpoint : CheckpointValue
@@ -131,7 +161,8 @@ module _ {D : Type 0} (honest : Type 0) (view : D → View) where
     pub next : checkpoint.rolled ≡ 1
     pub unfailed : old.failed ≡ false
     pub rest : new ≡ record old { disk = new.disk; failed = true }
-    pub passes : honest → IsShut (view old.disk) (segment_slot checkpoint.epoch) → Passes (view old.disk) (view new.disk) (Follows (view old.disk) (segment_slot checkpoint.epoch) IsStillClosed)
+    pub passes : honest → IsShut (view old.disk) (segment_slot checkpoint.epoch)
+        → Passes (view old.disk) (view new.disk) (Follows (view old.disk) (segment_slot checkpoint.epoch) IsStillClosed)
 
   pub record FailsToRollOpen (old new : StoreValue D) : Type 0 where
     pub checkpoint : CheckpointValue
@@ -140,7 +171,8 @@ module _ {D : Type 0} (honest : Type 0) (view : D → View) where
     pub whole : old.segment.records ≡ checkpoint.log
     pub unfailed : old.failed ≡ false
     pub rest : new ≡ record old { disk = new.disk; failed = true }
-    pub passes : honest → Passes (view old.disk) (view new.disk) (Follows (view old.disk) (segment_slot checkpoint.epoch) HasSomeGate)
+    pub passes : honest → Passes (view old.disk) (view new.disk)
+        (Follows (view old.disk) (segment_slot checkpoint.epoch) HasSomeGate)
 
   pub record FailsToCloseImage (old new : StoreValue D) : Type 0 where
     pub checkpoint : CheckpointValue
@@ -148,7 +180,8 @@ module _ {D : Type 0} (honest : Type 0) (view : D → View) where
     pub next : checkpoint.imaged ≡ 0
     pub unfailed : old.failed ≡ false
     pub rest : new ≡ record old { disk = new.disk; failed = true }
-    pub passes : honest → IsSynced (view old.disk) (image_slot checkpoint.epoch) → Passes (view old.disk) (view new.disk) (Follows (view old.disk) (image_slot checkpoint.epoch) (IsClosing 24))
+    pub passes : honest → IsSynced (view old.disk) (image_slot checkpoint.epoch)
+        → Passes (view old.disk) (view new.disk) (Follows (view old.disk) (image_slot checkpoint.epoch) (IsClosing 24))
 
   pub record FailsToWritePiece (old new : StoreValue D) : Type 0 where
     pub checkpoint : CheckpointValue
@@ -156,7 +189,8 @@ module _ {D : Type 0} (honest : Type 0) (view : D → View) where
     pub next : (0 < checkpoint.imaged) × (checkpoint.imaged < pieces_of checkpoint.encoding + 1)
     pub unfailed : old.failed ≡ false
     pub rest : new ≡ record old { disk = new.disk; failed = true }
-    pub passes : honest → IsShut (view old.disk) (image_slot checkpoint.epoch) → Passes (view old.disk) (view new.disk) (Follows (view old.disk) (image_slot checkpoint.epoch) IsStillClosed)
+    pub passes : honest → IsShut (view old.disk) (image_slot checkpoint.epoch)
+        → Passes (view old.disk) (view new.disk) (Follows (view old.disk) (image_slot checkpoint.epoch) IsStillClosed)
 
   pub record FailsToFinish (old new : StoreValue D) : Type 0 where
     pub checkpoint : CheckpointValue
@@ -165,7 +199,9 @@ module _ {D : Type 0} (honest : Type 0) (view : D → View) where
     pub unfailed : old.failed ≡ false
     pub rest : new ≡ record old { disk = new.disk; failed = true }
     pub fits : length checkpoint.encoding < 2 ^ 64
-    pub passes : honest → IsShut (view old.disk) (image_slot checkpoint.epoch) → Passes (view old.disk) (view new.disk) (Follows (view old.disk) (image_slot checkpoint.epoch) (IsFinishing checkpoint.epoch checkpoint.encoding))
+    pub passes : honest → IsShut (view old.disk) (image_slot checkpoint.epoch)
+        → Passes (view old.disk) (view new.disk)
+        (Follows (view old.disk) (image_slot checkpoint.epoch) (IsFinishing checkpoint.epoch checkpoint.encoding))
 
 -- A step that isn't possible now changes nothing.
 abbrev pub IsNotNow : {D : Type 0} → StoreValue D → Type 0 → StoreValue D → Type 0
@@ -177,4 +213,5 @@ IsFault old fault fails new = ((fault ≡ Failed) × (old.failed ≡ true) × (n
 
 -- the same for a step that allocates: or it ran out of memory, and nothing changed
 abbrev pub IsFaultOrShortage : {D : Type 0} → StoreValue D → StoreFault → Type 0 → Type 0 → StoreValue D → Type 0
-IsFaultOrShortage old fault possible fails new = IsFault old fault fails new ⊎ ((fault ≡ NoMemory) × (old.failed ≡ false) × possible × (new ≡ old))
+IsFaultOrShortage old fault possible fails new =
+    IsFault old fault fails new ⊎ ((fault ≡ NoMemory) × (old.failed ≡ false) × possible × (new ≡ old))

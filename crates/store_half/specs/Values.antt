@@ -20,7 +20,8 @@ pub record CutValue : Type 0 where
 
 abbrev pub cut_code : Coded CutValue
 cut_code =
-    code_by (ℕ × (ℕ × List ℕ)) (coded× coded_ℕ (coded× coded_ℕ (coded_list coded_ℕ))) (λ c. (c.epoch, (c.log, c.encoding))) (λ p. record { epoch = p.0; log = p.1.0; encoding = p.1.1 }) (λ _. refl)
+    code_by (ℕ × (ℕ × List ℕ)) (coded× coded_ℕ (coded× coded_ℕ (coded_list coded_ℕ)))
+    (λ c. (c.epoch, (c.log, c.encoding))) (λ p. record { epoch = p.0; log = p.1.0; encoding = p.1.1 }) (λ _. refl)
 
 -- A checkpoint under way: the epoch that begins, how many records the segment of the epoch before has to hold before
 -- the next one is opened, how many of the three steps of rotating are done; the encoding of the image, and how many of
@@ -34,7 +35,9 @@ pub record CheckpointValue : Type 0 where
 
 abbrev pub checkpoint_code : Coded CheckpointValue
 checkpoint_code =
-    code_by (ℕ × (ℕ × (ℕ × (List ℕ × ℕ)))) (coded× coded_ℕ (coded× coded_ℕ (coded× coded_ℕ (coded× (coded_list coded_ℕ) coded_ℕ)))) (λ c. (c.epoch, (c.log, (c.rolled, (c.encoding, c.imaged)))))
+    code_by (ℕ × (ℕ × (ℕ × (List ℕ × ℕ))))
+    (coded× coded_ℕ (coded× coded_ℕ (coded× coded_ℕ (coded× (coded_list coded_ℕ) coded_ℕ))))
+    (λ c. (c.epoch, (c.log, (c.rolled, (c.encoding, c.imaged)))))
     (λ p. record { epoch = p.0; log = p.1.0; rolled = p.1.1.0; encoding = p.1.1.1.0; imaged = p.1.1.1.1 }) (λ _. refl)
 
 -- nothing of a checkpoint is done
@@ -65,15 +68,23 @@ pub record StoreValue (D : Type 0) : Type 0 where
 
 abbrev pub store_code : {D : Type 0} → Coded D → Coded (StoreValue D)
 store_code {D = D} code =
-    code_by (D × (ℕ × (ℕ × (Bool × Option CheckpointValue)))) (coded× code (coded× coded_ℕ (coded× coded_ℕ (coded× coded_bool (coded_option checkpoint_code)))))
+    code_by (D × (ℕ × (ℕ × (Bool × Option CheckpointValue))))
+    (coded× code (coded× coded_ℕ (coded× coded_ℕ (coded× coded_bool (coded_option checkpoint_code)))))
     (λ s. (s.disk, (s.segment.epoch, (s.segment.records, (s.failed, s.checkpoint)))))
-    (λ p. record { disk = p.0; segment = record { epoch = p.1.0; records = p.1.1.0 }; failed = p.1.1.1.0; checkpoint = p.1.1.1.1 }) (λ _. refl)
+    (λ p. record {
+      disk = p.0;
+      segment = record { epoch = p.1.0; records = p.1.1.0 };
+      failed = p.1.1.1.0;
+      checkpoint = p.1.1.1.1;
+    }) (λ _. refl)
 
 -- The next segment's slot has a first byte from the first step of rotating on. Once the image's slot is closed, the
 -- pieces that were written stand there after the gate and the header.
 pub record IsMade (view : View) (segment : Segment) (checkpoint : CheckpointValue) : Type 0 where
   pub header : 0 < checkpoint.rolled → 0 < length (slot_of view.seen (segment_slot checkpoint.epoch))
-  pub pieces : 0 < checkpoint.imaged → HoldsAfter (slot_of view.seen (image_slot checkpoint.epoch)) (first_pieces (checkpoint.imaged - 1) checkpoint.encoding)
+  pub pieces : 0 < checkpoint.imaged
+      → HoldsAfter (slot_of view.seen (image_slot checkpoint.epoch))
+      (first_pieces (checkpoint.imaged - 1) checkpoint.encoding)
 
 -- the epochs of a checkpoint under way: the segment in use is that of the epoch before, until the next one is opened
 pub record IsUnderWay (segment : Segment) (checkpoint : CheckpointValue) : Type 0 where

@@ -47,7 +47,8 @@ impl<D: Disk> Model for StoreHalf<D> {
 
     ghost view = { λ s. record { disk = s.disk; segment = s.segment; failed = s.failed; checkpoint = s.checkpoint } };
 
-    ghost invariant = { λ s. AreEpochs s.segment s.checkpoint × (s.failed ≡ false → D.honest → HasShape (D.view s.disk) s.segment s.checkpoint) };
+    ghost invariant = { λ s. AreEpochs s.segment s.checkpoint
+        × (s.failed ≡ false → D.honest → HasShape (D.view s.disk) s.segment s.checkpoint) };
 }
 
 impl<D: Disk> StoreHalf<D> {
@@ -113,14 +114,18 @@ impl<D: Disk> StoreHalf<D> {
     /// isn't known until the store is opened again.
     pub fn append(&mut self, batch: Batch) -> Result<Receipt, (StoreFault, Batch)>
         requires { 0 < batch.count }
-        ensures stored { D.honest → OnOk result (IsAppended self.old.segment.epoch (D.view self.old.disk).seen (D.view self.new.disk).seen batch) }
-        ensures synced { D.honest → OnOk result (IsSynced (D.view self.new.disk) (segment_slot self.old.segment.epoch)) }
+        ensures stored { D.honest → OnOk result
+            (IsAppended self.old.segment.epoch (D.view self.old.disk).seen (D.view self.new.disk).seen batch) }
+        ensures synced { D.honest → OnOk result
+            (IsSynced (D.view self.new.disk) (segment_slot self.old.segment.epoch)) }
         ensures any_moment { D.honest → IsSynced (D.view self.old.disk) (segment_slot self.old.segment.epoch)
             → PassesAppend self.old.segment.epoch (D.view self.old.disk) (D.view self.new.disk) batch }
         ensures counted { IfOk result (λ receipt. (receipt ≡ batch.count)
-            × (self.new.segment ≡ record self.old.segment { records = self.old.segment.records + batch.count }) × (self.new.failed ≡ false)) }
+            × (self.new.segment ≡ record self.old.segment { records = self.old.segment.records + batch.count })
+            × (self.new.failed ≡ false)) }
         ensures under_way { self.new.checkpoint ≡ self.old.checkpoint }
-        ensures open { OnOk result ((self.old.failed ≡ false) × (self.old.segment.records + batch.count ≤ MAX_RECORDS)) }
+        ensures open { OnOk result ((self.old.failed ≡ false)
+            × (self.old.segment.records + batch.count ≤ MAX_RECORDS)) }
         ensures back { IfErr result (λ fault. fault.1 ≡ batch) }
         ensures failures { MatchResult result (λ _. D.failed_calls self.new.disk ≡ D.failed_calls self.old.disk)
             (λ fault. D.failed_calls self.new.disk ≡ counted_fault fault.0 (D.failed_calls self.old.disk)) }
@@ -161,8 +166,11 @@ impl<D: Disk> StoreHalf<D> {
     ///
     /// `Failed`: the device failed in an earlier call, and nothing changed. `Device`: the device failed.
     pub fn roll_close(&mut self) -> Result<bool, StoreFault>
-        ensures done { IfOk result (λ is_done. MatchBool is_done (RollsClose D.honest D.view self.old self.new) (IsNotNow self.old (IsRolled self.old.checkpoint 0) self.new)) }
-        ensures faults { IfErr result (λ fault. IsFault self.old fault (FailsToRollClose D.honest D.view self.old self.new) self.new) }
+        ensures done { IfOk result
+            (λ is_done. MatchBool is_done (RollsClose D.honest D.view self.old self.new)
+            (IsNotNow self.old (IsRolled self.old.checkpoint 0) self.new)) }
+        ensures faults { IfErr result
+            (λ fault. IsFault self.old fault (FailsToRollClose D.honest D.view self.old self.new) self.new) }
         ensures failures { D.failed_calls self.new.disk ≡ counted result (D.failed_calls self.old.disk) }
     {
         if self.failed {
@@ -184,8 +192,11 @@ impl<D: Disk> StoreHalf<D> {
 
     /// Writes the header of the next segment. Returns whether it did, like `roll_close`; its faults are the same.
     pub fn roll_head(&mut self) -> Result<bool, StoreFault>
-        ensures done { IfOk result (λ is_done. MatchBool is_done (RollsHead D.honest D.view self.old self.new) (IsNotNow self.old (IsRolled self.old.checkpoint 1) self.new)) }
-        ensures faults { IfErr result (λ fault. IsFault self.old fault (FailsToRollHead D.honest D.view self.old self.new) self.new) }
+        ensures done { IfOk result
+            (λ is_done. MatchBool is_done (RollsHead D.honest D.view self.old self.new)
+            (IsNotNow self.old (IsRolled self.old.checkpoint 1) self.new)) }
+        ensures faults { IfErr result
+            (λ fault. IsFault self.old fault (FailsToRollHead D.honest D.view self.old self.new) self.new) }
         ensures failures { D.failed_calls self.new.disk ≡ counted result (D.failed_calls self.old.disk) }
     {
         if self.failed {
@@ -208,8 +219,11 @@ impl<D: Disk> StoreHalf<D> {
     /// Opens the next segment, once the one in use holds its whole epoch log; from then on the next epoch's batches are
     /// stored there. Returns whether it did; its faults are those of `roll_close`.
     pub fn roll_open(&mut self) -> Result<bool, StoreFault>
-        ensures done { IfOk result (λ is_done. MatchBool is_done (RollsOpen D.honest D.view self.old self.new) (IsNotNow self.old (CanOpen self.old self.old.checkpoint) self.new)) }
-        ensures faults { IfErr result (λ fault. IsFault self.old fault (FailsToRollOpen D.honest D.view self.old self.new) self.new) }
+        ensures done { IfOk result
+            (λ is_done. MatchBool is_done (RollsOpen D.honest D.view self.old self.new)
+            (IsNotNow self.old (CanOpen self.old self.old.checkpoint) self.new)) }
+        ensures faults { IfErr result
+            (λ fault. IsFault self.old fault (FailsToRollOpen D.honest D.view self.old self.new) self.new) }
         ensures failures { D.failed_calls self.new.disk ≡ counted result (D.failed_calls self.old.disk) }
     {
         if self.failed {
@@ -235,8 +249,12 @@ impl<D: Disk> StoreHalf<D> {
     ///
     /// `NoMemory`: an allocation failed, and nothing changed. The other faults are those of `roll_close`.
     pub fn close_image(&mut self, alloc: Global) -> Result<bool, StoreFault>
-        ensures done { IfOk result (λ is_done. MatchBool is_done (ClosesImage D.honest D.view self.old self.new) (IsNotNow self.old (HasImaged self.old.checkpoint 0) self.new)) }
-        ensures faults { IfErr result (λ fault. IsFaultOrShortage self.old fault (HasImaged self.old.checkpoint 0) (FailsToCloseImage D.honest D.view self.old self.new) self.new) }
+        ensures done { IfOk result
+            (λ is_done. MatchBool is_done (ClosesImage D.honest D.view self.old self.new)
+            (IsNotNow self.old (HasImaged self.old.checkpoint 0) self.new)) }
+        ensures faults { IfErr result
+            (λ fault. IsFaultOrShortage self.old fault (HasImaged self.old.checkpoint 0)
+            (FailsToCloseImage D.honest D.view self.old self.new) self.new) }
         ensures failures { D.failed_calls self.new.disk ≡ counted result (D.failed_calls self.old.disk) }
     {
         if self.failed {
@@ -262,8 +280,11 @@ impl<D: Disk> StoreHalf<D> {
     /// Writes the next piece of the image. Returns whether it did: it does if the image was closed and a piece is left.
     /// Its faults are those of `roll_close`.
     pub fn write_piece(&mut self) -> Result<bool, StoreFault>
-        ensures done { IfOk result (λ is_done. MatchBool is_done (WritesPiece D.honest D.view self.old self.new) (IsNotNow self.old (HasPieceLeft self.old.checkpoint) self.new)) }
-        ensures faults { IfErr result (λ fault. IsFault self.old fault (FailsToWritePiece D.honest D.view self.old self.new) self.new) }
+        ensures done { IfOk result
+            (λ is_done. MatchBool is_done (WritesPiece D.honest D.view self.old self.new)
+            (IsNotNow self.old (HasPieceLeft self.old.checkpoint) self.new)) }
+        ensures faults { IfErr result
+            (λ fault. IsFault self.old fault (FailsToWritePiece D.honest D.view self.old self.new) self.new) }
         ensures failures { D.failed_calls self.new.disk ≡ counted result (D.failed_calls self.old.disk) }
     {
         if self.failed {
@@ -288,9 +309,12 @@ impl<D: Disk> StoreHalf<D> {
     /// Opens the gate of the image, whose whole encoding is written, once the next segment is open. The checkpoint is
     /// then over, and the receipt says so. Its faults are those of `roll_close`.
     pub fn finish(&mut self) -> Result<Option<Finished>, StoreFault>
-        ensures done { IfOk result (λ receipt. IfSome receipt (λ finished. (finished ≡ self.old.segment.epoch) × Finishes D.honest D.view self.old self.new)) }
-        ensures not_now { IfOk result (λ receipt. IfNone receipt (IsNotNow self.old (CanFinish self.old.checkpoint) self.new)) }
-        ensures faults { IfErr result (λ fault. IsFault self.old fault (FailsToFinish D.honest D.view self.old self.new) self.new) }
+        ensures done { IfOk result (λ receipt. IfSome receipt
+            (λ finished. (finished ≡ self.old.segment.epoch) × Finishes D.honest D.view self.old self.new)) }
+        ensures not_now { IfOk result
+            (λ receipt. IfNone receipt (IsNotNow self.old (CanFinish self.old.checkpoint) self.new)) }
+        ensures faults { IfErr result
+            (λ fault. IsFault self.old fault (FailsToFinish D.honest D.view self.old self.new) self.new) }
         ensures failures { D.failed_calls self.new.disk ≡ counted result (D.failed_calls self.old.disk) }
     {
         if self.failed {

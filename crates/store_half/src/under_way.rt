@@ -61,7 +61,13 @@ impl Model for Checkpoint {
 
     ghost coded = { checkpoint_code };
 
-    ghost view = { λ c. record { epoch = c.epoch; log = c.log; rolled = c.rolled; encoding = encoding_of c.making; imaged = imaged_of c.making } };
+    ghost view = { λ c. record {
+      epoch = c.epoch;
+      log = c.log;
+      rolled = c.rolled;
+      encoding = encoding_of c.making;
+      imaged = imaged_of c.making;
+    } };
 
     ghost invariant = { λ c. IsOfEpoch c.epoch c.making };
 }

@@ -15,105 +15,213 @@ use Rattle.store_half.specs.Changes.{CanFinish, CanOpen, ClosesImage, FailsToClo
 use Rattle.store_half.specs.Values.{StoreValue}
 use Rattle.system.proofs.Blocks.{fit_take}
 
-module _ {D : Type 0} (honest : Type 0) (view : D → View) (base : State) (old : StoreKeeperValue D) (new : StoreValue D) where
+module _ {D : Type 0} (honest : Type 0) (view : D → View) (base : State) (old : StoreKeeperValue D)
+    (new : StoreValue D) where
   abbrev Does : Type 0
   Does = (Goes honest view base old new ⊎ Breaks honest view base old new) ⊎ (new ≡ old.store)
 
   -- from what a step answered, what it did
-  fault_does : (Fails : Type 0) → (Fails → Breaks honest view base old new) → (fault : StoreFault) → IsFault old.store fault Fails new → Does
+  fault_does : (Fails : Type 0) → (Fails → Breaks honest view base old new) → (fault : StoreFault)
+      → IsFault old.store fault Fails new → Does
   fault_does Fails breaks fault (inl failed) = inr failed.2
   fault_does Fails breaks fault (inr device) = inl (inr (breaks device.1))
 
-  shortage_does : (Fails Possible : Type 0) → (Fails → Breaks honest view base old new) → (fault : StoreFault) → IsFaultOrShortage old.store fault Possible Fails new → Does
+  shortage_does : (Fails Possible : Type 0) → (Fails → Breaks honest view base old new) → (fault : StoreFault)
+      → IsFaultOrShortage old.store fault Possible Fails new → Does
   shortage_does Fails Possible breaks fault (inl is) = fault_does Fails breaks fault is
   shortage_does Fails Possible breaks fault (inr short) = inr short.3
 
-  done_does : (Done Possible : Type 0) → (Done → Goes honest view base old new) → (b : Bool) → MatchBool b Done (IsNotNow old.store Possible new) → Does
+  done_does : (Done Possible : Type 0) → (Done → Goes honest view base old new) → (b : Bool)
+      → MatchBool b Done (IsNotNow old.store Possible new) → Does
   done_does Done Possible goes true done = inl (inl (goes done))
   done_does Done Possible goes false not_now = inr not_now.2
 
-  does : (Done Fails Possible : Type 0) → (Done → Goes honest view base old new) → (Fails → Breaks honest view base old new) → (r : Result Bool StoreFault) → IfOk r (λ is_done. MatchBool is_done Done (IsNotNow old.store Possible new))
+  does : (Done Fails Possible : Type 0) → (Done → Goes honest view base old new)
+      → (Fails → Breaks honest view base old new) → (r : Result Bool StoreFault)
+      → IfOk r (λ is_done. MatchBool is_done Done (IsNotNow old.store Possible new))
       → IfErr r (λ fault. IsFault old.store fault Fails new) → Does
   does Done Fails Possible goes breaks (Ok is_done) done fault = done_does Done Possible goes is_done done
   does Done Fails Possible goes breaks (Err e) done fault = fault_does Fails breaks e fault
 
-  does_or_short : (Done Fails Possible : Type 0) → (Done → Goes honest view base old new) → (Fails → Breaks honest view base old new) → (r : Result Bool StoreFault) → IfOk r (λ is_done. MatchBool is_done Done (IsNotNow old.store Possible new))
+  does_or_short : (Done Fails Possible : Type 0) → (Done → Goes honest view base old new)
+      → (Fails → Breaks honest view base old new) → (r : Result Bool StoreFault)
+      → IfOk r (λ is_done. MatchBool is_done Done (IsNotNow old.store Possible new))
       → IfErr r (λ fault. IsFaultOrShortage old.store fault Possible Fails new) → Does
   does_or_short Done Fails Possible goes breaks (Ok is_done) done fault = done_does Done Possible goes is_done done
   does_or_short Done Fails Possible goes breaks (Err e) done fault = shortage_does Fails Possible breaks e fault
 
-  does_once : {R : Type 0} (Done : R → Type 0) (Fails Possible : Type 0) → ((r : R) → Done r → Goes honest view base old new) → (Fails → Breaks honest view base old new) → (r : Result (Option R) StoreFault) → IfOk r (λ receipt. IfSome receipt Done)
-      → IfOk r (λ receipt. IfNone receipt (IsNotNow old.store Possible new)) → IfErr r (λ fault. IsFault old.store fault Fails new) → Does
+  does_once : {R : Type 0} (Done : R → Type 0) (Fails Possible : Type 0)
+      → ((r : R) → Done r → Goes honest view base old new) → (Fails → Breaks honest view base old new)
+      → (r : Result (Option R) StoreFault) → IfOk r (λ receipt. IfSome receipt Done)
+      → IfOk r (λ receipt. IfNone receipt (IsNotNow old.store Possible new))
+      → IfErr r (λ fault. IsFault old.store fault Fails new) → Does
   does_once Done Fails Possible goes breaks (Ok (Some receipt)) done not_now fault = inl (inl (goes receipt done))
   does_once Done Fails Possible goes breaks (Ok None) done not_now fault = inr not_now.2
   does_once Done Fails Possible goes breaks (Err e) done not_now fault = fault_does Fails breaks e fault
 
   closes_goes : RollsClose honest view old.store new → Goes honest view base old new
-  closes_goes rolls = (rolls.unfailed, ap (λ (s : StoreValue D). s.failed) rolls.rest ∙ rolls.unfailed, λ is_honest kept. (roll_close_keeps honest view is_honest old.store new kept.mid kept.state kept.kept rolls, roll_close_passes honest view is_honest old.store new kept.mid kept.state kept.kept rolls))
+  closes_goes rolls = (
+    rolls.unfailed,
+    ap (λ (s : StoreValue D). s.failed) rolls.rest ∙ rolls.unfailed,
+    λ is_honest kept. (
+      roll_close_keeps honest view is_honest old.store new kept.mid kept.state kept.kept rolls,
+      roll_close_passes honest view is_honest old.store new kept.mid kept.state kept.kept rolls,
+    ),
+  )
 
   closes_breaks : FailsToRollClose honest view old.store new → Breaks honest view base old new
-  closes_breaks fails = (fails.unfailed, ap (λ (s : StoreValue D). s.failed) fails.rest, λ is_honest kept. roll_close_fails honest view is_honest old.store new kept.mid kept.state kept.kept fails)
+  closes_breaks fails = (
+    fails.unfailed,
+    ap (λ (s : StoreValue D). s.failed) fails.rest,
+    λ is_honest kept. roll_close_fails honest view is_honest old.store new kept.mid kept.state kept.kept fails,
+  )
 
   heads_goes : RollsHead honest view old.store new → Goes honest view base old new
-  heads_goes rolls = (rolls.unfailed, ap (λ (s : StoreValue D). s.failed) rolls.rest ∙ rolls.unfailed, λ is_honest kept. (roll_head_keeps honest view is_honest old.store new kept.mid kept.state kept.kept rolls, roll_head_passes honest view is_honest old.store new kept.mid kept.state kept.kept rolls))
+  heads_goes rolls = (
+    rolls.unfailed,
+    ap (λ (s : StoreValue D). s.failed) rolls.rest ∙ rolls.unfailed,
+    λ is_honest kept. (
+      roll_head_keeps honest view is_honest old.store new kept.mid kept.state kept.kept rolls,
+      roll_head_passes honest view is_honest old.store new kept.mid kept.state kept.kept rolls,
+    ),
+  )
 
   heads_breaks : FailsToRollHead honest view old.store new → Breaks honest view base old new
-  heads_breaks fails = (fails.unfailed, ap (λ (s : StoreValue D). s.failed) fails.rest, λ is_honest kept. roll_head_fails honest view is_honest old.store new kept.mid kept.state kept.kept fails)
+  heads_breaks fails = (
+    fails.unfailed,
+    ap (λ (s : StoreValue D). s.failed) fails.rest,
+    λ is_honest kept. roll_head_fails honest view is_honest old.store new kept.mid kept.state kept.kept fails,
+  )
 
   image_goes : ClosesImage honest view old.store new → Goes honest view base old new
-  image_goes closes = (closes.unfailed, ap (λ (s : StoreValue D). s.failed) closes.rest ∙ closes.unfailed, λ is_honest kept. (image_close_keeps honest view is_honest old.store new kept.mid kept.state kept.kept closes, image_close_passes honest view is_honest old.store new kept.mid kept.state kept.kept closes))
+  image_goes closes = (
+    closes.unfailed,
+    ap (λ (s : StoreValue D). s.failed) closes.rest ∙ closes.unfailed,
+    λ is_honest kept. (
+      image_close_keeps honest view is_honest old.store new kept.mid kept.state kept.kept closes,
+      image_close_passes honest view is_honest old.store new kept.mid kept.state kept.kept closes,
+    ),
+  )
 
   image_breaks : FailsToCloseImage honest view old.store new → Breaks honest view base old new
-  image_breaks fails = (fails.unfailed, ap (λ (s : StoreValue D). s.failed) fails.rest, λ is_honest kept. image_close_fails honest view is_honest old.store new kept.mid kept.state kept.kept fails)
+  image_breaks fails = (
+    fails.unfailed,
+    ap (λ (s : StoreValue D). s.failed) fails.rest,
+    λ is_honest kept. image_close_fails honest view is_honest old.store new kept.mid kept.state kept.kept fails,
+  )
 
   piece_goes : WritesPiece honest view old.store new → Goes honest view base old new
-  piece_goes writes = (writes.unfailed, ap (λ (s : StoreValue D). s.failed) writes.rest ∙ writes.unfailed, λ is_honest kept. (piece_keeps honest view is_honest old.store new kept.mid kept.state kept.kept writes, piece_passes honest view is_honest old.store new kept.mid kept.state kept.kept writes))
+  piece_goes writes = (
+    writes.unfailed,
+    ap (λ (s : StoreValue D). s.failed) writes.rest ∙ writes.unfailed,
+    λ is_honest kept. (
+      piece_keeps honest view is_honest old.store new kept.mid kept.state kept.kept writes,
+      piece_passes honest view is_honest old.store new kept.mid kept.state kept.kept writes,
+    ),
+  )
 
   piece_breaks : FailsToWritePiece honest view old.store new → Breaks honest view base old new
-  piece_breaks fails = (fails.unfailed, ap (λ (s : StoreValue D). s.failed) fails.rest, λ is_honest kept. piece_fails honest view is_honest old.store new kept.mid kept.state kept.kept fails)
+  piece_breaks fails = (
+    fails.unfailed,
+    ap (λ (s : StoreValue D). s.failed) fails.rest,
+    λ is_honest kept. piece_fails honest view is_honest old.store new kept.mid kept.state kept.kept fails,
+  )
 
   finish_goes : Finishes honest view old.store new → Goes honest view base old new
-  finish_goes finishes = (finishes.unfailed, ap (λ (s : StoreValue D). s.failed) finishes.rest ∙ finishes.unfailed, λ is_honest kept. (finish_keeps honest view is_honest old.store new kept.mid kept.state kept.kept finishes, finish_passes honest view is_honest old.store new kept.mid kept.state kept.kept finishes))
+  finish_goes finishes = (
+    finishes.unfailed,
+    ap (λ (s : StoreValue D). s.failed) finishes.rest ∙ finishes.unfailed,
+    λ is_honest kept. (
+      finish_keeps honest view is_honest old.store new kept.mid kept.state kept.kept finishes,
+      finish_passes honest view is_honest old.store new kept.mid kept.state kept.kept finishes,
+    ),
+  )
 
   finish_breaks : FailsToFinish honest view old.store new → Breaks honest view base old new
-  finish_breaks fails = (fails.unfailed, ap (λ (s : StoreValue D). s.failed) fails.rest, λ is_honest kept. finish_fails honest view is_honest old.store new kept.mid kept.state kept.kept fails)
+  finish_breaks fails = (
+    fails.unfailed,
+    ap (λ (s : StoreValue D). s.failed) fails.rest,
+    λ is_honest kept. finish_fails honest view is_honest old.store new kept.mid kept.state kept.kept fails,
+  )
 
   -- The next segment is opened when all records are stored that led to the checkpoint's state. So this is the state of
   -- what is stored.
-  same_state : IsStoreKeeper honest view base old → old.stored ≡ old.earlier → (kept : KeptAt view old.store base old.stored old.earlier (records_of old.entries)) → kept.state ≡ kept.mid
+  same_state : IsStoreKeeper honest view base old → old.stored ≡ old.earlier
+      → (kept : KeptAt view old.store base old.stored old.earlier (records_of old.entries)) → kept.state ≡ kept.mid
   same_state is all kept =
-      one_run base (take old.earlier (records_of old.entries)) kept.state kept.mid (fit_take old.earlier (records_of old.entries) is.recorded.fit) is.recorded.lawful is.recorded.acyclic
+      one_run base (take old.earlier (records_of old.entries)) kept.state kept.mid
+      (fit_take old.earlier (records_of old.entries) is.recorded.fit) is.recorded.lawful is.recorded.acyclic
       (subst (λ (n : ℕ). Run base (take n (records_of old.entries)) kept.state) all kept.before) kept.cut
 
-  open_goes : IsStoreKeeper honest view base old → old.stored ≡ old.earlier → RollsOpen honest view old.store new → Goes honest view base old new
-  open_goes is all rolls = (rolls.unfailed, ap (λ (s : StoreValue D). s.failed) rolls.rest ∙ rolls.unfailed, λ is_honest kept. (roll_open_keeps honest view is_honest old.store new kept.mid kept.state kept.kept (same_state is all kept) rolls, roll_open_passes honest view is_honest old.store new kept.mid kept.state kept.kept (same_state is all kept) rolls))
+  open_goes : IsStoreKeeper honest view base old → old.stored ≡ old.earlier → RollsOpen honest view old.store new
+      → Goes honest view base old new
+  open_goes is all rolls = (
+    rolls.unfailed,
+    ap (λ (s : StoreValue D). s.failed) rolls.rest ∙ rolls.unfailed,
+    λ is_honest kept. (
+      roll_open_keeps honest view is_honest old.store new kept.mid kept.state kept.kept
+          (same_state is all kept) rolls,
+      roll_open_passes honest view is_honest old.store new kept.mid kept.state kept.kept
+          (same_state is all kept) rolls,
+    ),
+  )
 
-  open_breaks : IsStoreKeeper honest view base old → old.stored ≡ old.earlier → FailsToRollOpen honest view old.store new → Breaks honest view base old new
-  open_breaks is all fails = (fails.unfailed, ap (λ (s : StoreValue D). s.failed) fails.rest, λ is_honest kept. roll_open_fails honest view is_honest old.store new kept.mid kept.state kept.kept (same_state is all kept) fails)
+  open_breaks : IsStoreKeeper honest view base old → old.stored ≡ old.earlier
+      → FailsToRollOpen honest view old.store new → Breaks honest view base old new
+  open_breaks is all fails = (
+    fails.unfailed,
+    ap (λ (s : StoreValue D). s.failed) fails.rest,
+    λ is_honest kept. roll_open_fails honest view is_honest old.store new kept.mid kept.state kept.kept
+        (same_state is all kept) fails,
+  )
 
   -- the steps, by what they answered
 
   module _ (is : IsStoreKeeper honest view base old) where
-    pub close_steps : (r : Result Bool StoreFault) → IfOk r (λ is_done. MatchBool is_done (RollsClose honest view old.store new) (IsNotNow old.store (IsRolled old.store.checkpoint 0) new))
-        → IfErr r (λ fault. IsFault old.store fault (FailsToRollClose honest view old.store new) new) → Stepped honest view base old new
+    pub close_steps : (r : Result Bool StoreFault)
+        → IfOk r (λ is_done. MatchBool is_done (RollsClose honest view old.store new)
+        (IsNotNow old.store (IsRolled old.store.checkpoint 0) new))
+        → IfErr r (λ fault. IsFault old.store fault (FailsToRollClose honest view old.store new) new)
+        → Stepped honest view base old new
     close_steps r done fault = stepped honest view base old new is (does _ _ _ closes_goes closes_breaks r done fault)
 
-    pub head_steps : (r : Result Bool StoreFault) → IfOk r (λ is_done. MatchBool is_done (RollsHead honest view old.store new) (IsNotNow old.store (IsRolled old.store.checkpoint 1) new))
-        → IfErr r (λ fault. IsFault old.store fault (FailsToRollHead honest view old.store new) new) → Stepped honest view base old new
+    pub head_steps : (r : Result Bool StoreFault)
+        → IfOk r (λ is_done. MatchBool is_done (RollsHead honest view old.store new)
+        (IsNotNow old.store (IsRolled old.store.checkpoint 1) new))
+        → IfErr r (λ fault. IsFault old.store fault (FailsToRollHead honest view old.store new) new)
+        → Stepped honest view base old new
     head_steps r done fault = stepped honest view base old new is (does _ _ _ heads_goes heads_breaks r done fault)
 
-    pub open_steps : old.stored ≡ old.earlier → (r : Result Bool StoreFault) → IfOk r (λ is_done. MatchBool is_done (RollsOpen honest view old.store new) (IsNotNow old.store (CanOpen old.store old.store.checkpoint) new))
-        → IfErr r (λ fault. IsFault old.store fault (FailsToRollOpen honest view old.store new) new) → Stepped honest view base old new
-    open_steps all r done fault = stepped honest view base old new is (does _ _ _ (open_goes is all) (open_breaks is all) r done fault)
+    pub open_steps : old.stored ≡ old.earlier → (r : Result Bool StoreFault)
+        → IfOk r (λ is_done. MatchBool is_done (RollsOpen honest view old.store new)
+        (IsNotNow old.store (CanOpen old.store old.store.checkpoint) new))
+        → IfErr r (λ fault. IsFault old.store fault (FailsToRollOpen honest view old.store new) new)
+        → Stepped honest view base old new
+    open_steps all r done fault =
+        stepped honest view base old new is (does _ _ _ (open_goes is all) (open_breaks is all) r done fault)
 
-    pub image_steps : (r : Result Bool StoreFault) → IfOk r (λ is_done. MatchBool is_done (ClosesImage honest view old.store new) (IsNotNow old.store (HasImaged old.store.checkpoint 0) new))
-        → IfErr r (λ fault. IsFaultOrShortage old.store fault (HasImaged old.store.checkpoint 0) (FailsToCloseImage honest view old.store new) new) → Stepped honest view base old new
-    image_steps r done fault = stepped honest view base old new is (does_or_short _ _ _ image_goes image_breaks r done fault)
+    pub image_steps : (r : Result Bool StoreFault)
+        → IfOk r (λ is_done. MatchBool is_done (ClosesImage honest view old.store new)
+        (IsNotNow old.store (HasImaged old.store.checkpoint 0) new))
+        → IfErr r (λ fault. IsFaultOrShortage old.store fault (HasImaged old.store.checkpoint 0)
+        (FailsToCloseImage honest view old.store new) new) → Stepped honest view base old new
+    image_steps r done fault =
+        stepped honest view base old new is (does_or_short _ _ _ image_goes image_breaks r done fault)
 
-    pub piece_steps : (r : Result Bool StoreFault) → IfOk r (λ is_done. MatchBool is_done (WritesPiece honest view old.store new) (IsNotNow old.store (HasPieceLeft old.store.checkpoint) new))
-        → IfErr r (λ fault. IsFault old.store fault (FailsToWritePiece honest view old.store new) new) → Stepped honest view base old new
+    pub piece_steps : (r : Result Bool StoreFault)
+        → IfOk r (λ is_done. MatchBool is_done (WritesPiece honest view old.store new)
+        (IsNotNow old.store (HasPieceLeft old.store.checkpoint) new))
+        → IfErr r (λ fault. IsFault old.store fault (FailsToWritePiece honest view old.store new) new)
+        → Stepped honest view base old new
     piece_steps r done fault = stepped honest view base old new is (does _ _ _ piece_goes piece_breaks r done fault)
 
-    pub finish_steps : (r : Result (Option ℕ) StoreFault) → IfOk r (λ receipt. IfSome receipt (λ finished. (finished ≡ old.store.segment.epoch) × Finishes honest view old.store new))
-        → IfOk r (λ receipt. IfNone receipt (IsNotNow old.store (CanFinish old.store.checkpoint) new)) → IfErr r (λ fault. IsFault old.store fault (FailsToFinish honest view old.store new) new) → Stepped honest view base old new
-    finish_steps r done not_now fault = stepped honest view base old new is (does_once (λ (finished : ℕ). (finished ≡ old.store.segment.epoch) × Finishes honest view old.store new) _ _ (λ _ done. finish_goes done.1) finish_breaks r done not_now fault)
+    pub finish_steps : (r : Result (Option ℕ) StoreFault)
+        → IfOk r (λ receipt. IfSome receipt
+        (λ finished. (finished ≡ old.store.segment.epoch) × Finishes honest view old.store new))
+        → IfOk r (λ receipt. IfNone receipt (IsNotNow old.store (CanFinish old.store.checkpoint) new))
+        → IfErr r (λ fault. IsFault old.store fault (FailsToFinish honest view old.store new) new)
+        → Stepped honest view base old new
+    finish_steps r done not_now fault =
+        stepped honest view base old new is
+        (does_once (λ (finished : ℕ). (finished ≡ old.store.segment.epoch) × Finishes honest view old.store new) _ _
+        (λ _ done. finish_goes done.1) finish_breaks r done not_now fault)

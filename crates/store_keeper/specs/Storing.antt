@@ -40,8 +40,11 @@ pub record LoadValue : Type 0 where
 
 abbrev pub load_code : Coded LoadValue
 load_code =
-    code_by (ℕ × (BatchValue × (List Entry × (ℕ × ℕ)))) (coded× coded_ℕ (coded× batch_code (coded× (coded_list entry.the_row.coded) (coded× coded_ℕ coded_ℕ))))
-    (λ l. (l.epoch, (l.batch, (l.entries, (l.first, l.number))))) (λ p. record { epoch = p.0; batch = p.1.0; entries = p.1.1.0; first = p.1.1.1.0; number = p.1.1.1.1 }) (λ _. refl)
+    code_by (ℕ × (BatchValue × (List Entry × (ℕ × ℕ))))
+    (coded× coded_ℕ (coded× batch_code (coded× (coded_list entry.the_row.coded) (coded× coded_ℕ coded_ℕ))))
+    (λ l. (l.epoch, (l.batch, (l.entries, (l.first, l.number)))))
+    (λ p. record { epoch = p.0; batch = p.1.0; entries = p.1.1.0; first = p.1.1.1.0; number = p.1.1.1.1 })
+    (λ _. refl)
 
 pub record IsLoad (base : State) (load : LoadValue) : Type 0 where
   pub recorded : IsRecorded base load.entries
@@ -56,7 +59,9 @@ pub record EndValue : Type 0 where
   pub earlier : ℕ
 
 abbrev pub end_code : Coded EndValue
-end_code = code_by (CutValue × (List Entry × ℕ)) (coded× cut_code (coded× (coded_list entry.the_row.coded) coded_ℕ)) (λ e. (e.cut, (e.entries, e.earlier))) (λ p. record { cut = p.0; entries = p.1.0; earlier = p.1.1 }) (λ _. refl)
+end_code =
+    code_by (CutValue × (List Entry × ℕ)) (coded× cut_code (coded× (coded_list entry.the_row.coded) coded_ℕ))
+    (λ e. (e.cut, (e.entries, e.earlier))) (λ p. record { cut = p.0; entries = p.1.0; earlier = p.1.1 }) (λ _. refl)
 
 pub record IsEnd (base : State) (end : EndValue) : Type 0 where
   pub recorded : IsRecorded base end.entries
@@ -67,7 +72,9 @@ pub record IsEnd (base : State) (end : EndValue) : Type 0 where
 
 -- Slots that stand for the state after a prefix of these records, of at least this length.
 abbrev pub StandsFor : State → ℕ → List Record → Slots → Type 0
-StandsFor base least records c = (k : ℕ) × (least ≤ k) × (k ≤ length records) × ((state : State) × Run base (take k records) state × Recovered (as_written c) state)
+StandsFor base least records c =
+    (k : ℕ) × (least ≤ k) × (k ≤ length records)
+    × ((state : State) × Run base (take k records) state × Recovered (as_written c) state)
 
 -- The half that stores, and what it knows of the history: `stored` of its records are stored, and a checkpoint under
 -- way is of the state after `earlier` of them.
@@ -79,12 +86,15 @@ pub record StoreKeeperValue (D : Type 0) : Type 0 where
 
 abbrev pub storer_code : {D : Type 0} → Coded D → Coded (StoreKeeperValue D)
 storer_code {D = D} code =
-    code_by (StoreValue D × (List Entry × (ℕ × ℕ))) (coded× (store_code code) (coded× (coded_list entry.the_row.coded) (coded× coded_ℕ coded_ℕ)))
-    (λ s. (s.store, (s.entries, (s.stored, s.earlier)))) (λ p. record { store = p.0; entries = p.1.0; stored = p.1.1.0; earlier = p.1.1.1 }) (λ _. refl)
+    code_by (StoreValue D × (List Entry × (ℕ × ℕ)))
+    (coded× (store_code code) (coded× (coded_list entry.the_row.coded) (coded× coded_ℕ coded_ℕ)))
+    (λ s. (s.store, (s.entries, (s.stored, s.earlier))))
+    (λ p. record { store = p.0; entries = p.1.0; stored = p.1.1.0; earlier = p.1.1.1 }) (λ _. refl)
 
 -- A store that is kept with what is stored, outside a checkpoint or in one of its two phases. A checkpoint under way is
 -- of the state after the earlier records.
-pub record KeptAt {D : Type 0} (view : D → View) (store : StoreValue D) (base : State) (stored earlier : ℕ) (records : List Record) : Type 0 where
+pub record KeptAt {D : Type 0} (view : D → View) (store : StoreValue D) (base : State) (stored earlier : ℕ)
+    (records : List Record) : Type 0 where
   pub state : State
   pub before : Run base (take stored records) state
   pub mid : State
@@ -92,17 +102,21 @@ pub record KeptAt {D : Type 0} (view : D → View) (store : StoreValue D) (base 
   pub kept : Keeps (view store.disk) store.segment store.checkpoint mid state
 
 -- A crash leaves the state after a prefix of the history's records, no fewer than are stored.
-pub record IsStoreKeeper {D : Type 0} (honest : Type 0) (view : D → View) (base : State) (keeper : StoreKeeperValue D) : Type 0 where
+pub record IsStoreKeeper {D : Type 0} (honest : Type 0) (view : D → View) (base : State)
+    (keeper : StoreKeeperValue D) : Type 0 where
   pub recorded : IsRecorded base keeper.entries
   pub within : keeper.stored ≤ length (records_of keeper.entries)
   pub cut_within : keeper.earlier ≤ length (records_of keeper.entries)
-  pub kept : honest → keeper.store.failed ≡ false → KeptAt view keeper.store base keeper.stored keeper.earlier (records_of keeper.entries)
-  pub left : honest → keeper.store.failed ≡ true → (c : Slots) → MayLeave (view keeper.store.disk) c → StandsFor base keeper.stored (records_of keeper.entries) c
+  pub kept : honest → keeper.store.failed ≡ false
+      → KeptAt view keeper.store base keeper.stored keeper.earlier (records_of keeper.entries)
+  pub left : honest → keeper.store.failed ≡ true → (c : Slots) → MayLeave (view keeper.store.disk) c
+      → StandsFor base keeper.stored (records_of keeper.entries) c
 
 -- At each moment of a step, a crash leaves the state after a prefix of the records that the history has after the step,
 -- no fewer than were stored before it.
 abbrev pub LosesNothing : {D : Type 0} → (D → View) → State → StoreKeeperValue D → StoreKeeperValue D → Type 0
-LosesNothing view base old new = Passes (view old.store.disk) (view new.store.disk) (StandsFor base old.stored (records_of new.entries))
+LosesNothing view base old new =
+    Passes (view old.store.disk) (view new.store.disk) (StandsFor base old.stored (records_of new.entries))
 
 -- A load is the next one: its records follow the stored ones, in the segment in use.
 pub record IsNext {D : Type 0} (store : StoreValue D) (stored : ℕ) (load : LoadValue) : Type 0 where

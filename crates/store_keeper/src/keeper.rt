@@ -53,7 +53,8 @@ impl<L: Founding, D: Disk> Model for StoreKeeper<L, D> {
 
     ghost view = { λ s. record { store = s.store; entries = s.past.entries; stored = s.stored; earlier = s.earlier } };
 
-    ghost invariant = { λ s. IsStoreKeeper D.honest D.view L.base (record { store = s.store; entries = s.past.entries; stored = s.stored; earlier = s.earlier }) };
+    ghost invariant = { λ s. IsStoreKeeper D.honest D.view L.base
+        (record { store = s.store; entries = s.past.entries; stored = s.stored; earlier = s.earlier }) };
 }
 
 impl<L: Founding, D: Disk> StoreKeeper<L, D> {
@@ -62,7 +63,17 @@ impl<L: Founding, D: Disk> StoreKeeper<L, D> {
         requires none { past.entries ≡ [] }
         requires base { Lawful L.base × Acyclic L.base }
         requires kept { D.honest → IsKept (D.view disk) segment L.base }
-        ensures { result ≡ record { store = record { disk = disk; segment = segment; failed = false; checkpoint = None }; entries = []; stored = 0; earlier = 0 } }
+        ensures { result ≡ record {
+          store = record {
+            disk = disk;
+            segment = segment;
+            failed = false;
+            checkpoint = None;
+          };
+          entries = [];
+          stored = 0;
+          earlier = 0;
+        } }
     {
         StoreKeeper {
             store: StoreHalf::new(disk, segment),
@@ -75,7 +86,8 @@ impl<L: Founding, D: Disk> StoreKeeper<L, D> {
     /// How many records of the history are stored: a crash leaves at least that many.
     pub fn stored(&self) -> u64
         ensures stored { result ≡ self.now.stored }
-        ensures left { D.honest → (c : Slots) → MayLeave (D.view self.now.store.disk) c → StandsFor L.base self.now.stored (records_of self.now.entries) c }
+        ensures left { D.honest → (c : Slots) → MayLeave (D.view self.now.store.disk) c
+            → StandsFor L.base self.now.stored (records_of self.now.entries) c }
     {
         self.stored
     }
@@ -103,7 +115,8 @@ impl<L: Founding, D: Disk> StoreKeeper<L, D> {
 
     /// Whether some records that led to a checkpoint's state aren't stored yet, and the device works.
     pub fn is_after(&self) -> bool
-        ensures { MatchBool result ((self.now.stored < self.now.earlier) × (self.now.store.failed ≡ false)) ((self.now.earlier ≤ self.now.stored) ⊎ (self.now.store.failed ≡ true)) }
+        ensures { MatchBool result ((self.now.stored < self.now.earlier) × (self.now.store.failed ≡ false))
+            ((self.now.earlier ≤ self.now.stored) ⊎ (self.now.store.failed ≡ true)) }
     {
         self.stored < self.earlier && !self.store.has_failed()
     }
@@ -111,7 +124,8 @@ impl<L: Founding, D: Disk> StoreKeeper<L, D> {
     /// The disk of the store.
     pub fn into_disk(self) -> D
         ensures disk { result ≡ self.store.disk }
-        ensures left { D.honest → (c : Slots) → MayLeave (D.view result) c → StandsFor L.base self.stored (records_of self.entries) c }
+        ensures left { D.honest → (c : Slots) → MayLeave (D.view result) c
+            → StandsFor L.base self.stored (records_of self.entries) c }
     {
         let StoreKeeper {
             store,
@@ -127,7 +141,8 @@ impl<L: Founding, D: Disk> StoreKeeper<L, D> {
         ensures disk { result.0 ≡ self.store.disk }
         ensures past { result.1.entries ≡ self.entries }
         ensures recorded { IsRecorded L.base self.entries }
-        ensures left { D.honest → (c : Slots) → MayLeave (D.view result.0) c → StandsFor L.base self.stored (records_of self.entries) c }
+        ensures left { D.honest → (c : Slots) → MayLeave (D.view result.0) c
+            → StandsFor L.base self.stored (records_of self.entries) c }
     {
         let StoreKeeper {
             store,
@@ -155,15 +170,21 @@ impl<L: Founding, D: Disk> StoreKeeper<L, D> {
     /// With `Store(Device)` it isn't known whether it is stored until the store is opened again. `Store(Failed)`,
     /// `Store(Full)`, `NotNow`, `NoMemory`: nothing was written.
     pub fn append(&mut self, load: Load<L>) -> Result<Receipt, (NotStored, Load<L>)>
-        ensures stored { IfOk result (λ receipt. (receipt ≡ load.batch.count) × (self.new.stored ≡ self.old.stored + load.batch.count)) }
+        ensures stored { IfOk result (λ receipt. (receipt ≡ load.batch.count)
+            × (self.new.stored ≡ self.old.stored + load.batch.count)) }
         ensures next { OnOk result (IsNext self.old.store self.old.stored load) }
-        ensures not_now { IfErr result (λ fault. fault.0 ≡ NotStored.NotNow → IsNext self.old.store self.old.stored load → ⊥) }
+        ensures not_now { IfErr result
+            (λ fault. fault.0 ≡ NotStored.NotNow → IsNext self.old.store self.old.stored load → ⊥) }
         ensures back { IfErr result (λ fault. (fault.1 ≡ load) × (self.new.stored ≡ self.old.stored)) }
-        ensures unwritten { IfErr result (λ fault. (fault.0 ≡ NotStored.Store StoreFault.Device → ⊥) → self.new.store ≡ self.old.store) }
+        ensures unwritten { IfErr result
+            (λ fault. (fault.0 ≡ NotStored.Store StoreFault.Device → ⊥) → self.new.store ≡ self.old.store) }
         ensures quiet { OnOk result (D.failed_calls self.new.store.disk ≡ D.failed_calls self.old.store.disk) }
-        ensures device { IfErr result (λ fault. fault.0 ≡ NotStored.Store StoreFault.Device → D.failed_calls self.new.store.disk ≡ one_more (D.failed_calls self.old.store.disk)) }
-        ensures failed { IfErr result (λ fault. fault.0 ≡ NotStored.Store StoreFault.Failed → self.old.store.failed ≡ true) }
-        ensures full { IfErr result (λ fault. fault.0 ≡ NotStored.Store StoreFault.Full → MAX_RECORDS < self.old.store.segment.records + load.batch.count) }
+        ensures device { IfErr result (λ fault. fault.0 ≡ NotStored.Store StoreFault.Device
+            → D.failed_calls self.new.store.disk ≡ one_more (D.failed_calls self.old.store.disk)) }
+        ensures failed { IfErr result (λ fault. fault.0 ≡ NotStored.Store StoreFault.Failed
+            → self.old.store.failed ≡ true) }
+        ensures full { IfErr result (λ fault. fault.0 ≡ NotStored.Store StoreFault.Full
+            → MAX_RECORDS < self.old.store.segment.records + load.batch.count) }
         ensures faults { IfErr result (λ fault. IsWhyNotStored fault.0) }
         ensures earlier { self.new.earlier ≡ self.old.earlier }
         ensures begins { Begins self.old.entries self.new.entries }
@@ -181,7 +202,8 @@ impl<L: Founding, D: Disk> StoreKeeper<L, D> {
 
     /// Whether a load is the next one, and of the segment in use.
     fn is_next(&self, load: &Load<L>) -> bool
-        ensures { MatchBool result (IsNext self.now.store self.now.stored load.now) (IsNext self.now.store self.now.stored load.now → ⊥) }
+        ensures { MatchBool result (IsNext self.now.store self.now.stored load.now)
+            (IsNext self.now.store self.now.stored load.now → ⊥) }
     {
         load.first == self.stored
             && load.epoch == self.store.epoch()
@@ -192,14 +214,19 @@ impl<L: Founding, D: Disk> StoreKeeper<L, D> {
     fn store_next(&mut self, load: Load<L>) -> Result<Receipt, (NotStored, Load<L>)>
         requires next { IsNext self.old.store self.old.stored load }
         requires begins { Begins load.entries self.old.entries }
-        ensures stored { IfOk result (λ receipt. (receipt ≡ load.batch.count) × (self.new.stored ≡ self.old.stored + load.batch.count)) }
+        ensures stored { IfOk result (λ receipt. (receipt ≡ load.batch.count)
+            × (self.new.stored ≡ self.old.stored + load.batch.count)) }
         ensures back { IfErr result (λ fault. (fault.1 ≡ load) × (self.new.stored ≡ self.old.stored)) }
         ensures fault { IfErr result (λ fault. fault.0 ≡ NotStored.NotNow → ⊥) }
-        ensures unwritten { IfErr result (λ fault. (fault.0 ≡ NotStored.Store StoreFault.Device → ⊥) → self.new.store ≡ self.old.store) }
+        ensures unwritten { IfErr result
+            (λ fault. (fault.0 ≡ NotStored.Store StoreFault.Device → ⊥) → self.new.store ≡ self.old.store) }
         ensures quiet { OnOk result (D.failed_calls self.new.store.disk ≡ D.failed_calls self.old.store.disk) }
-        ensures device { IfErr result (λ fault. fault.0 ≡ NotStored.Store StoreFault.Device → D.failed_calls self.new.store.disk ≡ one_more (D.failed_calls self.old.store.disk)) }
-        ensures failed { IfErr result (λ fault. fault.0 ≡ NotStored.Store StoreFault.Failed → self.old.store.failed ≡ true) }
-        ensures full { IfErr result (λ fault. fault.0 ≡ NotStored.Store StoreFault.Full → MAX_RECORDS < self.old.store.segment.records + load.batch.count) }
+        ensures device { IfErr result (λ fault. fault.0 ≡ NotStored.Store StoreFault.Device
+            → D.failed_calls self.new.store.disk ≡ one_more (D.failed_calls self.old.store.disk)) }
+        ensures failed { IfErr result (λ fault. fault.0 ≡ NotStored.Store StoreFault.Failed
+            → self.old.store.failed ≡ true) }
+        ensures full { IfErr result (λ fault. fault.0 ≡ NotStored.Store StoreFault.Full
+            → MAX_RECORDS < self.old.store.segment.records + load.batch.count) }
         ensures faults { IfErr result (λ fault. IsWhyNotStored fault.0) }
         ensures earlier { self.new.earlier ≡ self.old.earlier }
         ensures entries { self.new.entries ≡ self.old.entries }
@@ -240,7 +267,8 @@ impl<L: Founding, D: Disk> StoreKeeper<L, D> {
         ensures earlier { OnOk result (self.new.earlier ≡ end.earlier) }
         ensures possible { OnOk result (CanBegin self.old.store end) }
         ensures not_now { IfErr result (λ fault. fault.0 ≡ NotBegun.NotNow → CanBegin self.old.store end → ⊥) }
-        ensures back { IfErr result (λ fault. (fault.1 ≡ end) × (self.new.store ≡ self.old.store) × (self.new.earlier ≡ self.old.earlier)) }
+        ensures back { IfErr result (λ fault. (fault.1 ≡ end) × (self.new.store ≡ self.old.store)
+            × (self.new.earlier ≡ self.old.earlier)) }
         ensures stored { self.new.stored ≡ self.old.stored }
         ensures begins { Begins self.old.entries self.new.entries }
         ensures any_moment { D.honest → LosesNothing D.view L.base self.old self.new }
@@ -269,7 +297,8 @@ impl<L: Founding, D: Disk> StoreKeeper<L, D> {
     fn begin_now(&mut self, end: End<L>)
         requires can { CanBegin self.old.store end }
         requires begins { Begins end.entries self.old.entries }
-        ensures { self.new ≡ record self.old { store = record self.old.store { checkpoint = Some (begun end.cut) }; earlier = end.earlier } }
+        ensures { self.new ≡ record self.old
+            { store = record self.old.store { checkpoint = Some (begun end.cut) }; earlier = end.earlier } }
     {
         let End {
             cut,

@@ -22,9 +22,21 @@ impl<L: Founding> Model for Load<L> {
 
     ghost coded = { load_code };
 
-    ghost view = { λ l. record { epoch = l.epoch; batch = l.batch; entries = l.past.entries; first = l.first; number = l.number } };
+    ghost view = { λ l. record {
+      epoch = l.epoch;
+      batch = l.batch;
+      entries = l.past.entries;
+      first = l.first;
+      number = l.number;
+    } };
 
-    ghost invariant = { λ l. IsLoad L.base (record { epoch = l.epoch; batch = l.batch; entries = l.past.entries; first = l.first; number = l.number }) };
+    ghost invariant = { λ l. IsLoad L.base (record {
+      epoch = l.epoch;
+      batch = l.batch;
+      entries = l.past.entries;
+      first = l.first;
+      number = l.number;
+    }) };
 }
 
 /// The state at the end of an epoch, from which an image is to be made, with the history up to it. It can't be copied.
@@ -50,5 +62,6 @@ impl<L: Founding> Model for End<L> {
 
     ghost view = { λ e. record { cut = e.cut; entries = e.past.entries; earlier = e.earlier } };
 
-    ghost invariant = { λ e. (e.cut.epoch ≡ e.epoch) × IsEnd L.base (record { cut = e.cut; entries = e.past.entries; earlier = e.earlier }) };
+    ghost invariant = { λ e. (e.cut.epoch ≡ e.epoch)
+        × IsEnd L.base (record { cut = e.cut; entries = e.past.entries; earlier = e.earlier }) };
 }

@@ -17,11 +17,13 @@ as_written slots = record {
 
 -- An image slot that is passed over in an epoch: it isn't open, or its image is of an earlier epoch.
 abbrev pub IsPassedImage : ℕ → List ℕ → Type 0
-IsPassedImage epoch slot = (IsOpen image_header slot → ⊥) ⊎ ((before : ℕ) × (before < epoch) × IsOfEpoch ((epoch + 1) % 2) before slot)
+IsPassedImage epoch slot =
+    (IsOpen image_header slot → ⊥) ⊎ ((before : ℕ) × (before < epoch) × IsOfEpoch ((epoch + 1) % 2) before slot)
 
 -- A segment slot that is passed over: it isn't open, or it is of the epoch just before.
 abbrev pub IsPassedSegment : ℕ → List ℕ → Type 0
-IsPassedSegment epoch slot = (IsOpen segment_header_length slot → ⊥) ⊎ ((before : ℕ) × (suc before ≡ epoch) × IsOfEpoch (before % 2) before slot)
+IsPassedSegment epoch slot =
+    (IsOpen segment_header_length slot → ⊥) ⊎ ((before : ℕ) × (suc before ≡ epoch) × IsOfEpoch (before % 2) before slot)
 
 -- Outside a checkpoint, and within one until the next segment is opened: the image of an epoch, and the records of its
 -- segment.

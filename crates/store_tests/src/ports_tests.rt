@@ -10,8 +10,10 @@ use std::alloc::{AllocError, Global};
 
 /// A message by a send right, with a right for the reply and a right in its body, both to one port.
 fn message(alloc: Global, kind: RightKind, port: u64) -> Result<Message, AllocError>
-    ensures reply { IfOk result (λ message. message.reply ≡ Some (record { kind = kinds.SendOnce; port = in_message.Live port })) }
-    ensures rights { IfOk result (λ message. message.rights ≡ (record { kind = kind; port = in_message.Live port }) ∷ []) }
+    ensures reply { IfOk result (λ message. message.reply
+        ≡ Some (record { kind = kinds.SendOnce; port = in_message.Live port })) }
+    ensures rights { IfOk result (λ message. message.rights
+        ≡ (record { kind = kind; port = in_message.Live port }) ∷ []) }
 {
     let mut rights = Vec::new(alloc);
     let port = PortInMessage::Live(port);

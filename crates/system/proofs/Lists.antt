@@ -59,7 +59,8 @@ module _ {A : Type 0} where
 
 -- a ticket that is answered, and the others
 
-pub answered_here : (tickets : List Ticket) (n : ℕ) (ticket : Ticket) → slice_get tickets n ≡ Some ticket → slice_get (with_answered tickets n) n ≡ Some (record ticket { answered = true })
+pub answered_here : (tickets : List Ticket) (n : ℕ) (ticket : Ticket) → slice_get tickets n ≡ Some ticket
+    → slice_get (with_answered tickets n) n ≡ Some (record ticket { answered = true })
 answered_here [] n ticket there = absurd (cc there)
 answered_here (first ∷ tickets) zero ticket there = ap (λ (o : Option Ticket). mark o) there
   where
@@ -68,7 +69,8 @@ answered_here (first ∷ tickets) zero ticket there = ap (λ (o : Option Ticket)
     mark (Some t) = Some (record t { answered = true })
 answered_here (first ∷ tickets) (suc n) ticket there = answered_here tickets n ticket there
 
-pub answered_other : (tickets : List Ticket) (n k : ℕ) → k ≢ n → slice_get (with_answered tickets n) k ≡ slice_get tickets k
+pub answered_other : (tickets : List Ticket) (n k : ℕ) → k ≢ n
+    → slice_get (with_answered tickets n) k ≡ slice_get tickets k
 answered_other [] n k apart = refl
 answered_other (first ∷ tickets) zero zero apart = absurd (apart refl)
 answered_other (first ∷ tickets) zero (suc k) apart = refl
@@ -84,17 +86,22 @@ seen_up : (b : Bool) (seen rest n : ℕ) → (if b then max seen rest else rest)
 seen_up true seen rest n le = omega arith
 seen_up false seen rest n le = le
 
-seen_on : (b : Bool) (seen rest other n : ℕ) → (if b then max seen rest else rest) ≤ n → other ≤ n → (if b then max seen other else other) ≤ n
+seen_on : (b : Bool) (seen rest other n : ℕ) → (if b then max seen rest else rest) ≤ n → other ≤ n
+    → (if b then max seen other else other) ≤ n
 seen_on true seen rest other n le less = omega arith
 seen_on false seen rest other n le less = less
 
-pub seen_given : (tickets : List Ticket) (ticket : Ticket) (n : ℕ) → ticket.answered ≡ false → greatest_seen tickets ≤ n → greatest_seen (tickets ++ ticket ∷ []) ≤ n
-seen_given [] ticket n fresh le = subst (λ (b : Bool). (if b then max ticket.seen 0 else 0) ≤ n) (sym fresh) (omega arith)
+pub seen_given : (tickets : List Ticket) (ticket : Ticket) (n : ℕ) → ticket.answered ≡ false → greatest_seen tickets ≤ n
+    → greatest_seen (tickets ++ ticket ∷ []) ≤ n
+seen_given [] ticket n fresh le =
+    subst (λ (b : Bool). (if b then max ticket.seen 0 else 0) ≤ n) (sym fresh) (omega arith)
 seen_given (first ∷ tickets) ticket n fresh le =
     let rest = seen_up first.answered first.seen (greatest_seen tickets) n le in
-    seen_on first.answered first.seen (greatest_seen tickets) (greatest_seen (tickets ++ ticket ∷ [])) n le (seen_given tickets ticket n fresh rest)
+    seen_on first.answered first.seen (greatest_seen tickets) (greatest_seen (tickets ++ ticket ∷ [])) n le
+    (seen_given tickets ticket n fresh rest)
 
-pub seen_answered : (tickets : List Ticket) (k : ℕ) (ticket : Ticket) (n : ℕ) → slice_get tickets k ≡ Some ticket → ticket.seen ≤ n → greatest_seen tickets ≤ n → greatest_seen (with_answered tickets k) ≤ n
+pub seen_answered : (tickets : List Ticket) (k : ℕ) (ticket : Ticket) (n : ℕ) → slice_get tickets k ≡ Some ticket
+    → ticket.seen ≤ n → greatest_seen tickets ≤ n → greatest_seen (with_answered tickets k) ≤ n
 seen_answered [] k ticket n there less le = le
 seen_answered (first ∷ tickets) zero ticket n there less le =
     let same : first ≡ ticket = cc there in
@@ -103,4 +110,5 @@ seen_answered (first ∷ tickets) zero ticket n there less le =
     omega arith
 seen_answered (first ∷ tickets) (suc k) ticket n there less le =
     let rest = seen_up first.answered first.seen (greatest_seen tickets) n le in
-    seen_on first.answered first.seen (greatest_seen tickets) (greatest_seen (with_answered tickets k)) n le (seen_answered tickets k ticket n there less rest)
+    seen_on first.answered first.seen (greatest_seen tickets) (greatest_seen (with_answered tickets k)) n le
+    (seen_answered tickets k ticket n there less rest)

@@ -15,7 +15,8 @@ use Rattle.system.specs.declared.kernel_half.SubmitFault.TheVariants as fault
 
 -- the epoch log after a call, with a record or without
 module _ (old new : EpochLogValue) (space : ℕ) (c : Call) (answer : Reply)
-    (with_one : has_record c answer ≡ true → new ≡ with_record old (entry_of space c answer)) (with_none : has_record c answer ≡ false → new ≡ old) where
+    (with_one : has_record c answer ≡ true → new ≡ with_record old (entry_of space c answer))
+    (with_none : has_record c answer ≡ false → new ≡ old) where
   pub log_is_after : new ≡ log_after old space c answer
   log_is_after = by (has_record c answer) refl
     where
@@ -42,24 +43,49 @@ memory_no_full (Err f) is acknowledged = cc (is, acknowledged)
 
 -- a number is at most another, or isn't, by the test
 pub due_or_not : (a b seen handed : ℕ) → a ≡ seen → b ≡ handed → MatchBool (leb a b) (seen ≤ handed) (handed < seen)
-due_or_not a b seen handed same_seen same_handed = elim (leb_tells a b) as (λ _. MatchBool (leb a b) (seen ≤ handed) (handed < seen)) [
-  | inl within ↦ subst (λ (t : Bool). MatchBool t (seen ≤ handed) (handed < seen)) (sym within.0) (omega (arith, within.1, same_seen, same_handed))
-  | inr beyond ↦ subst (λ (t : Bool). MatchBool t (seen ≤ handed) (handed < seen)) (sym beyond.0) (omega (arith, beyond.1, same_seen, same_handed))
-]
+due_or_not a b seen handed same_seen same_handed =
+    elim (leb_tells a b) as (λ _. MatchBool (leb a b) (seen ≤ handed) (handed < seen)) [
+      | inl within ↦ subst (λ (t : Bool). MatchBool t (seen ≤ handed) (handed < seen)) (sym within.0)
+          (omega (arith, within.1, same_seen, same_handed))
+      | inr beyond ↦ subst (λ (t : Bool). MatchBool t (seen ≤ handed) (handed < seen)) (sym beyond.0)
+          (omega (arith, beyond.1, same_seen, same_handed))
+    ]
 
 -- the next epoch may begin, by the tests
-pub can_cut : (is_cut : Bool) (epoch older : ℕ) (half : KernelValue) → is_cut ≡ half.is_cut → epoch ≡ half.epoch → older ≡ half.older.count → is_cut ≡ false → epoch < 2 ^ 64 - 1 → (count : ℕ) → count ≡ older → count ≤ 0 → CanCut half
+pub can_cut : (is_cut : Bool) (epoch older : ℕ) (half : KernelValue) → is_cut ≡ half.is_cut → epoch ≡ half.epoch
+    → older ≡ half.older.count → is_cut ≡ false → epoch < 2 ^ 64 - 1 → (count : ℕ) → count ≡ older → count ≤ 0
+    → CanCut half
 can_cut is_cut epoch older half same_cut same_epoch same_older over next count counted none =
-    record { over = sym same_cut ∙ over; next = subst (λ n. n < 2 ^ 64 - 1) same_epoch next; none_older = omega (arith, same_older, counted, none) }
+    record {
+      over = sym same_cut ∙ over;
+      next = subst (λ n. n < 2 ^ 64 - 1) same_epoch next;
+      none_older = omega (arith, same_older, counted, none);
+    }
 
 one_less : (n : ℕ) → n + 1 - 1 ≡ n
 one_less n = omega arith
 
 -- a record that was written and taken out again
-pub record_out : (old with_one new : EpochLogValue) (space : ℕ) (c : Call) (answer : Reply) (size : ℕ) → with_one ≡ with_record old (entry_of space c answer) → size ≡ length (record_encoding old.length (entry_of space c answer))
-    → new ≡ record { length = with_one.length - 1; made = with_one.made - 1; waiting = without_last with_one.waiting size } → new ≡ old
+pub record_out : (old with_one new : EpochLogValue) (space : ℕ) (c : Call) (answer : Reply) (size : ℕ)
+    → with_one ≡ with_record old (entry_of space c answer)
+    → size ≡ length (record_encoding old.length (entry_of space c answer))
+    → new ≡ record {
+      length = with_one.length - 1;
+      made = with_one.made - 1;
+      waiting = without_last with_one.waiting size;
+    } → new ≡ old
 record_out old with_one new space c answer size written long is =
     let encoding : List ℕ = record_encoding old.length (entry_of space c answer) in
-    let less : length (old.waiting.body ++ encoding) - size ≡ length old.waiting.body = omega (arith, length-append old.waiting.body encoding, long) in
-    is ∙ ap (λ (r : EpochLogValue). record { length = r.length - 1; made = r.made - 1; waiting = without_last r.waiting size }) written
-    ∙ (λ i. record { length = one_less old.length i; made = one_less old.made i; waiting = record { count = one_less old.waiting.count i; body = (ap (λ n. take n (old.waiting.body ++ encoding)) less ∙ take_at old.waiting.body encoding (length old.waiting.body) refl) i } })
+    let less : length (old.waiting.body ++ encoding) - size ≡ length old.waiting.body =
+    omega (arith, length-append old.waiting.body encoding, long) in
+    is ∙ ap (λ (r : EpochLogValue).
+    record { length = r.length - 1; made = r.made - 1; waiting = without_last r.waiting size }) written
+    ∙ (λ i. record {
+      length = one_less old.length i;
+      made = one_less old.made i;
+      waiting = record {
+        count = one_less old.waiting.count i;
+        body = (ap (λ n. take n (old.waiting.body ++ encoding)) less
+            ∙ take_at old.waiting.body encoding (length old.waiting.body) refl) i;
+      };
+    })

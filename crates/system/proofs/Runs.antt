@@ -17,7 +17,8 @@ use Rattle.system.proofs.Tickets.{none_fresh}
 
 module _ {D : Type 0} (honest : Type 0) (view : D → View) (base : State) where
   -- A core that continues from an opened store.
-  pub first_stands : (kernel : State) (disk : D) (segment : Segment) → kernel ≡ base → Lawful base → Acyclic base → (honest → IsKept (view disk) segment kernel)
+  pub first_stands : (kernel : State) (disk : D) (segment : Segment) → kernel ≡ base → Lawful base → Acyclic base
+      → (honest → IsKept (view disk) segment kernel)
       → StandsFor honest view base (first_world segment.epoch segment.records) (first_system kernel disk segment)
   first_stands kernel disk segment is lawful acyclic kept = record {
     epoch = refl;
@@ -32,7 +33,11 @@ module _ {D : Type 0} (honest : Type 0) (view : D → View) (base : State) where
       older_within = λ less. absurd (omega (arith, less));
       older_room = λ less. absurd (omega (arith, less));
     };
-    waits = record { before_is = record { counted = refl; encoding = refl }; log_is = record { counted = refl; encoding = refl } };
+    waits =
+        record {
+          before_is = record { counted = refl; encoding = refl };
+          log_is = record { counted = refl; encoding = refl };
+        };
     between = record { batch_is = refl; taken_is = refl; handed_is = refl };
     receipts = refl;
     checkpoint = tt;
@@ -53,7 +58,8 @@ module _ {D : Type 0} (honest : Type 0) (view : D → View) (base : State) where
 -- Events one after another.
 
 module _ (honest : Type 0) (base : State) where
-  runs_within : (w : World) (events : List Event) (outcomes : List Outcome) (from : ℕ) (last : View) (end : World) → Runs honest base w events outcomes from last end → honest → from ≤ last.moment
+  runs_within : (w : World) (events : List Event) (outcomes : List Outcome) (from : ℕ) (last : View) (end : World)
+      → Runs honest base w events outcomes from last end → honest → from ≤ last.moment
   runs_within w [] [] from last end runs is_honest = omega (arith, runs.1 is_honest)
   runs_within w [] (answered ∷ outcomes) from last end runs is_honest = absurd runs
   runs_within w (event ∷ events) [] from last end runs is_honest = absurd runs
@@ -61,8 +67,12 @@ module _ (honest : Type 0) (base : State) where
       let rest = runs_within runs.1 events outcomes runs.2 last end runs.5 is_honest in
       omega (arith, rest, (runs.4 is_honest).later)
 
-  pub runs_push : (w : World) (events : List Event) (outcomes : List Outcome) (from : ℕ) (last later : View) (end next : World) (event : Event) (answered : Outcome) (kept : Reply) → Runs honest base w events outcomes from last end
-      → After base end (event_of event) (outcome_of answered kept) next → (honest → Passes last later (StandsFrom base (acknowledged end) next)) → (honest → (c : Slots) → MayLeave later c → StandsFrom base (acknowledged next) next c)
+  pub runs_push : (w : World) (events : List Event) (outcomes : List Outcome) (from : ℕ) (last later : View)
+      (end next : World) (event : Event) (answered : Outcome) (kept : Reply)
+      → Runs honest base w events outcomes from last end
+      → After base end (event_of event) (outcome_of answered kept) next
+      → (honest → Passes last later (StandsFrom base (acknowledged end) next))
+      → (honest → (c : Slots) → MayLeave later c → StandsFrom base (acknowledged next) next c)
       → Runs honest base w (events ++ event ∷ []) (outcomes ++ answered ∷ []) from later next
   runs_push w [] [] from last later end next event answered kept runs after passes left = (
     kept,
@@ -71,33 +81,45 @@ module _ (honest : Type 0) (base : State) where
     subst (λ (v : World). After base v (event_of event) (outcome_of answered kept) next) runs.0 after,
     λ is_honest. record {
       later = omega (arith, runs.1 is_honest, (passes is_honest).later);
-      during = λ k c after_from until left_at. subst (λ (v : World). StandsFrom base (acknowledged v) next c) runs.0 ((passes is_honest).since k c (omega (arith, runs.1 is_honest, after_from)) until left_at);
+      during =
+          λ k c after_from until left_at. subst
+          (λ (v : World). StandsFrom base (acknowledged v) next c) runs.0
+          ((passes is_honest).since k c (omega (arith, runs.1 is_honest, after_from)) until left_at);
       after = λ c left_at. left is_honest c left_at;
     },
     (refl, λ _. refl),
   )
   runs_push w [] (other ∷ outcomes) from last later end next event answered kept runs after passes left = absurd runs
   runs_push w (first ∷ events) [] from last later end next event answered kept runs after passes left = absurd runs
-  runs_push w (first ∷ events) (other ∷ outcomes) from last later end next event answered kept runs after passes left = (
-    runs.0,
-    runs.1,
-    runs.2,
-    runs.3,
-    λ is_honest.
-        let bounded = runs.4 is_honest in
-        let within = runs_within runs.1 events outcomes runs.2 last end runs.5 is_honest in
-        record {
-          later = bounded.later;
-          during = λ k c after_from until left_at. bounded.during k c after_from until (((passes is_honest).past k c (omega (arith, until, within))).0 left_at);
-          after = λ c left_at. bounded.after c (((passes is_honest).past runs.2 c within).0 left_at);
-        },
-    runs_push runs.1 events outcomes runs.2 last later end next event answered kept runs.5 after passes left,
-  )
+  runs_push w (first ∷ events) (other ∷ outcomes) from last later end next event answered kept runs after passes
+      left = (
+        runs.0,
+        runs.1,
+        runs.2,
+        runs.3,
+        λ is_honest.
+            let bounded = runs.4 is_honest in
+            let within = runs_within runs.1 events outcomes runs.2 last end runs.5 is_honest in
+            record {
+              later = bounded.later;
+              during =
+                  λ k c after_from until left_at. bounded.during k c after_from until
+                  (((passes is_honest).past k c (omega (arith, until, within))).0 left_at);
+              after = λ c left_at. bounded.after c (((passes is_honest).past runs.2 c within).0 left_at);
+            },
+        runs_push runs.1 events outcomes runs.2 last later end next event answered kept runs.5 after passes left,
+      )
 
-pub through_push : {D : Type 0} (honest : Type 0) (view : D → View) (base : State) (w : World) (events : List Event) (outcomes : List Outcome) (old mid new : SystemValue D) (event : Event) (answered : Outcome) (through : RunsThrough honest view base w events outcomes old mid)
-    → Steps honest view base through.end event answered mid new → RunsThrough honest view base w (events ++ event ∷ []) (outcomes ++ answered ∷ []) old new
+pub through_push : {D : Type 0} (honest : Type 0) (view : D → View) (base : State) (w : World) (events : List Event)
+    (outcomes : List Outcome) (old mid new : SystemValue D) (event : Event) (answered : Outcome)
+    (through : RunsThrough honest view base w events outcomes old mid)
+    → Steps honest view base through.end event answered mid new
+    → RunsThrough honest view base w (events ++ event ∷ []) (outcomes ++ answered ∷ []) old new
 through_push honest view base w events outcomes old mid new event answered through steps = record {
   end = steps.next;
   stands = steps.stands;
-  runs = runs_push honest base w events outcomes (view old.store.disk).moment (view mid.store.disk) (view new.store.disk) through.end steps.next event answered steps.kept through.runs steps.after steps.passes steps.left;
+  runs =
+      runs_push honest base w events outcomes (view old.store.disk).moment (view mid.store.disk)
+      (view new.store.disk) through.end steps.next event answered steps.kept through.runs steps.after steps.passes
+      steps.left;
 }

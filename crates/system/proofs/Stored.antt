@@ -14,12 +14,17 @@ use Rattle.system.specs.Core.{SystemValue}
 use Rattle.system.specs.Halves.{TakenValue}
 use Rattle.system.specs.Order.{IsInOrder, IsOut, stored_out, taken_out}
 
-module _ {D : Type 0} (honest : Type 0) (view : D → View) (old : SystemValue D) (epoch : ℕ) (batch : BatchValue) (store : StoreValue D)
-    (out : old.out ≡ Some (record { epoch = epoch; batch = batch })) (in_use : epoch ≡ old.store.segment.epoch) (unfailed : old.store.failed ≡ false) (under_way : store.checkpoint ≡ old.store.checkpoint)
-    (passes : honest → IsSynced (view old.store.disk) (segment_slot old.store.segment.epoch) → PassesAppend old.store.segment.epoch (view old.store.disk) (view store.disk) batch) where
+module _ {D : Type 0} (honest : Type 0) (view : D → View) (old : SystemValue D) (epoch : ℕ) (batch : BatchValue)
+    (store : StoreValue D)
+    (out : old.out ≡ Some (record { epoch = epoch; batch = batch })) (in_use : epoch ≡ old.store.segment.epoch)
+    (unfailed : old.store.failed ≡ false) (under_way : store.checkpoint ≡ old.store.checkpoint)
+    (passes : honest → IsSynced (view old.store.disk) (segment_slot old.store.segment.epoch)
+    → PassesAppend old.store.segment.epoch (view old.store.disk) (view store.disk) batch) where
   pub stores : (left : Option TakenValue) (size : ℕ) (receipt : Option ℕ) → left ≡ None → receipt ≡ Some size
-      → (size ≡ batch.count) × (store.segment ≡ record old.store.segment { records = old.store.segment.records + batch.count }) × (store.failed ≡ false)
-      → (honest → IsAppended old.store.segment.epoch (view old.store.disk).seen (view store.disk).seen batch) → (honest → IsSynced (view store.disk) (segment_slot old.store.segment.epoch))
+      → (size ≡ batch.count) × (store.segment
+      ≡ record old.store.segment { records = old.store.segment.records + batch.count }) × (store.failed ≡ false)
+      → (honest → IsAppended old.store.segment.epoch (view old.store.disk).seen (view store.disk).seen batch)
+      → (honest → IsSynced (view store.disk) (segment_slot old.store.segment.epoch))
       → Stores honest view old (record old { store = store; out = left; receipt = receipt; finished_first = true })
   stores left size receipt none some counted stored synced = record {
     taken = record { epoch = epoch; batch = batch };
@@ -27,7 +32,13 @@ module _ {D : Type 0} (honest : Type 0) (view : D → View) (old : SystemValue D
     in_use = in_use;
     unfailed = unfailed;
     rest = λ i. record old {
-      store = record { disk = store.disk; segment = counted.1 i; failed = (counted.2 ∙ sym unfailed) i; checkpoint = under_way i };
+      store =
+          record {
+            disk = store.disk;
+            segment = counted.1 i;
+            failed = (counted.2 ∙ sym unfailed) i;
+            checkpoint = under_way i;
+          };
       out = none i;
       receipt = (some ∙ ap Some counted.0) i;
       finished_first = true;
@@ -38,7 +49,8 @@ module _ {D : Type 0} (honest : Type 0) (view : D → View) (old : SystemValue D
   }
 
   -- or how a fault changes it, with which the batch came back
-  module _ (left : Option TakenValue) (back : BatchValue) (fault : StoreFault) (again : left ≡ Some (record { epoch = epoch; batch = back })) (same : back ≡ batch)
+  module _ (left : Option TakenValue) (back : BatchValue) (fault : StoreFault)
+      (again : left ≡ Some (record { epoch = epoch; batch = back })) (same : back ≡ batch)
       (device : fault ≡ Device → (store.failed ≡ true) × (store.segment ≡ old.store.segment))
       (faults : (fault ≡ Device) ⊎ (((fault ≡ Failed) ⊎ (fault ≡ Full)) × (store ≡ old.store))) where
     is_out : left ≡ old.out
@@ -47,9 +59,11 @@ module _ {D : Type 0} (honest : Type 0) (view : D → View) (old : SystemValue D
     whole : store ≡ old.store → record old { store = store; out = left } ≡ old
     whole is = λ i. record old { store = is i; out = is_out i }
 
-    pub fails : (fault ≡ Failed → old.store.failed ≡ true) → (fault ≡ Full → MAX_RECORDS < old.store.segment.records + batch.count)
+    pub fails : (fault ≡ Failed → old.store.failed ≡ true)
+        → (fault ≡ Full → MAX_RECORDS < old.store.segment.records + batch.count)
         → ((fault ≡ Failed) × (old.store.failed ≡ true) × (record old { store = store; out = left } ≡ old))
-        ⊎ (((fault ≡ Device) × FailsToStore honest view old (record old { store = store; out = left })) ⊎ ((fault ≡ Full) × FindsFull old (record old { store = store; out = left })))
+        ⊎ (((fault ≡ Device) × FailsToStore honest view old (record old { store = store; out = left }))
+        ⊎ ((fault ≡ Full) × FindsFull old (record old { store = store; out = left })))
     fails failed full = elim faults [
       | inl is ↦
           let acknowledged = device is in
@@ -60,13 +74,31 @@ module _ {D : Type 0} (honest : Type 0) (view : D → View) (old : SystemValue D
               out = out;
               in_use = in_use;
               unfailed = unfailed;
-              rest = λ i. record old { store = record { disk = store.disk; segment = acknowledged.1 i; failed = acknowledged.0 i; checkpoint = under_way i }; out = is_out i };
+              rest =
+                  λ i. record old {
+                    store = record {
+                      disk = store.disk;
+                      segment = acknowledged.1 i;
+                      failed = acknowledged.0 i;
+                      checkpoint = under_way i;
+                    };
+                    out = is_out i;
+                  };
               passes = passes;
             },
           ))
       | inr before ↦ elim before.0 [
         | inl is ↦ inl (is, failed is, whole before.1)
-        | inr is ↦ inr (inr (is, record { taken = record { epoch = epoch; batch = batch }; out = out; in_use = in_use; full = full is; rest = whole before.1 }))
+        | inr is ↦ inr (inr (
+          is,
+          record {
+            taken = record { epoch = epoch; batch = batch };
+            out = out;
+            in_use = in_use;
+            full = full is;
+            rest = whole before.1;
+          },
+        ))
       ]
     ]
 
@@ -76,7 +108,9 @@ module _ {D : Type 0} (honest : Type 0) (view : D → View) (old : SystemValue D
     pub fails_in_order : IsInOrder old → IsInOrder (record old { store = store; out = left })
     fails_in_order order = record {
       out = subst (λ (o : Option TakenValue). IsOut o old.receipt old.core.is_out) (sym is_out) order.out;
-      counted = subst (λ (o : Option TakenValue). old.core.handed + taken_out o + stored_out old.receipt + old.core.older.count + old.core.log.waiting.count ≡ old.core.log.made) (sym is_out) order.counted;
+      counted =
+          subst (λ (o : Option TakenValue). old.core.handed + taken_out o + stored_out old.receipt +
+          old.core.older.count + old.core.log.waiting.count ≡ old.core.log.made) (sym is_out) order.counted;
       epoch = λ none. ap (λ (s : Segment). s.epoch) segment_same ∙ order.epoch (sym under_way ∙ none);
       next = λ checkpoint is. order.next checkpoint (sym under_way ∙ is);
       over = λ none. (under_way ∙ (order.over none).0, (order.over none).1);

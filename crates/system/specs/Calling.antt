@@ -56,13 +56,15 @@ module _ {D : Type 0} (honest : Type 0) (view : D → View) where
     pub alone : IsAlone old space c answer batch
     pub stored : honest → IsAppended old.store.segment.epoch (view old.store.disk).seen (view new.store.disk).seen batch
     pub synced : honest → IsSynced (view new.store.disk) (segment_slot old.store.segment.epoch)
-    pub passes : honest → IsSynced (view old.store.disk) (segment_slot old.store.segment.epoch) → PassesAppend old.store.segment.epoch (view old.store.disk) (view new.store.disk) batch
+    pub passes : honest → IsSynced (view old.store.disk) (segment_slot old.store.segment.epoch)
+        → PassesAppend old.store.segment.epoch (view old.store.disk) (view new.store.disk) batch
 
   -- A call was made, and its record stored, if it has one; then it was answered.
   pub record Calls (old : SystemValue D) (space : ℕ) (c : Call) (answer : Reply) (new : SystemValue D) : Type 0 where
     pub step : Step old.core.kernel space c answer new.core.kernel
     pub rests : IsResting new
-    pub counted : new.store.segment ≡ record old.store.segment { records = old.store.segment.records + (if has_record c answer then 1 else 0) }
+    pub counted : new.store.segment
+        ≡ record old.store.segment { records = old.store.segment.records + (if has_record c answer then 1 else 0) }
     pub checkpoint : new.store.checkpoint ≡ old.store.checkpoint
     pub is_cut : new.core.is_cut ≡ old.core.is_cut
     pub unrecorded : has_record c answer ≡ false → (new.core.kernel ≡ old.core.kernel) × (new.store ≡ old.store)
@@ -75,4 +77,5 @@ module _ {D : Type 0} (honest : Type 0) (view : D → View) where
     pub recorded : has_record c answer ≡ true
     pub batch : BatchValue
     pub alone : IsAlone old space c answer batch
-    pub passes : honest → IsSynced (view old.store.disk) (segment_slot old.store.segment.epoch) → PassesAppend old.store.segment.epoch (view old.store.disk) (view new.store.disk) batch
+    pub passes : honest → IsSynced (view old.store.disk) (segment_slot old.store.segment.epoch)
+        → PassesAppend old.store.segment.epoch (view old.store.disk) (view new.store.disk) batch

@@ -16,7 +16,13 @@ module _ {D : Type 0} where
   pub record Submits (old : SystemValue D) (space : ℕ) (c : Call) (new : SystemValue D) : Type 0 where
     pub ticket : TicketValue
     pub gives : Gives old.core space c ticket new.core
-    pub rest : new ≡ record old { core = new.core; tickets = record { kept = finmap.insert old.tickets.kept old.tickets.given (Some ticket); given = old.tickets.given + 1 } }
+    pub rest : new ≡ record old {
+      core = new.core;
+      tickets = record {
+        kept = finmap.insert old.tickets.kept old.tickets.given (Some ticket);
+        given = old.tickets.given + 1;
+      };
+    }
 
   -- Records that waited are out as a batch.
   pub record Takes (old new : SystemValue D) : Type 0 where
@@ -31,14 +37,20 @@ module _ {D : Type 0} where
     pub in_use : taken.epoch ≡ old.store.segment.epoch
     pub unfailed : old.store.failed ≡ false
     pub rest : new ≡ record old {
-      store = record old.store { disk = new.store.disk; segment = record old.store.segment { records = old.store.segment.records + taken.batch.count } };
+      store =
+          record old.store {
+            disk = new.store.disk;
+            segment = record old.store.segment { records = old.store.segment.records + taken.batch.count };
+          };
       out = None;
       receipt = Some taken.batch.count;
       finished_first = true;
     }
-    pub stored : honest → IsAppended old.store.segment.epoch (view old.store.disk).seen (view new.store.disk).seen taken.batch
+    pub stored : honest → IsAppended old.store.segment.epoch (view old.store.disk).seen
+        (view new.store.disk).seen taken.batch
     pub synced : honest → IsSynced (view new.store.disk) (segment_slot old.store.segment.epoch)
-    pub passes : honest → IsSynced (view old.store.disk) (segment_slot old.store.segment.epoch) → PassesAppend old.store.segment.epoch (view old.store.disk) (view new.store.disk) taken.batch
+    pub passes : honest → IsSynced (view old.store.disk) (segment_slot old.store.segment.epoch)
+        → PassesAppend old.store.segment.epoch (view old.store.disk) (view new.store.disk) taken.batch
 
   -- The device failed while it was stored: the batch is still out, and the store can't be used any more.
   pub record FailsToStore (honest : Type 0) (view : D → View) (old new : SystemValue D) : Type 0 where
@@ -47,7 +59,8 @@ module _ {D : Type 0} where
     pub in_use : taken.epoch ≡ old.store.segment.epoch
     pub unfailed : old.store.failed ≡ false
     pub rest : new ≡ record old { store = record old.store { disk = new.store.disk; failed = true } }
-    pub passes : honest → IsSynced (view old.store.disk) (segment_slot old.store.segment.epoch) → PassesAppend old.store.segment.epoch (view old.store.disk) (view new.store.disk) taken.batch
+    pub passes : honest → IsSynced (view old.store.disk) (segment_slot old.store.segment.epoch)
+        → PassesAppend old.store.segment.epoch (view old.store.disk) (view new.store.disk) taken.batch
 
   -- The segment has no room for the batch, and nothing changed.
   pub record FindsFull (old new : SystemValue D) : Type 0 where
@@ -84,11 +97,15 @@ module _ {D : Type 0} where
     pub there : finmap.get old.tickets.kept number ≡ Some (Some ticket)
     pub due : ticket.seen ≤ old.core.handed
     pub answer_is : answer ≡ ticket.answer
-    pub rest : new ≡ record old { tickets = record { kept = finmap.remove old.tickets.kept number; given = old.tickets.given } }
+    pub rest : new ≡ record old {
+      tickets = record { kept = finmap.remove old.tickets.kept number; given = old.tickets.given };
+    }
 
   -- There is no ticket of this number to be answered now.
   abbrev pub IsNotDue : SystemValue D → ℕ → Type 0
-  IsNotDue system number = (ticket : TicketValue) → finmap.get system.tickets.kept number ≡ Some (Some ticket) → system.core.handed < ticket.seen
+  IsNotDue system number =
+      (ticket : TicketValue) → finmap.get system.tickets.kept number ≡ Some (Some ticket)
+      → system.core.handed < ticket.seen
 
   abbrev pub IsFullNow : SystemValue D → ℕ → Call → Type 0
   IsFullNow system space c = IsFullFor system.core space c
@@ -102,4 +119,8 @@ module _ {D : Type 0} where
   -- The image was finished, whose receipt is out.
   pub record FinishesImage (honest : Type 0) (view : D → View) (old new : SystemValue D) : Type 0 where
     pub finishes : Finishes honest view old.store new.store
-    pub rest : new ≡ record old { store = new.store; finished = Some old.store.segment.epoch; finished_first = is_none old.receipt }
+    pub rest : new ≡ record old {
+      store = new.store;
+      finished = Some old.store.segment.epoch;
+      finished_first = is_none old.receipt;
+    }

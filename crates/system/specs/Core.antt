@@ -85,8 +85,10 @@ pub record Wait (opened earlier taken : ℕ) (applied : List Record) (older : �
 -- a batch of this many records that follow the stored ones: of the epoch before, or of the epoch log
 abbrev pub HasPlace : ℕ → ℕ → ℕ → ℕ → ℕ → List Record → ℕ → TakenValue → Type 0
 HasPlace epoch opened earlier stored older applied size taken =
-    ((stored + size ≤ earlier) × (taken.epoch + 1 ≡ epoch) × Holds (older + stored - earlier) (take size (drop stored applied)) taken.batch)
-    ⊎ ((earlier ≤ stored) × (taken.epoch ≡ epoch) × Holds (opened + (stored - earlier)) (take size (drop stored applied)) taken.batch)
+    ((stored + size ≤ earlier) × (taken.epoch + 1 ≡ epoch)
+    × Holds (older + stored - earlier) (take size (drop stored applied)) taken.batch)
+    ⊎ ((earlier ≤ stored) × (taken.epoch ≡ epoch)
+    × Holds (opened + (stored - earlier)) (take size (drop stored applied)) taken.batch)
 
 -- What waits between the halves: nothing;
 pub record NothingBetween (batch : Option world.Batch) (taken stored handed : ℕ) : Type 0 where
@@ -95,7 +97,8 @@ pub record NothingBetween (batch : Option world.Batch) (taken stored handed : �
   pub handed_is : handed ≡ stored
 
 -- or a batch in its place;
-pub record BatchBetween (batch : Option world.Batch) (taken stored handed : ℕ) (place : ℕ → TakenValue → Type 0) (out : TakenValue) : Type 0 where
+pub record BatchBetween (batch : Option world.Batch) (taken stored handed : ℕ) (place : ℕ → TakenValue → Type 0)
+    (out : TakenValue) : Type 0 where
   pub size : ℕ
   pub some : 0 < size
   pub batch_is : batch ≡ Some (record { epoch = out.epoch; size = size; appended = false })
@@ -110,7 +113,8 @@ pub record ReceiptBetween (batch : Option world.Batch) (taken stored handed size
   pub taken_is : taken ≡ stored
   pub handed_is : handed + size ≡ stored
 
-abbrev pub Between : Option world.Batch → ℕ → ℕ → ℕ → (ℕ → TakenValue → Type 0) → Option TakenValue → Option ℕ → Bool → Type 0
+abbrev pub Between : Option world.Batch → ℕ → ℕ → ℕ → (ℕ → TakenValue → Type 0) → Option TakenValue → Option ℕ → Bool
+    → Type 0
 Between batch taken stored handed place None None false = NothingBetween batch taken stored handed
 Between batch taken stored handed place (Some out) None true = BatchBetween batch taken stored handed place out
 Between batch taken stored handed place None (Some size) true = ReceiptBetween batch taken stored handed size
@@ -150,7 +154,8 @@ pub record IsInEpoch (epoch opened earlier stored : ℕ) (segment : Segment) : T
   pub counted : segment.records ≡ opened + (stored - earlier)
 
 -- or still that of the epoch before.
-pub record IsBeforeEpoch (epoch opened earlier stored older : ℕ) (segment : Segment) (checkpoint : CheckpointValue) : Type 0 where
+pub record IsBeforeEpoch (epoch opened earlier stored older : ℕ) (segment : Segment)
+    (checkpoint : CheckpointValue) : Type 0 where
   pub epoch_is : segment.epoch + 1 ≡ epoch
   pub within : stored ≤ earlier
   pub counted : segment.records + earlier ≡ older + stored
@@ -161,7 +166,8 @@ pub record IsBeforeEpoch (epoch opened earlier stored older : ℕ) (segment : Se
 abbrev pub IsInUse : ℕ → ℕ → ℕ → ℕ → ℕ → Segment → Option CheckpointValue → Type 0
 IsInUse epoch opened earlier stored older segment None = IsInEpoch epoch opened earlier stored segment
 IsInUse epoch opened earlier stored older segment (Some checkpoint) =
-    (IsInEpoch epoch opened earlier stored segment × (checkpoint.rolled ≡ 3)) ⊎ IsBeforeEpoch epoch opened earlier stored older segment checkpoint
+    (IsInEpoch epoch opened earlier stored segment × (checkpoint.rolled ≡ 3))
+    ⊎ IsBeforeEpoch epoch opened earlier stored older segment checkpoint
 
 -- the ticket of a number, as the core keeps it until it is answered
 abbrev pub unanswered : Ticket → Bool → Option (Option TicketValue)
@@ -188,7 +194,8 @@ StandsFrom base least world c = (k : ℕ) × (least ≤ k) × (k ≤ length worl
 
 -- A store that is kept with what is stored, in a state from which the rest of what was applied leads to the core's. A
 -- checkpoint under way is of the state after the earlier records.
-pub record KeepsStored {D : Type 0} (view : D → View) (store : StoreValue D) (base kernel : State) (stored earlier : ℕ) (applied : List Record) : Type 0 where
+pub record KeepsStored {D : Type 0} (view : D → View) (store : StoreValue D) (base kernel : State) (stored earlier : ℕ)
+    (applied : List Record) : Type 0 where
   pub state : State
   pub before : Run base (take stored applied) state
   pub after : Run state (drop stored applied) kernel
@@ -198,28 +205,36 @@ pub record KeepsStored {D : Type 0} (view : D → View) (store : StoreValue D) (
 
 -- The core stands for a world of events, if the store's records began from this base: its state is the one after all
 -- that was applied, and its store is kept with what is stored.
-pub record StandsFor {D : Type 0} (honest : Type 0) (view : D → View) (base : State) (world : World) (system : SystemValue D) : Type 0 where
+pub record StandsFor {D : Type 0} (honest : Type 0) (view : D → View) (base : State) (world : World)
+    (system : SystemValue D) : Type 0 where
   pub epoch : world.epoch ≡ system.core.epoch
   pub applied : IsApplied base world.applied system.core.kernel system.core.log.made
   pub handed : system.core.handed ≡ world.handed
   -- how many records the log of the epoch before has
   pub older : ℕ
-  pub counts : Counts world.opened world.earlier world.taken world.stored (length world.applied) older system.core.log.length
+  pub counts : Counts world.opened world.earlier world.taken world.stored
+      (length world.applied) older system.core.log.length
   pub waits : Wait world.opened world.earlier world.taken world.applied older system.core.older system.core.log.waiting
-  pub between : Between world.batch world.taken world.stored world.handed (HasPlace world.epoch world.opened world.earlier world.stored older world.applied) system.out system.receipt system.core.is_out
+  pub between : Between world.batch world.taken world.stored world.handed
+      (HasPlace world.epoch world.opened world.earlier world.stored older world.applied) system.out system.receipt
+      system.core.is_out
   pub receipts : world.receipts ≡ in_turn system.receipt system.finished system.finished_first
   pub checkpoint : Checkpoints world.epoch world.checkpoint system.store.checkpoint system.finished system.core.is_cut
-  pub in_use : IsInUse world.epoch world.opened world.earlier world.stored older system.store.segment system.store.checkpoint
+  pub in_use : IsInUse world.epoch world.opened world.earlier world.stored older system.store.segment
+      system.store.checkpoint
   pub tickets : AreTickets world.tickets world.handed system.tickets
   pub failed : system.store.failed ≡ world.failed
   -- until the device fails, the store is kept; from then on, a crash leaves the state after at least the stored records
-  pub kept : honest → world.failed ≡ false → KeepsStored view system.store base system.core.kernel world.stored world.earlier world.applied
-  pub left : honest → world.failed ≡ true → (c : Slots) → MayLeave (view system.store.disk) c → StandsFrom base world.stored world c
+  pub kept : honest → world.failed ≡ false
+      → KeepsStored view system.store base system.core.kernel world.stored world.earlier world.applied
+  pub left : honest → world.failed ≡ true → (c : Slots) → MayLeave (view system.store.disk) c
+      → StandsFrom base world.stored world c
 
 -- One event: what it answered is what the abstract specification allows, with the world after it, which the core then
 -- stands for. A crash at any moment of it leaves the state after a prefix of the calls that are applied after it, no
 -- shorter than what was acknowledged before it; a crash after it, no shorter than what was acknowledged after it.
-pub record Steps {D : Type 0} (honest : Type 0) (view : D → View) (base : State) (world : World) (event : Event) (answered : Outcome) (old new : SystemValue D) : Type 0 where
+pub record Steps {D : Type 0} (honest : Type 0) (view : D → View) (base : State) (world : World) (event : Event)
+    (answered : Outcome) (old new : SystemValue D) : Type 0 where
   pub kept : Reply
   pub next : World
   pub after : After base world (event_of event) (outcome_of answered kept) next
@@ -230,7 +245,8 @@ pub record Steps {D : Type 0} (honest : Type 0) (view : D → View) (base : Stat
 -- An event of a core, whatever world it stands for.
 abbrev pub Simulates : {D : Type 0} → Type 0 → (D → View) → Event → Outcome → SystemValue D → SystemValue D → Type 0
 Simulates honest view event answered old new =
-    (base : State) (world : World) → StandsFor honest view base world old → Steps honest view base world event answered old new
+    (base : State) (world : World) → StandsFor honest view base world old
+    → Steps honest view base world event answered old new
 
 -- the number of a ticket is the count of those that were given before
 abbrev pub IsNumbered : {D : Type 0} → SystemValue D → Outcome → Type 0
@@ -239,7 +255,8 @@ IsNumbered old answered = Unit {0}
 
 -- Slots that a crash may have left between two moments of an event, and at the last of these: those of the crash set of
 -- an event.
-pub record AreBounded (base : State) (least_before least_after : ℕ) (next : World) (from until : ℕ) (last : View) : Type 0 where
+pub record AreBounded (base : State) (least_before least_after : ℕ) (next : World) (from until : ℕ)
+    (last : View) : Type 0 where
   pub later : from ≤ until
   pub during : (k : ℕ) (c : Slots) → from < k → k ≤ until → last.left_at k c → StandsFrom base least_before next c
   pub after : (c : Slots) → last.left_at until c → StandsFrom base least_after next c
@@ -250,11 +267,13 @@ abbrev pub Runs : Type 0 → State → World → List Event → List Outcome →
 Runs honest base world [] [] from last end = (end ≡ world) × (honest → from ≡ last.moment)
 Runs honest base world (event ∷ events) (answered ∷ outcomes) from last end =
     (kept : Reply) × (next : World) × (until : ℕ) × After base world (event_of event) (outcome_of answered kept) next
-    × (honest → AreBounded base (acknowledged world) (acknowledged next) next from until last) × Runs honest base next events outcomes until last end
+    × (honest → AreBounded base (acknowledged world) (acknowledged next) next from until last)
+    × Runs honest base next events outcomes until last end
 Runs honest base world _ _ from last end = ⊥
 
 -- A list of events of a core that stands for a world.
-pub record RunsThrough {D : Type 0} (honest : Type 0) (view : D → View) (base : State) (world : World) (events : List Event) (outcomes : List Outcome) (old new : SystemValue D) : Type 0 where
+pub record RunsThrough {D : Type 0} (honest : Type 0) (view : D → View) (base : State) (world : World)
+    (events : List Event) (outcomes : List Outcome) (old new : SystemValue D) : Type 0 where
   pub end : World
   pub stands : StandsFor honest view base end new
   pub runs : Runs honest base world events outcomes (view old.store.disk).moment (view new.store.disk) end

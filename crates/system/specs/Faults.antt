@@ -9,6 +9,7 @@ use Rattle.system.specs.declared.system.CallFault.{CallFault}
 use Rattle.system.specs.declared.system.CallFault.TheVariants.{Submit, Store}
 
 -- It wasn't made, and nothing changed; or the device failed while its record was stored.
-abbrev pub NotCalled : {D : Type 0} → Type 0 → (D → View) → SystemValue D → ℕ → Call → CallFault → SystemValue D → Type 0
+abbrev pub NotCalled : {D : Type 0} → Type 0 → (D → View) → SystemValue D → ℕ → Call → CallFault → SystemValue D
+    → Type 0
 NotCalled honest view old space c (Submit fault) new = new ≡ old
 NotCalled honest view old space c (Store fault) new = (fault ≡ Device) × CallFails honest view old space c new

@@ -60,7 +60,10 @@ module _ {D : Type 0} (honest : Type 0) (view : D → View) where
   -- What is done for an image whose slot was closed: a piece is written if one is left, else the image is finished if
   -- it can be; otherwise nothing changes.
   abbrev pub GoesOnPieces : StoreValue D → StoreValue D → Type 0
-  GoesOnPieces old new = WritesPiece honest view old new ⊎ (Finishes honest view old new ⊎ ((HasPieceLeft old.checkpoint → ⊥) × (CanFinish old.checkpoint → ⊥) × (new ≡ old)))
+  GoesOnPieces old new =
+      WritesPiece honest view old new
+      ⊎ (Finishes honest view old new
+      ⊎ ((HasPieceLeft old.checkpoint → ⊥) × (CanFinish old.checkpoint → ⊥) × (new ≡ old)))
 
   -- What is done where a checkpoint is under way: its image's slot is closed, if that wasn't done, else the image
   -- continues.

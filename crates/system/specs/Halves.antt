@@ -24,14 +24,20 @@ pub record EpochLogValue : Type 0 where
 
 abbrev pub log_code : Coded EpochLogValue
 log_code =
-    code_by (ℕ × (ℕ × BatchValue)) (coded× coded_ℕ (coded× coded_ℕ batch_code)) (λ r. (r.length, (r.made, r.waiting))) (λ p. record { length = p.0; made = p.1.0; waiting = p.1.1 }) (λ _. refl)
+    code_by (ℕ × (ℕ × BatchValue)) (coded× coded_ℕ (coded× coded_ℕ batch_code)) (λ r. (r.length, (r.made, r.waiting)))
+    (λ p. record { length = p.0; made = p.1.0; waiting = p.1.1 }) (λ _. refl)
 
 abbrev pub entry_of : ℕ → Call → Reply → Record
 entry_of space c answer = record { space = space; call = c; reply = answer }
 
 -- one more record, which has the next number
 abbrev pub with_record : EpochLogValue → Record → EpochLogValue
-with_record log entry = record { length = log.length + 1; made = log.made + 1; waiting = with_encoding log.waiting (record_encoding log.length entry) }
+with_record log entry =
+    record {
+      length = log.length + 1;
+      made = log.made + 1;
+      waiting = with_encoding log.waiting (record_encoding log.length entry);
+    }
 
 -- an epoch log after a call with this reply
 abbrev pub log_after : EpochLogValue → ℕ → Call → Reply → EpochLogValue
@@ -39,7 +45,8 @@ log_after log space c answer = if has_record c answer then with_record log (entr
 
 -- A record was added to an epoch log, and what is kept of it is one that a segment may hold.
 abbrev pub Wrote : EpochLogValue → ℕ → Call → Reply → EpochLogValue → Type 0
-Wrote old space c answer new = (new ≡ with_record old (entry_of space c answer)) × IsRecord (canonical_record (entry_of space c answer))
+Wrote old space c answer new =
+    (new ≡ with_record old (entry_of space c answer)) × IsRecord (canonical_record (entry_of space c answer))
 
 -- the log of the next epoch, which has no record
 abbrev pub next_log : EpochLogValue → EpochLogValue
@@ -61,7 +68,9 @@ pub record TakenValue : Type 0 where
   pub batch : BatchValue
 
 abbrev pub taken_code : Coded TakenValue
-taken_code = code_by (ℕ × BatchValue) (coded× coded_ℕ batch_code) (λ t. (t.epoch, t.batch)) (λ p. record { epoch = p.0; batch = p.1 }) (λ _. refl)
+taken_code =
+    code_by (ℕ × BatchValue) (coded× coded_ℕ batch_code) (λ t. (t.epoch, t.batch))
+    (λ p. record { epoch = p.0; batch = p.1 }) (λ _. refl)
 
 -- The half that makes calls: the state, its epoch, the records of the epoch before that wait to be taken, the epoch
 -- log, how many of the records that were made are stored according to receipts, whether a batch is out, and whether a
@@ -77,9 +86,19 @@ pub record KernelValue : Type 0 where
 
 abbrev pub kernel_code : Coded KernelValue
 kernel_code =
-    code_by (State × (ℕ × (BatchValue × (EpochLogValue × (ℕ × (Bool × Bool)))))) (coded× state_code (coded× coded_ℕ (coded× batch_code (coded× log_code (coded× coded_ℕ (coded× coded_bool coded_bool))))))
+    code_by (State × (ℕ × (BatchValue × (EpochLogValue × (ℕ × (Bool × Bool))))))
+    (coded× state_code (coded× coded_ℕ
+    (coded× batch_code (coded× log_code (coded× coded_ℕ (coded× coded_bool coded_bool))))))
     (λ k. (k.kernel, (k.epoch, (k.older, (k.log, (k.handed, (k.is_out, k.is_cut)))))))
-    (λ p. record { kernel = p.0; epoch = p.1.0; older = p.1.1.0; log = p.1.1.1.0; handed = p.1.1.1.1.0; is_out = p.1.1.1.1.1.0; is_cut = p.1.1.1.1.1.1 }) (λ _. refl)
+    (λ p. record {
+      kernel = p.0;
+      epoch = p.1.0;
+      older = p.1.1.0;
+      log = p.1.1.1.0;
+      handed = p.1.1.1.1.0;
+      is_out = p.1.1.1.1.1.0;
+      is_cut = p.1.1.1.1.1.1;
+    }) (λ _. refl)
 
 -- a half that continues from a state in an epoch, whose log has this many records, all of which are stored
 abbrev pub first_half : State → ℕ → ℕ → KernelValue
@@ -107,14 +126,16 @@ pub record Gives (old : KernelValue) (space : ℕ) (c : Call) (ticket : TicketVa
 -- The epoch log takes no more records, and a step of the call has one.
 abbrev pub IsFullFor : KernelValue → ℕ → Call → Type 0
 IsFullFor half space c =
-    (MAX_RECORDS ≤ half.log.length) × ((answer : Reply) × (new : State) × Step half.kernel space c answer new × (has_record c answer ≡ true))
+    (MAX_RECORDS ≤ half.log.length)
+    × ((answer : Reply) × (new : State) × Step half.kernel space c answer new × (has_record c answer ≡ true))
 
 -- Records that waited are out as a batch: those of the epoch before, and if none of these is left, those of the epoch
 -- log.
 pub record TakesBatch (old : KernelValue) (taken : TakenValue) (new : KernelValue) : Type 0 where
   pub some : 0 < taken.batch.count
   pub none_out : old.is_out ≡ false
-  pub which : ((taken.epoch + 1 ≡ old.epoch) × (taken.batch ≡ old.older) × (new ≡ record old { older = empty_batch; is_out = true }))
+  pub which : ((taken.epoch + 1 ≡ old.epoch) × (taken.batch ≡ old.older)
+      × (new ≡ record old { older = empty_batch; is_out = true }))
       ⊎ ((old.older.count ≡ 0) × (taken.epoch ≡ old.epoch) × (taken.batch ≡ old.log.waiting)
       × (new ≡ record old { log = record old.log { waiting = empty_batch }; is_out = true }))
 

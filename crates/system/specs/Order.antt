@@ -25,10 +25,12 @@ stored_out (Some size) = size
 pub record IsInOrder {D : Type 0} (system : SystemValue D) : Type 0 where
   pub out : IsOut system.out system.receipt system.core.is_out
   -- each record that was made was handed in, or is out, or waits
-  pub counted : system.core.handed + taken_out system.out + stored_out system.receipt + system.core.older.count + system.core.log.waiting.count ≡ system.core.log.made
+  pub counted : system.core.handed + taken_out system.out + stored_out system.receipt + system.core.older.count +
+      system.core.log.waiting.count ≡ system.core.log.made
   -- the halves are in one epoch, or a checkpoint leads there
   pub epoch : system.store.checkpoint ≡ None → system.store.segment.epoch ≡ system.core.epoch
-  pub next : (checkpoint : CheckpointValue) → system.store.checkpoint ≡ Some checkpoint → checkpoint.epoch ≡ system.core.epoch
+  pub next : (checkpoint : CheckpointValue) → system.store.checkpoint ≡ Some checkpoint
+      → checkpoint.epoch ≡ system.core.epoch
   pub over : system.core.is_cut ≡ false → (system.store.checkpoint ≡ None) × (system.finished ≡ None)
   pub whole : (epoch : ℕ) → system.finished ≡ Some epoch → system.store.checkpoint ≡ None
   -- no ticket has a number that wasn't given

@@ -15,7 +15,9 @@ impl<D: Disk> System<D> {
     /// image. Returns whether it did: it doesn't until the receipt of the last checkpoint was delivered, nor in the
     /// last epoch. If an allocation fails, nothing changed.
     pub fn cut(&mut self) -> Result<bool, AllocError>
-        ensures done { IfOk result (λ is_done. MatchBool is_done (BeginsEpoch self.old self.new) ((CanCut self.old.core → ⊥) × (self.new ≡ self.old))) }
+        ensures done { IfOk result
+            (λ is_done. MatchBool is_done (BeginsEpoch self.old self.new)
+            ((CanCut self.old.core → ⊥) × (self.new ≡ self.old))) }
         ensures err { OnErr result (CanCut self.old.core × (self.new ≡ self.old)) }
     {
         let Some(cut) = self.core.cut(self.alloc)? else {
@@ -29,9 +31,12 @@ impl<D: Disk> System<D> {
     ///
     /// `Failed`: the device failed in an earlier step, and nothing changed. `Device`: the device failed.
     pub fn roll_close(&mut self) -> Result<bool, StoreFault>
-        ensures done { IfOk result (λ is_done. MatchBool is_done (RollsClose D.honest D.view self.old.store self.new.store)
+        ensures done { IfOk result
+            (λ is_done. MatchBool is_done (RollsClose D.honest D.view self.old.store self.new.store)
             (IsNotNow self.old.store (IsRolled self.old.store.checkpoint 0) self.new.store)) }
-        ensures faults { IfErr result (λ fault. IsFault self.old.store fault (FailsToRollClose D.honest D.view self.old.store self.new.store) self.new.store) }
+        ensures faults { IfErr result
+            (λ fault. IsFault self.old.store fault
+            (FailsToRollClose D.honest D.view self.old.store self.new.store) self.new.store) }
         ensures failures { D.failed_calls self.new.store.disk ≡ counted result (D.failed_calls self.old.store.disk) }
         ensures rest { self.new ≡ record self.old { store = self.new.store } }
     {
@@ -41,9 +46,12 @@ impl<D: Disk> System<D> {
     /// Writes the header of the next segment. Returns whether that was the next step; its faults are those of
     /// `roll_close`.
     pub fn roll_head(&mut self) -> Result<bool, StoreFault>
-        ensures done { IfOk result (λ is_done. MatchBool is_done (RollsHead D.honest D.view self.old.store self.new.store)
+        ensures done { IfOk result
+            (λ is_done. MatchBool is_done (RollsHead D.honest D.view self.old.store self.new.store)
             (IsNotNow self.old.store (IsRolled self.old.store.checkpoint 1) self.new.store)) }
-        ensures faults { IfErr result (λ fault. IsFault self.old.store fault (FailsToRollHead D.honest D.view self.old.store self.new.store) self.new.store) }
+        ensures faults { IfErr result
+            (λ fault. IsFault self.old.store fault
+            (FailsToRollHead D.honest D.view self.old.store self.new.store) self.new.store) }
         ensures failures { D.failed_calls self.new.store.disk ≡ counted result (D.failed_calls self.old.store.disk) }
         ensures rest { self.new ≡ record self.old { store = self.new.store } }
     {
@@ -53,9 +61,12 @@ impl<D: Disk> System<D> {
     /// Opens the next segment. Returns whether that was the next step, and the segment in use holds its whole epoch
     /// log; its faults are those of `roll_close`.
     pub fn roll_open(&mut self) -> Result<bool, StoreFault>
-        ensures done { IfOk result (λ is_done. MatchBool is_done (RollsOpen D.honest D.view self.old.store self.new.store)
+        ensures done { IfOk result
+            (λ is_done. MatchBool is_done (RollsOpen D.honest D.view self.old.store self.new.store)
             (IsNotNow self.old.store (CanOpen self.old.store self.old.store.checkpoint) self.new.store)) }
-        ensures faults { IfErr result (λ fault. IsFault self.old.store fault (FailsToRollOpen D.honest D.view self.old.store self.new.store) self.new.store) }
+        ensures faults { IfErr result
+            (λ fault. IsFault self.old.store fault
+            (FailsToRollOpen D.honest D.view self.old.store self.new.store) self.new.store) }
         ensures failures { D.failed_calls self.new.store.disk ≡ counted result (D.failed_calls self.old.store.disk) }
         ensures rest { self.new ≡ record self.old { store = self.new.store } }
     {
@@ -66,9 +77,11 @@ impl<D: Disk> System<D> {
     ///
     /// `NoMemory`: an allocation failed, and nothing changed. Its other faults are those of `roll_close`.
     pub fn close_image(&mut self) -> Result<bool, StoreFault>
-        ensures done { IfOk result (λ is_done. MatchBool is_done (ClosesImage D.honest D.view self.old.store self.new.store)
+        ensures done { IfOk result
+            (λ is_done. MatchBool is_done (ClosesImage D.honest D.view self.old.store self.new.store)
             (IsNotNow self.old.store (HasImaged self.old.store.checkpoint 0) self.new.store)) }
-        ensures faults { IfErr result (λ fault. IsFaultOrShortage self.old.store fault (HasImaged self.old.store.checkpoint 0)
+        ensures faults { IfErr result
+            (λ fault. IsFaultOrShortage self.old.store fault (HasImaged self.old.store.checkpoint 0)
             (FailsToCloseImage D.honest D.view self.old.store self.new.store) self.new.store) }
         ensures failures { D.failed_calls self.new.store.disk ≡ counted result (D.failed_calls self.old.store.disk) }
         ensures rest { self.new ≡ record self.old { store = self.new.store } }
@@ -79,9 +92,12 @@ impl<D: Disk> System<D> {
     /// Writes the next piece of the image. Returns whether one was left and the image was closed; its faults are those
     /// of `roll_close`.
     pub fn write_piece(&mut self) -> Result<bool, StoreFault>
-        ensures done { IfOk result (λ is_done. MatchBool is_done (WritesPiece D.honest D.view self.old.store self.new.store)
+        ensures done { IfOk result
+            (λ is_done. MatchBool is_done (WritesPiece D.honest D.view self.old.store self.new.store)
             (IsNotNow self.old.store (HasPieceLeft self.old.store.checkpoint) self.new.store)) }
-        ensures faults { IfErr result (λ fault. IsFault self.old.store fault (FailsToWritePiece D.honest D.view self.old.store self.new.store) self.new.store) }
+        ensures faults { IfErr result
+            (λ fault. IsFault self.old.store fault
+            (FailsToWritePiece D.honest D.view self.old.store self.new.store) self.new.store) }
         ensures failures { D.failed_calls self.new.store.disk ≡ counted result (D.failed_calls self.old.store.disk) }
         ensures rest { self.new ≡ record self.old { store = self.new.store } }
     {
@@ -93,7 +109,9 @@ impl<D: Disk> System<D> {
     pub fn finish(&mut self) -> Result<bool, StoreFault>
         ensures done { IfOk result (λ is_done. MatchBool is_done (FinishesImage D.honest D.view self.old self.new)
             ((self.old.store.failed ≡ false) × (CanFinish self.old.store.checkpoint → ⊥) × (self.new ≡ self.old))) }
-        ensures faults { IfErr result (λ fault. IsFault self.old.store fault (FailsToFinish D.honest D.view self.old.store self.new.store) self.new.store) }
+        ensures faults { IfErr result
+            (λ fault. IsFault self.old.store fault
+            (FailsToFinish D.honest D.view self.old.store self.new.store) self.new.store) }
         ensures failures { D.failed_calls self.new.store.disk ≡ counted result (D.failed_calls self.old.store.disk) }
         ensures rest { OnErr result (self.new ≡ record self.old { store = self.new.store }) }
     {

@@ -91,7 +91,8 @@ impl EpochLog {
         requires whole { IsAnsweredWhole call.now reply.now }
         requires recorded { has_record call.now reply.now ≡ true }
         ensures ok { OnOk result (Wrote self.old space call.now reply.now self.new) }
-        ensures size { IfOk result (λ size. size ≡ length (record_encoding self.old.length (entry_of space call.now reply.now))) }
+        ensures size { IfOk result (λ size. size
+            ≡ length (record_encoding self.old.length (entry_of space call.now reply.now))) }
         ensures err { OnErr result (self.new ≡ self.old) }
     {
         in_range(space, call, reply);
@@ -115,7 +116,11 @@ impl EpochLog {
         requires some { 0 < self.old.waiting.count }
         requires made { 0 < self.old.made }
         requires within { size ≤ length self.old.waiting.body }
-        ensures { self.new ≡ record { length = self.old.length - 1; made = self.old.made - 1; waiting = without_last self.old.waiting size } }
+        ensures { self.new ≡ record {
+          length = self.old.length - 1;
+          made = self.old.made - 1;
+          waiting = without_last self.old.waiting size;
+        } }
     {
         self.waiting.remove_last(size);
         self.length -= 1;

@@ -22,15 +22,18 @@ impl<D: Disk> System<D> {
     /// no further use.
     pub fn go_on(&mut self, records: u64) -> Result<(), StoreFault>
         requires { IsResting self.old }
-        ensures goes { OnOk result (GoesOn D.honest D.view records self.old.core.kernel self.old.store.checkpoint self.old.store self.new.store) }
+        ensures goes { OnOk result (GoesOn D.honest D.view records self.old.core.kernel self.old.store.checkpoint
+            self.old.store self.new.store) }
         ensures rests { OnOk result (IsResting self.new) }
         ensures kernel { self.new.core.kernel ≡ self.old.core.kernel }
         ensures tickets { (self.new.core.log.made ≡ self.old.core.log.made) × (self.new.tickets ≡ self.old.tickets) }
-        ensures kept { D.honest → IsStanding D.view self.old.store self.old.core.kernel → OnOk result (IsStanding D.view self.new.store self.new.core.kernel) }
+        ensures kept { D.honest → IsStanding D.view self.old.store self.old.core.kernel
+            → OnOk result (IsStanding D.view self.new.store self.new.core.kernel) }
         ensures passes { D.honest → IsStanding D.view self.old.store self.old.core.kernel
             → Passes (D.view self.old.store.disk) (D.view self.new.store.disk) (Recovers self.old.core.kernel) }
         ensures faults { IfErr result (λ fault. (fault ≡ StoreFault.Device)
-            ⊎ ((fault ≡ StoreFault.NoMemory) × TakesMemory records self.old.store self.old.store.checkpoint × (self.new ≡ self.old))) }
+            ⊎ ((fault ≡ StoreFault.NoMemory) × TakesMemory records self.old.store self.old.store.checkpoint
+            × (self.new ≡ self.old))) }
         ensures failures { D.failed_calls self.new.store.disk ≡ counted result (D.failed_calls self.old.store.disk) }
     {
         if self.store.is_checkpointing() {
@@ -52,9 +55,12 @@ impl<D: Disk> System<D> {
         ensures rest { self.new ≡ record self.old { store = self.new.store } }
         ensures rolled { OnOk result (IsRolledOver self.old.store self.new.store) }
         ensures rolls { OnOk result (RollsOver D.honest D.view self.old.store self.new.store) }
-        ensures kept { D.honest → (state : State) → Keeps (D.view self.old.store.disk) self.old.store.segment self.old.store.checkpoint state state
-            → OnOk result (Keeps (D.view self.new.store.disk) self.new.store.segment self.new.store.checkpoint state state) }
-        ensures passes { D.honest → (state : State) → Keeps (D.view self.old.store.disk) self.old.store.segment self.old.store.checkpoint state state
+        ensures kept { D.honest → (state : State)
+            → Keeps (D.view self.old.store.disk) self.old.store.segment self.old.store.checkpoint state state
+            → OnOk result (Keeps (D.view self.new.store.disk) self.new.store.segment self.new.store.checkpoint state
+            state) }
+        ensures passes { D.honest → (state : State)
+            → Keeps (D.view self.old.store.disk) self.old.store.segment self.old.store.checkpoint state state
             → Passes (D.view self.old.store.disk) (D.view self.new.store.disk) (Recovers state) }
         ensures faults { IfErr result (λ fault. fault ≡ StoreFault.Device) }
         ensures failures { D.failed_calls self.new.store.disk ≡ counted result (D.failed_calls self.old.store.disk) }
@@ -79,7 +85,8 @@ impl<D: Disk> System<D> {
         ensures rests { OnOk result (IsResting self.new) }
         ensures kernel { self.new.core.kernel ≡ self.old.core.kernel }
         ensures tickets { (self.new.core.log.made ≡ self.old.core.log.made) × (self.new.tickets ≡ self.old.tickets) }
-        ensures kept { D.honest → IsStanding D.view self.old.store self.old.core.kernel → OnOk result (IsStanding D.view self.new.store self.new.core.kernel) }
+        ensures kept { D.honest → IsStanding D.view self.old.store self.old.core.kernel
+            → OnOk result (IsStanding D.view self.new.store self.new.core.kernel) }
         ensures passes { D.honest → IsStanding D.view self.old.store self.old.core.kernel
             → Passes (D.view self.old.store.disk) (D.view self.new.store.disk) (Recovers self.old.core.kernel) }
         ensures faults { IfErr result (λ fault. (fault ≡ StoreFault.Device)
@@ -99,7 +106,8 @@ impl<D: Disk> System<D> {
         ensures rests { OnOk result (IsResting self.new) }
         ensures kernel { self.new.core.kernel ≡ self.old.core.kernel }
         ensures tickets { (self.new.core.log.made ≡ self.old.core.log.made) × (self.new.tickets ≡ self.old.tickets) }
-        ensures kept { D.honest → IsStanding D.view self.old.store self.old.core.kernel → OnOk result (IsStanding D.view self.new.store self.new.core.kernel) }
+        ensures kept { D.honest → IsStanding D.view self.old.store self.old.core.kernel
+            → OnOk result (IsStanding D.view self.new.store self.new.core.kernel) }
         ensures passes { D.honest → IsStanding D.view self.old.store self.old.core.kernel
             → Passes (D.view self.old.store.disk) (D.view self.new.store.disk) (Recovers self.old.core.kernel) }
         ensures faults { IfErr result (λ fault. fault ≡ StoreFault.Device) }

@@ -83,7 +83,15 @@ impl Model for KernelHalf {
 
     ghost coded = { kernel_code };
 
-    ghost view = { λ k. record { kernel = k.kernel; epoch = k.epoch; older = k.older; log = k.log; handed = k.handed; is_out = is_none k.spare; is_cut = k.is_cut } };
+    ghost view = { λ k. record {
+      kernel = k.kernel;
+      epoch = k.epoch;
+      older = k.older;
+      log = k.log;
+      handed = k.handed;
+      is_out = is_none k.spare;
+      is_cut = k.is_cut;
+    } };
 
     // If records of the previous epoch wait, this epoch isn't the first.
     ghost invariant = { λ k. (k.handed ≤ k.log.made) × (k.log.made < 2 ^ 64) × IfSome k.spare (λ batch. batch ≡ empty_batch)
@@ -166,7 +174,9 @@ impl KernelHalf {
     ) -> (W, Result<Ticket, SubmitFault>)
         ensures given { IfOk result.1 (λ ticket. Gives self.old space call.now ticket self.new) }
         ensures wakes { IfOk result.1 (λ ticket. Wakes self.old.kernel self.new.kernel (names places.new)) }
-        ensures learned { IfOk result.1 (λ ticket. has_record call.now ticket.answer ≡ true → W.learned witness space call.now ticket.answer result.0) }
+        ensures learned { IfOk result.1
+            (λ ticket. has_record call.now ticket.answer ≡ true
+            → W.learned witness space call.now ticket.answer result.0) }
         ensures unlearned { IfOk result.1 (λ ticket. has_record call.now ticket.answer ≡ false → result.0 ≡ witness) }
         ensures full { IsErrOf result.1 SubmitFault.EpochFull → IsFullFor self.old space call.now }
         ensures err { OnErr result.1 ((self.new ≡ self.old) × (result.0 ≡ witness)) }
@@ -198,7 +208,9 @@ impl KernelHalf {
         requires { (self.old.log.length < MAX_RECORDS) × (self.old.log.made < 2 ^ 64 - 1) }
         ensures given { IfOk result.1 (λ ticket. Gives self.old space call.now ticket self.new) }
         ensures wakes { IfOk result.1 (λ ticket. Wakes self.old.kernel self.new.kernel (names places.new)) }
-        ensures learned { IfOk result.1 (λ ticket. has_record call.now ticket.answer ≡ true → W.learned witness space call.now ticket.answer result.0) }
+        ensures learned { IfOk result.1
+            (λ ticket. has_record call.now ticket.answer ≡ true
+            → W.learned witness space call.now ticket.answer result.0) }
         ensures unlearned { IfOk result.1 (λ ticket. has_record call.now ticket.answer ≡ false → result.0 ≡ witness) }
         ensures err { OnErr result.1 ((self.new ≡ self.old) × (result.0 ≡ witness)) }
     {
@@ -323,8 +335,11 @@ fn apply_with_witness<W: Witness>(
     requires { (log.old.length < MAX_RECORDS) × (log.old.made < 2 ^ 64 - 1) }
     ensures step { IfOk result.1 (λ reply. Step kernel.old space call.now reply kernel.new) }
     ensures wakes { IfOk result.1 (λ reply. Wakes kernel.old kernel.new (names places.new)) }
-    ensures recorded { IfOk result.1 (λ reply. has_record call.now reply ≡ true → Wrote log.old space call.now reply log.new × W.learned witness space call.now reply result.0) }
-    ensures unrecorded { IfOk result.1 (λ reply. has_record call.now reply ≡ false → (log.new ≡ log.old) × (result.0 ≡ witness)) }
+    ensures recorded { IfOk result.1
+        (λ reply. has_record call.now reply ≡ true → Wrote log.old space call.now reply log.new
+        × W.learned witness space call.now reply result.0) }
+    ensures unrecorded { IfOk result.1
+        (λ reply. has_record call.now reply ≡ false → (log.new ≡ log.old) × (result.0 ≡ witness)) }
     ensures fits { IfOk result.1 (λ reply. length (reply_encoding reply) ≤ MAX_FRAME_CONTENT) }
     ensures err { OnErr result.1 ((kernel.new ≡ kernel.old) × (log.new ≡ log.old) × (result.0 ≡ witness)) }
 {

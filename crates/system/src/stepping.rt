@@ -20,7 +20,8 @@ impl<D: Disk> System<D> {
     pub fn step(&mut self, event: &Event) -> Outcome
         ensures steps { Simulates D.honest D.view event.now result self.old self.new }
         ensures number { IsNumbered self.old result }
-        ensures failures { D.failed_calls self.new.store.disk ≡ counted_event result (D.failed_calls self.old.store.disk) }
+        ensures failures { D.failed_calls self.new.store.disk
+            ≡ counted_event result (D.failed_calls self.old.store.disk) }
     {
         match event {
             Event::Submit { space, call } => self.submit_event(*space, call),
@@ -41,9 +42,12 @@ impl<D: Disk> System<D> {
     /// Events one after another (`RunsThrough`). Room for their answers is allocated first: if that fails, none of them
     /// was done.
     pub fn run(&mut self, alloc: Global, events: &[Event]) -> Result<Vec<Outcome>, AllocError>
-        ensures runs { IfOk result (λ outcomes. (base : State) (world : World) → StandsFor D.honest D.view base world self.old
+        ensures runs { IfOk result (λ outcomes. (base : State) (world : World)
+            → StandsFor D.honest D.view base world self.old
             → RunsThrough D.honest D.view base world events.now outcomes.items self.old self.new) }
-        ensures failures { IfOk result (λ outcomes. D.failed_calls self.new.store.disk ≡ counted_events outcomes.items (D.failed_calls self.old.store.disk)) }
+        ensures failures { IfOk result
+            (λ outcomes. D.failed_calls self.new.store.disk
+            ≡ counted_events outcomes.items (D.failed_calls self.old.store.disk)) }
         ensures err { OnErr result (self.new ≡ self.old) }
     {
         let mut outcomes = Vec::with_capacity(alloc, events.len())?;
@@ -56,7 +60,8 @@ impl<D: Disk> System<D> {
     fn submit_event(&mut self, space: u32, call: &Call) -> Outcome
         ensures steps { Simulates D.honest D.view (Event.Submit space call.now) result self.old self.new }
         ensures number { IsNumbered self.old result }
-        ensures failures { D.failed_calls self.new.store.disk ≡ counted_event result (D.failed_calls self.old.store.disk) }
+        ensures failures { D.failed_calls self.new.store.disk
+            ≡ counted_event result (D.failed_calls self.old.store.disk) }
     {
         match self.submit(space, call) {
             Ok(number) => Outcome::Ticket(number),
@@ -68,7 +73,8 @@ impl<D: Disk> System<D> {
     fn take_event(&mut self) -> Outcome
         ensures steps { Simulates D.honest D.view Event.Take result self.old self.new }
         ensures number { IsNumbered self.old result }
-        ensures failures { D.failed_calls self.new.store.disk ≡ counted_event result (D.failed_calls self.old.store.disk) }
+        ensures failures { D.failed_calls self.new.store.disk
+            ≡ counted_event result (D.failed_calls self.old.store.disk) }
     {
         if self.take() {
             return Outcome::Done;
@@ -79,7 +85,8 @@ impl<D: Disk> System<D> {
     fn append_event(&mut self) -> Outcome
         ensures steps { Simulates D.honest D.view Event.Append result self.old self.new }
         ensures number { IsNumbered self.old result }
-        ensures failures { D.failed_calls self.new.store.disk ≡ counted_event result (D.failed_calls self.old.store.disk) }
+        ensures failures { D.failed_calls self.new.store.disk
+            ≡ counted_event result (D.failed_calls self.old.store.disk) }
     {
         match self.append() {
             Ok(true) => Outcome::Done,
@@ -91,7 +98,8 @@ impl<D: Disk> System<D> {
     fn durable_event(&mut self) -> Outcome
         ensures steps { Simulates D.honest D.view Event.Durable result self.old self.new }
         ensures number { IsNumbered self.old result }
-        ensures failures { D.failed_calls self.new.store.disk ≡ counted_event result (D.failed_calls self.old.store.disk) }
+        ensures failures { D.failed_calls self.new.store.disk
+            ≡ counted_event result (D.failed_calls self.old.store.disk) }
     {
         if self.durable() {
             return Outcome::Done;
@@ -102,7 +110,8 @@ impl<D: Disk> System<D> {
     fn reply_event(&mut self, ticket: u64) -> Outcome
         ensures steps { Simulates D.honest D.view (Event.Reply ticket) result self.old self.new }
         ensures number { IsNumbered self.old result }
-        ensures failures { D.failed_calls self.new.store.disk ≡ counted_event result (D.failed_calls self.old.store.disk) }
+        ensures failures { D.failed_calls self.new.store.disk
+            ≡ counted_event result (D.failed_calls self.old.store.disk) }
     {
         match self.reply(ticket) {
             Some(reply) => Outcome::Reply(reply),
@@ -113,7 +122,8 @@ impl<D: Disk> System<D> {
     fn cut_event(&mut self) -> Outcome
         ensures steps { Simulates D.honest D.view Event.Cut result self.old self.new }
         ensures number { IsNumbered self.old result }
-        ensures failures { D.failed_calls self.new.store.disk ≡ counted_event result (D.failed_calls self.old.store.disk) }
+        ensures failures { D.failed_calls self.new.store.disk
+            ≡ counted_event result (D.failed_calls self.old.store.disk) }
     {
         match self.cut() {
             Ok(true) => Outcome::Done,
@@ -125,7 +135,8 @@ impl<D: Disk> System<D> {
     fn roll_close_event(&mut self) -> Outcome
         ensures steps { Simulates D.honest D.view Event.RollClose result self.old self.new }
         ensures number { IsNumbered self.old result }
-        ensures failures { D.failed_calls self.new.store.disk ≡ counted_event result (D.failed_calls self.old.store.disk) }
+        ensures failures { D.failed_calls self.new.store.disk
+            ≡ counted_event result (D.failed_calls self.old.store.disk) }
     {
         match self.roll_close() {
             Ok(true) => Outcome::Done,
@@ -137,7 +148,8 @@ impl<D: Disk> System<D> {
     fn roll_head_event(&mut self) -> Outcome
         ensures steps { Simulates D.honest D.view Event.RollHead result self.old self.new }
         ensures number { IsNumbered self.old result }
-        ensures failures { D.failed_calls self.new.store.disk ≡ counted_event result (D.failed_calls self.old.store.disk) }
+        ensures failures { D.failed_calls self.new.store.disk
+            ≡ counted_event result (D.failed_calls self.old.store.disk) }
     {
         match self.roll_head() {
             Ok(true) => Outcome::Done,
@@ -149,7 +161,8 @@ impl<D: Disk> System<D> {
     fn roll_open_event(&mut self) -> Outcome
         ensures steps { Simulates D.honest D.view Event.RollOpen result self.old self.new }
         ensures number { IsNumbered self.old result }
-        ensures failures { D.failed_calls self.new.store.disk ≡ counted_event result (D.failed_calls self.old.store.disk) }
+        ensures failures { D.failed_calls self.new.store.disk
+            ≡ counted_event result (D.failed_calls self.old.store.disk) }
     {
         match self.roll_open() {
             Ok(true) => Outcome::Done,
@@ -161,7 +174,8 @@ impl<D: Disk> System<D> {
     fn image_close_event(&mut self) -> Outcome
         ensures steps { Simulates D.honest D.view Event.ImageClose result self.old self.new }
         ensures number { IsNumbered self.old result }
-        ensures failures { D.failed_calls self.new.store.disk ≡ counted_event result (D.failed_calls self.old.store.disk) }
+        ensures failures { D.failed_calls self.new.store.disk
+            ≡ counted_event result (D.failed_calls self.old.store.disk) }
     {
         match self.close_image() {
             Ok(true) => Outcome::Done,
@@ -173,7 +187,8 @@ impl<D: Disk> System<D> {
     fn piece_event(&mut self) -> Outcome
         ensures steps { Simulates D.honest D.view Event.Piece result self.old self.new }
         ensures number { IsNumbered self.old result }
-        ensures failures { D.failed_calls self.new.store.disk ≡ counted_event result (D.failed_calls self.old.store.disk) }
+        ensures failures { D.failed_calls self.new.store.disk
+            ≡ counted_event result (D.failed_calls self.old.store.disk) }
     {
         match self.write_piece() {
             Ok(true) => Outcome::Done,
@@ -185,7 +200,8 @@ impl<D: Disk> System<D> {
     fn finish_event(&mut self) -> Outcome
         ensures steps { Simulates D.honest D.view Event.Finish result self.old self.new }
         ensures number { IsNumbered self.old result }
-        ensures failures { D.failed_calls self.new.store.disk ≡ counted_event result (D.failed_calls self.old.store.disk) }
+        ensures failures { D.failed_calls self.new.store.disk
+            ≡ counted_event result (D.failed_calls self.old.store.disk) }
     {
         match self.finish() {
             Ok(true) => Outcome::Done,

@@ -101,9 +101,25 @@ impl<D: Disk> Model for System<D> {
 
     ghost coded = { system_code D.code };
 
-    ghost view = { λ s. record { core = s.core; store = s.store; out = s.out; receipt = s.receipt; finished = s.finished; finished_first = s.finished_first; tickets = s.tickets } };
+    ghost view = { λ s. record {
+      core = s.core;
+      store = s.store;
+      out = s.out;
+      receipt = s.receipt;
+      finished = s.finished;
+      finished_first = s.finished_first;
+      tickets = s.tickets;
+    } };
 
-    ghost invariant = { λ s. IsInOrder (record { core = s.core; store = s.store; out = s.out; receipt = s.receipt; finished = s.finished; finished_first = s.finished_first; tickets = s.tickets }) };
+    ghost invariant = { λ s. IsInOrder (record {
+      core = s.core;
+      store = s.store;
+      out = s.out;
+      receipt = s.receipt;
+      finished = s.finished;
+      finished_first = s.finished_first;
+      tickets = s.tickets;
+    }) };
 }
 
 impl<D: Disk> System<D> {
@@ -111,7 +127,8 @@ impl<D: Disk> System<D> {
     /// was none.
     pub fn new(alloc: Global, opened: Opened<D>) -> Self
         ensures value { result ≡ first_system opened.kernel opened.disk opened.segment }
-        ensures stands { StandsFor D.honest D.view opened.kernel (first_world opened.segment.epoch opened.segment.records) result }
+        ensures stands { StandsFor D.honest D.view opened.kernel
+            (first_world opened.segment.epoch opened.segment.records) result }
     {
         let Opened {
             kernel,
@@ -194,8 +211,10 @@ impl<D: Disk> System<D> {
     pub fn append(&mut self) -> Result<bool, StoreFault>
         ensures done { IfOk result (λ is_stored. MatchBool is_stored (Stores D.honest D.view self.old self.new)
             (CannotAppend self.old × (self.old.store.failed ≡ false) × (self.new ≡ self.old))) }
-        ensures faults { IfErr result (λ fault. ((fault ≡ StoreFault.Failed) × (self.old.store.failed ≡ true) × (self.new ≡ self.old))
-            ⊎ (((fault ≡ StoreFault.Device) × FailsToStore D.honest D.view self.old self.new) ⊎ ((fault ≡ StoreFault.Full) × FindsFull self.old self.new))) }
+        ensures faults { IfErr result
+            (λ fault. ((fault ≡ StoreFault.Failed) × (self.old.store.failed ≡ true) × (self.new ≡ self.old))
+            ⊎ (((fault ≡ StoreFault.Device) × FailsToStore D.honest D.view self.old self.new)
+            ⊎ ((fault ≡ StoreFault.Full) × FindsFull self.old self.new))) }
         ensures failures { D.failed_calls self.new.store.disk ≡ counted result (D.failed_calls self.old.store.disk) }
     {
         if self.store.has_failed() {
@@ -225,7 +244,8 @@ impl<D: Disk> System<D> {
     /// Delivers the oldest receipt: of a batch that was stored, or of an image that was finished. Returns whether there
     /// was one.
     pub fn durable(&mut self) -> bool
-        ensures { MatchBool result (HandsIn self.old self.new) ((self.old.receipt ≡ None) × (self.old.finished ≡ None) × (self.new ≡ self.old)) }
+        ensures { MatchBool result (HandsIn self.old self.new)
+            ((self.old.receipt ≡ None) × (self.old.finished ≡ None) × (self.new ≡ self.old)) }
     {
         if self.finished_first || self.receipt.is_none() {
             if let Some(finished) = self.finished.take() {
@@ -266,7 +286,8 @@ impl<D: Disk> System<D> {
         ensures frame { IfOk result (λ answer. length (reply_encoding answer) ≤ MAX_FRAME_CONTENT) }
         ensures faults { IfErr result (λ fault. NotCalled D.honest D.view self.old space call.now fault self.new) }
         ensures full { IsErrOf result (CallFault.Submit SubmitFault.EpochFull) → IsFullNow self.old space call.now }
-        ensures failures { D.failed_calls self.new.store.disk ≡ counted_call result (D.failed_calls self.old.store.disk) }
+        ensures failures { D.failed_calls self.new.store.disk
+            ≡ counted_call result (D.failed_calls self.old.store.disk) }
     {
         let number = self.submit(space, call)?;
         self.store_waiting()?;
@@ -281,12 +302,15 @@ impl<D: Disk> System<D> {
         requires out { self.old.core.is_out ≡ false }
         requires none_older { self.old.core.older.count ≡ 0 }
         requires epoch { self.old.store.segment.epoch ≡ self.old.core.epoch }
-        requires room { 0 < self.old.core.log.waiting.count → self.old.store.segment.records + self.old.core.log.waiting.count ≤ MAX_RECORDS }
+        requires room { 0 < self.old.core.log.waiting.count
+            → self.old.store.segment.records + self.old.core.log.waiting.count ≤ MAX_RECORDS }
         requires finished { self.old.finished ≡ None }
         requires unfailed { self.old.store.failed ≡ false }
         ensures none { OnOk result (self.old.core.log.waiting.count ≡ 0 → self.new ≡ self.old) }
-        ensures stored { OnOk result (0 < self.old.core.log.waiting.count → StoresAll D.honest D.view self.old self.new) }
-        ensures faults { IfErr result (λ fault. (fault ≡ StoreFault.Device) × FailsToStoreAll D.honest D.view self.old self.new) }
+        ensures stored { OnOk result (0 < self.old.core.log.waiting.count
+            → StoresAll D.honest D.view self.old self.new) }
+        ensures faults { IfErr result (λ fault. (fault ≡ StoreFault.Device)
+            × FailsToStoreAll D.honest D.view self.old self.new) }
         ensures failures { D.failed_calls self.new.store.disk ≡ counted result (D.failed_calls self.old.store.disk) }
     {
         if !self.take() {

@@ -122,7 +122,8 @@ impl Tickets {
 
     /// Makes the place of the next ticket. If an allocation fails, nothing changed.
     pub(crate) fn make_place(&mut self) -> Result<(), AllocError>
-        ensures ok { OnOk result (self.new ≡ record { kept = map.insert self.old.kept self.old.given None; given = self.old.given }) }
+        ensures ok { OnOk result (self.new
+            ≡ record { kept = map.insert self.old.kept self.old.given None; given = self.old.given }) }
         ensures err { OnErr result (self.new ≡ self.old) }
     {
         drop(self.kept.insert(u128::from(self.given), None)?);
@@ -141,7 +142,10 @@ impl Tickets {
         requires place { IsSome (map.get self.old.kept self.old.given) }
         requires more { self.old.given < 2 ^ 64 - 1 }
         ensures number { result ≡ self.old.given }
-        ensures kept { self.new ≡ record { kept = map.insert self.old.kept self.old.given (Some ticket); given = self.old.given + 1 } }
+        ensures kept { self.new ≡ record {
+          kept = map.insert self.old.kept self.old.given (Some ticket);
+          given = self.old.given + 1;
+        } }
     {
         let number = self.given;
         keep_ticket(&mut self.kept, number, ticket);

@@ -32,7 +32,8 @@ impl<W: Witness> Recorder for Witnessed<W> {
 
     ghost has_room = { λ w. (w.log.length < MAX_RECORDS) × (w.log.made < 2 ^ 64 - 1) };
 
-    ghost wrote = { λ old space c answer new. Wrote old.log space c answer new.log × W.learned old.witness space c answer new.witness };
+    ghost wrote = { λ old space c answer new. Wrote old.log space c answer new.log
+        × W.learned old.witness space c answer new.witness };
 
     fn write(&mut self, space: u32, call: &Call, reply: &Reply) -> Result<(), AllocError> {
         let size = self.log.push(space, call, reply)?;

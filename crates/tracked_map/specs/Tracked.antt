@@ -72,7 +72,8 @@ unmarked {X} slots key = elim (get slots key) as (λ _. FinMap {K = ℕ} nat_cmp
 
 -- Each key whose value was replaced has a slot, each slot without a value has one of these keys, and the values are
 -- counted.
-pub record IsSound {X : Type 0} (slots : FinMap {K = ℕ} nat_cmp (Option X)) (former : List (ℕ × Option X)) (count count_before : ℕ) : Type 0 where
+pub record IsSound {X : Type 0} (slots : FinMap {K = ℕ} nat_cmp (Option X)) (former : List (ℕ × Option X))
+    (count count_before : ℕ) : Type 0 where
   pub kept : HasSlots slots former
   pub marked : AreMarked slots former
   pub counted : count ≡ len (shown slots)

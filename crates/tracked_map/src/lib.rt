@@ -36,7 +36,8 @@ impl<V> Model for TrackedMap<V> {
 
     ghost view = { λ t. record { before = over (shown t.slots) t.former.items; current = shown t.slots } };
 
-    ghost invariant = { λ t. IsSound t.slots t.former.items t.len t.len_before × (t.is_refilled ≡ false → AreRemoved t.slots t.removed.items) };
+    ghost invariant = { λ t. IsSound t.slots t.former.items t.len t.len_before
+        × (t.is_refilled ≡ false → AreRemoved t.slots t.removed.items) };
 }
 
 impl<V> TrackedMap<V> {
@@ -81,7 +82,8 @@ impl<V> TrackedMap<V> {
     /// The least key from this one on that has a value, with its value.
     pub fn next_from(&self, from: u128) -> Option<(u128, &V)>
         ensures { MatchOption result ((key : ℕ) → from ≤ key → key < 2 ^ 128 → map.get self.now.current key ≡ None)
-            (λ e. (from ≤ e.0) × (map.get self.now.current e.0 ≡ Some e.1.now) × ((key : ℕ) → from ≤ key → key < e.0 → map.get self.now.current key ≡ None)) }
+            (λ e. (from ≤ e.0) × (map.get self.now.current e.0 ≡ Some e.1.now)
+            × ((key : ℕ) → from ≤ key → key < e.0 → map.get self.now.current key ≡ None)) }
     {
         self.next_within(from, u128::MAX)
     }
@@ -90,7 +92,8 @@ impl<V> TrackedMap<V> {
     /// only within that range.
     pub fn next_within(&self, from: u128, last: u128) -> Option<(u128, &V)>
         ensures { MatchOption result ((key : ℕ) → from ≤ key → key ≤ last → map.get self.now.current key ≡ None)
-            (λ e. (from ≤ e.0) × (e.0 ≤ last) × (map.get self.now.current e.0 ≡ Some e.1.now) × ((key : ℕ) → from ≤ key → key < e.0 → map.get self.now.current key ≡ None)) }
+            (λ e. (from ≤ e.0) × (e.0 ≤ last) × (map.get self.now.current e.0 ≡ Some e.1.now)
+            × ((key : ℕ) → from ≤ key → key < e.0 → map.get self.now.current key ≡ None)) }
     {
         let mut rest = self.slots.range_from(from);
         while let Some((key, slot)) = rest.next() {

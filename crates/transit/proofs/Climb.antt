@@ -15,5 +15,7 @@ module _ (state : State) (port : ℕ) where
   pub arrived : (hops at : ℕ) → at ≡ port → meets state hops port at ≡ true
   arrived hops at e = subst (λ (p : ℕ). meets state hops port p ≡ true) (sym e) (meets_itself state hops port)
 
-  pub goes_on : (hops at : ℕ) (carried : Option ℕ) → (at == port) ≡ false → carrier_of state at ≡ carried → meets state (suc hops) port at ≡ climb hops carried
-  goes_on hops at carried apart is = one_hop hops at ∙ ap (λ (b : Bool). b || climb hops (carrier_of state at)) apart ∙ ap (climb hops) is
+  pub goes_on : (hops at : ℕ) (carried : Option ℕ) → (at == port) ≡ false → carrier_of state at ≡ carried
+      → meets state (suc hops) port at ≡ climb hops carried
+  goes_on hops at carried apart is =
+      one_hop hops at ∙ ap (λ (b : Bool). b || climb hops (carrier_of state at)) apart ∙ ap (climb hops) is

@@ -22,7 +22,8 @@ FitsShort is_long type_name = is_long ≡ false → type_name < 2 ^ 8
 pub keeps_both : (old mid new : List ℕ) → Keeps old mid → Keeps mid new → Keeps old new
 keeps_both old mid new first second =
     let shorter : length old ≤ length mid = omega (arith, ap length first.front, length-take (length old) mid) in
-    let inner : take (length old) (take (length mid) new) ≡ take (length old) new = take-take (length old) (length mid) new shorter in
+    let inner : take (length old) (take (length mid) new) ≡ take (length old) new =
+    take-take (length old) (length mid) new shorter in
     record { front = sym inner ∙ ap (take (length old)) second.front ∙ first.front }
 
 -- Something is added after what was added.

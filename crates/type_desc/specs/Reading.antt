@@ -27,7 +27,8 @@ at_least_four true = omega arith
 at_least_four false = omega arith
 
 -- more steps than bytes find no more items
-same_within : (m n : ℕ) (bytes : List ℕ) → length bytes ≤ m → length bytes ≤ n → items_within m bytes ≡ items_within n bytes
+same_within : (m n : ℕ) (bytes : List ℕ) → length bytes ≤ m → length bytes ≤ n
+    → items_within m bytes ≡ items_within n bytes
 same_within zero zero bytes few less = refl
 same_within zero (suc n) [] few less = refl
 same_within (suc m) zero [] few less = refl
@@ -37,49 +38,75 @@ same_within m zero (b ∷ bytes) few less = absurd (omega (arith, less))
 same_within (suc m) (suc n) (b ∷ bytes) few less =
     let encoding : List ℕ = b ∷ bytes in
     let long : Bool = form_of encoding in
-    let shorter : length (after_item encoding long) < length encoding = omega (arith, few, length-drop (descriptor_length long + data_length encoding long) encoding, at_least_four long) in
-    ap (λ (r : Result (List Item) KernReturn). unless_failing (tests_of_item encoding) (and_then r (λ items. Ok (item_of encoding long ∷ items))))
+    let shorter : length (after_item encoding long) < length encoding =
+    omega (
+      arith,
+      few,
+      length-drop (descriptor_length long + data_length encoding long) encoding,
+      at_least_four long,
+    ) in
+    ap (λ (r : Result (List Item) KernReturn). unless_failing (tests_of_item encoding)
+    (and_then r (λ items. Ok (item_of encoding long ∷ items))))
     (same_within m n (after_item encoding long) (omega (arith, few, shorter)) (omega (arith, less, shorter)))
 
-passes_on : {X : Type 0} (tests : Tests) (r : Result X KernReturn) → first_failing tests ≡ None → unless_failing tests r ≡ r
+passes_on : {X : Type 0} (tests : Tests) (r : Result X KernReturn) → first_failing tests ≡ None
+    → unless_failing tests r ≡ r
 passes_on [] r passes = refl
-passes_on (test ∷ tests) r passes = elim test.0 as (λ (b : Bool). (if b then Some test.1 else first_failing tests) ≡ None → (if b then Err test.1 else unless_failing tests r) ≡ r) [
-  | true ↦ λ (e : _). absurd (cc e)
-  | false ↦ λ (e : _). passes_on tests r e
-] passes
+passes_on (test ∷ tests) r passes =
+    elim test.0 as (λ (b : Bool). (if b then Some test.1 else first_failing tests) ≡ None
+    → (if b then Err test.1 else unless_failing tests r) ≡ r) [
+      | true ↦ λ (e : _). absurd (cc e)
+      | false ↦ λ (e : _). passes_on tests r e
+    ] passes
 
-stops : {X : Type 0} (tests : Tests) (r : Result X KernReturn) (code : KernReturn) → first_failing tests ≡ Some code → unless_failing tests r ≡ Err code
+stops : {X : Type 0} (tests : Tests) (r : Result X KernReturn) (code : KernReturn) → first_failing tests ≡ Some code
+    → unless_failing tests r ≡ Err code
 stops [] r code fails = absurd (cc fails)
-stops {X} (test ∷ tests) r code fails = elim test.0 as (λ (b : Bool). (if b then Some test.1 else first_failing tests) ≡ Some code → ◌≡◌ {A = Result X KernReturn} (if b then Err test.1 else unless_failing tests r) (Err code)) [
-  | true ↦ λ (e : _). cc e
-  | false ↦ λ (e : _). stops tests r code e
-] fails
+stops {X} (test ∷ tests) r code fails =
+    elim test.0 as (λ (b : Bool). (if b then Some test.1 else first_failing tests) ≡ Some code
+    → ◌≡◌ {A = Result X KernReturn} (if b then Err test.1 else unless_failing tests r) (Err code)) [
+      | true ↦ λ (e : _). cc e
+      | false ↦ λ (e : _). stops tests r code e
+    ] fails
 
 -- If the item at the front passes its tests, the items are this one and those after it.
-pub one_item : (bytes : List ℕ) → 0 < length bytes → first_failing (tests_of_item bytes) ≡ None → items_of bytes ≡ and_then (items_of (following_item bytes)) (λ items. Ok (front_item bytes ∷ items))
+pub one_item : (bytes : List ℕ) → 0 < length bytes → first_failing (tests_of_item bytes) ≡ None
+    → items_of bytes ≡ and_then (items_of (following_item bytes)) (λ items. Ok (front_item bytes ∷ items))
 unfolding items_of
 one_item [] some passes = absurd (omega (arith, some))
 one_item (b ∷ bytes) some passes =
     let encoding : List ℕ = b ∷ bytes in
     let behind : List ℕ = following_item encoding in
-    let shorter : length behind < length encoding = omega (arith, length-drop (descriptor_length (form_of encoding) + data_length encoding (form_of encoding)) encoding, at_least_four (form_of encoding)) in
-    passes_on (tests_of_item encoding) (and_then (items_within (length bytes) behind) (λ items. Ok (front_item encoding ∷ items))) passes
-    ∙ ap (λ (r : Result (List Item) KernReturn). and_then r (λ items. Ok (front_item encoding ∷ items))) (same_within (length bytes) (length behind) behind (omega (arith, shorter)) (omega arith))
+    let shorter : length behind < length encoding =
+    omega (
+      arith,
+      length-drop (descriptor_length (form_of encoding) + data_length encoding (form_of encoding))
+          encoding,
+      at_least_four (form_of encoding),
+    ) in
+    passes_on (tests_of_item encoding)
+    (and_then (items_within (length bytes) behind) (λ items. Ok (front_item encoding ∷ items))) passes
+    ∙ ap (λ (r : Result (List Item) KernReturn). and_then r (λ items. Ok (front_item encoding ∷ items)))
+    (same_within (length bytes) (length behind) behind (omega (arith, shorter)) (omega arith))
 
 -- If it fails one, there are none.
-pub no_item : (bytes : List ℕ) (code : KernReturn) → 0 < length bytes → first_failing (tests_of_item bytes) ≡ Some code → items_of bytes ≡ Err code
+pub no_item : (bytes : List ℕ) (code : KernReturn) → 0 < length bytes → first_failing (tests_of_item bytes) ≡ Some code
+    → items_of bytes ≡ Err code
 unfolding items_of
 no_item [] code some fails = absurd (omega (arith, some))
 no_item (b ∷ bytes) code some fails =
     let encoding : List ℕ = b ∷ bytes in
-    stops (tests_of_item encoding) (and_then (items_within (length bytes) (following_item encoding)) (λ items. Ok (front_item encoding ∷ items))) code fails
+    stops (tests_of_item encoding)
+    (and_then (items_within (length bytes) (following_item encoding)) (λ items. Ok (front_item encoding ∷ items)))
+    code fails
 
 pub items_of_none : items_of [] ≡ Ok []
 unfolding items_of
 items_of_none = refl
 
 -- one more item was read
-pub front_more : (front : List Item) (item : Item) (rest : Result (List Item) KernReturn) → with_front front (and_then rest (λ items. Ok (item ∷ items))) ≡ with_front (front ++ item ∷ []) rest
+pub front_more : (front : List Item) (item : Item) (rest : Result (List Item) KernReturn)
+    → with_front front (and_then rest (λ items. Ok (item ∷ items))) ≡ with_front (front ++ item ∷ []) rest
 front_more front item (Ok items) = ap Ok (sym (append_assoc front (item ∷ []) items))
 front_more front item (Err code) = refl
 
@@ -92,16 +119,26 @@ some_left [] is = absurd (cc is)
 some_left (b ∷ bytes) is = omega arith
 
 -- What is left is one item and what follows it.
-pub one_more : (body bytes rest : List ℕ) (front : List Item) (item : Item) → items_of body ≡ with_front front (items_of bytes) → (length bytes == 0) ≡ false → first_failing (tests_of_item bytes) ≡ None
-    → item ≡ front_item bytes → rest ≡ following_item bytes → items_of body ≡ with_front (front ++ item ∷ []) (items_of rest)
+pub one_more : (body bytes rest : List ℕ) (front : List Item) (item : Item)
+    → items_of body ≡ with_front front (items_of bytes) → (length bytes == 0) ≡ false
+    → first_failing (tests_of_item bytes) ≡ None
+    → item ≡ front_item bytes → rest ≡ following_item bytes
+    → items_of body ≡ with_front (front ++ item ∷ []) (items_of rest)
 one_more body bytes rest front item before left passes is behind =
-    before ∙ ap (with_front front) (one_item bytes (some_left bytes left) passes) ∙ front_more front (front_item bytes) (items_of (following_item bytes)) ∙ (λ i. with_front (front ++ sym is i ∷ []) (items_of (sym behind i)))
+    before ∙ ap (with_front front) (one_item bytes (some_left bytes left) passes)
+    ∙ front_more front (front_item bytes) (items_of (following_item bytes)) ∙
+    (λ i. with_front (front ++ sym is i ∷ []) (items_of (sym behind i)))
 
 -- Nothing is left.
-pub all_read : (body bytes : List ℕ) (front : List Item) → items_of body ≡ with_front front (items_of bytes) → (length bytes == 0) ≡ true → items_of body ≡ Ok front
+pub all_read : (body bytes : List ℕ) (front : List Item) → items_of body ≡ with_front front (items_of bytes)
+    → (length bytes == 0) ≡ true → items_of body ≡ Ok front
 all_read body bytes front before left =
-    before ∙ ap (λ (l : List ℕ). with_front front (items_of l)) (none_is bytes (eqb-true (length bytes) 0 left)) ∙ ap (with_front front) items_of_none ∙ ap Ok (append-nil front)
+    before ∙ ap (λ (l : List ℕ). with_front front (items_of l)) (none_is bytes (eqb-true (length bytes) 0 left))
+    ∙ ap (with_front front) items_of_none ∙ ap Ok (append-nil front)
 
 -- What is left doesn't begin with an item.
-pub one_fault : (body bytes : List ℕ) (front : List Item) (code : KernReturn) → items_of body ≡ with_front front (items_of bytes) → (length bytes == 0) ≡ false → first_failing (tests_of_item bytes) ≡ Some code → items_of body ≡ Err code
-one_fault body bytes front code before left fails = before ∙ ap (with_front front) (no_item bytes code (some_left bytes left) fails)
+pub one_fault : (body bytes : List ℕ) (front : List Item) (code : KernReturn)
+    → items_of body ≡ with_front front (items_of bytes) → (length bytes == 0) ≡ false
+    → first_failing (tests_of_item bytes) ≡ Some code → items_of body ≡ Err code
+one_fault body bytes front code before left fails =
+    before ∙ ap (with_front front) (no_item bytes code (some_left bytes left) fails)

@@ -24,7 +24,8 @@ FaultOf items NoMemory = Unit {0}
 
 -- An item with the first names in the places of its ports, and the names that are left.
 abbrev pub filled_item : Item → List ℕ → Item
-filled_item item names = if is_port_item item then record item { content = flat_map word (take item.number names) } else item
+filled_item item names =
+    if is_port_item item then record item { content = flat_map word (take item.number names) } else item
 
 abbrev pub names_after : Item → List ℕ → List ℕ
 names_after item names = if is_port_item item then drop item.number names else names

@@ -98,7 +98,8 @@ fn add_long_descriptor(
     bits: u16,
     number: u32,
 ) -> Result<(), AllocError>
-    ensures ok { OnOk result (out.new.items ≡ out.old.items ++ (word (2 ^ 28 + 2 ^ 29) ++ (little_bytes 2 type_name ++ (little_bytes 2 bits ++ word number)))) }
+    ensures ok { OnOk result (out.new.items ≡ out.old.items
+        ++ (word (2 ^ 28 + 2 ^ 29) ++ (little_bytes 2 type_name ++ (little_bytes 2 bits ++ word number)))) }
     ensures part { OnErr result (Keeps out.old.items out.new.items) }
 {
     push_word(out, INLINE_BIT + LONG_FORM_BIT)?;

@@ -73,7 +73,8 @@ fn has_odd_ports(fields: Fields) -> bool
 
 /// Whether a descriptor's bits or its type are refused.
 pub(crate) fn has_wrong_type(word: u32, is_long: bool, fields: Fields) -> bool
-    ensures { result ≡ (has_other_bit word || (is_long && not (word % 2 ^ 28 == 0)) || (is_port_type fields.type_name && not (fields.bits == 32))) }
+    ensures { result ≡ (has_other_bit word || (is_long && not (word % 2 ^ 28 == 0)) ||
+        (is_port_type fields.type_name && not (fields.bits == 32))) }
 {
     has_other_bit(word) || has_short_fields(word, is_long) || has_odd_ports(fields)
 }

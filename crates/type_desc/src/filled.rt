@@ -24,7 +24,8 @@ impl Item<'_> {
     /// Adds a port item with names in the places of its ports.
     fn add_filled_ports(&self, names: &[u32], out: &mut Vec<u8>) -> Result<(), AllocError>
         requires { is_port_item (item_value self.now) ≡ true }
-        ensures ok { OnOk result (out.new.items ≡ out.old.items ++ item_encoding (filled_item (item_value self.now) names.now)) }
+        ensures ok { OnOk result (out.new.items ≡ out.old.items
+            ++ item_encoding (filled_item (item_value self.now) names.now)) }
         ensures part { OnErr result (Keeps out.old.items out.new.items) }
     {
         self.add_descriptor(self.type_name, out)?;
@@ -34,7 +35,8 @@ impl Item<'_> {
 
     /// Adds the item with names in the places of its ports.
     fn add_filled(&self, names: &[u32], out: &mut Vec<u8>) -> Result<(), AllocError>
-        ensures ok { OnOk result (out.new.items ≡ out.old.items ++ item_encoding (filled_item (item_value self.now) names.now)) }
+        ensures ok { OnOk result (out.new.items ≡ out.old.items
+            ++ item_encoding (filled_item (item_value self.now) names.now)) }
         ensures part { OnErr result (Keeps out.old.items out.new.items) }
     {
         if self.is_port() {
@@ -49,7 +51,8 @@ impl Item<'_> {
     ///
     /// If an allocation fails, nothing changed.
     pub fn push_filled(&self, names: &[u32], out: &mut Vec<u8>) -> Result<(), AllocError>
-        ensures ok { OnOk result (out.new.items ≡ out.old.items ++ item_encoding (filled_item (item_value self.now) names.now)) }
+        ensures ok { OnOk result (out.new.items ≡ out.old.items
+            ++ item_encoding (filled_item (item_value self.now) names.now)) }
         ensures err { OnErr result (out.new.items ≡ out.old.items) }
     {
         let before = out.len();
@@ -65,8 +68,10 @@ impl Item<'_> {
 
 /// Adds the items of a body with names in the places of their ports, up to a fault: `false` if there is one.
 fn add_filled_items(body: &[u8], names: &[u32], out: &mut Vec<u8>) -> Result<bool, AllocError>
-    ensures tiled { IfOk result (λ tiled. tiled ≡ true → out.new.items ≡ out.old.items ++ body_filled (items_of body.now) body.now names.now) }
-    ensures faulty { IfOk result (λ tiled. tiled ≡ false → body_filled (items_of body.now) body.now names.now ≡ body.now) }
+    ensures tiled { IfOk result (λ tiled. tiled ≡ true
+        → out.new.items ≡ out.old.items ++ body_filled (items_of body.now) body.now names.now) }
+    ensures faulty { IfOk result (λ tiled. tiled ≡ false
+        → body_filled (items_of body.now) body.now names.now ≡ body.now) }
     ensures kept { Keeps out.old.items out.new.items }
 {
     let mut rest = body;

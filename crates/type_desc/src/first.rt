@@ -21,9 +21,11 @@ fn take_item(body: &[u8], is_long: bool, fields: Fields) -> Result<(Item<'_>, &[
     requires ports { (is_port_type fields.type_name && not (fields.bits == 32)) ≡ false }
     ensures item { IfOk result (λ found. item_value found.0 ≡ item_of body.now is_long) }
     ensures rest { IfOk result (λ found. found.1.now ≡ after_item body.now is_long) }
-    ensures enough { OnOk result (nat_lt (length body.now) (descriptor_length is_long + data_length body.now is_long) ≡ false) }
+    ensures enough { OnOk result (nat_lt (length body.now) (descriptor_length is_long + data_length body.now is_long)
+        ≡ false) }
     ensures refused { IfErr result (λ code. code ≡ KernReturn.SendMsgTooSmall) }
-    ensures short { OnErr result (nat_lt (length body.now) (descriptor_length is_long + data_length body.now is_long) ≡ true) }
+    ensures short { OnErr result (nat_lt (length body.now) (descriptor_length is_long + data_length body.now is_long)
+        ≡ true) }
 {
     let (_, behind) = body.split_at(descriptor_length(is_long));
     let length = data_length(fields);
@@ -49,7 +51,8 @@ fn take_item(body: &[u8], is_long: bool, fields: Fields) -> Result<(Item<'_>, &[
 /// no byte.
 pub fn first_item(body: &[u8]) -> Result<(Item<'_>, &[u8]), KernReturn>
     ensures passes { OnOk result (first_failing (tests_of_item body.now) ≡ None) }
-    ensures item { IfOk result (λ found. item_value found.0 ≡ item_of body.now (is_long_form (little_number 4 body.now))) }
+    ensures item { IfOk result (λ found. item_value found.0
+        ≡ item_of body.now (is_long_form (little_number 4 body.now))) }
     ensures rest { IfOk result (λ found. found.1.now ≡ after_item body.now (is_long_form (little_number 4 body.now))) }
     ensures refused { IfErr result (λ code. first_failing (tests_of_item body.now) ≡ Some code) }
 {

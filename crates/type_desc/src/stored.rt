@@ -62,7 +62,8 @@ impl Item<'_> {
 
 /// Adds items as a queued message has them. If an allocation fails, some of them may have been added.
 fn add_stored_items(items: &[Item<'_>], out: &mut Vec<u8>) -> Result<(), AllocError>
-    ensures ok { OnOk result (out.new.items ≡ out.old.items ++ items_encoding (map as_stored (map item_value items.now))) }
+    ensures ok { OnOk result (out.new.items ≡ out.old.items
+        ++ items_encoding (map as_stored (map item_value items.now))) }
     ensures part { OnErr result (Keeps out.old.items out.new.items) }
 {
     for item in items {
@@ -75,7 +76,8 @@ fn add_stored_items(items: &[Item<'_>], out: &mut Vec<u8>) -> Result<(), AllocEr
 ///
 /// If an allocation fails, nothing changed.
 pub fn push_stored_items(items: &[Item<'_>], out: &mut Vec<u8>) -> Result<(), AllocError>
-    ensures ok { OnOk result (out.new.items ≡ out.old.items ++ items_encoding (map as_stored (map item_value items.now))) }
+    ensures ok { OnOk result (out.new.items ≡ out.old.items
+        ++ items_encoding (map as_stored (map item_value items.now))) }
     ensures err { OnErr result (out.new.items ≡ out.old.items) }
 {
     let before = out.len();

@@ -20,8 +20,10 @@ use Rattle.waiting.specs.Places.{place_of_name, place_of_port}
 -- A call of a task of this space finds nothing to do: a send finds no room in the queue, a receive no message. It may
 -- be answered so, and then changes nothing.
 abbrev pub FindsNothing : State → ℕ → Call → Type 0
-FindsNothing state space (call.Send message) = Answer state space (call.Send message) (without_message SendTimedOut 0 MACH_PORT_NULL)
-FindsNothing state space (call.Receive limit large name waited) = Answer state space (call.Receive limit large name waited) (without_message RcvTimedOut 0 MACH_PORT_NULL)
+FindsNothing state space (call.Send message) =
+    Answer state space (call.Send message) (without_message SendTimedOut 0 MACH_PORT_NULL)
+FindsNothing state space (call.Receive limit large name waited) =
+    Answer state space (call.Receive limit large name waited) (without_message RcvTimedOut 0 MACH_PORT_NULL)
 FindsNothing state space c = ⊥
 
 -- the port that a name stands for a right to
@@ -46,7 +48,9 @@ place_of_destination (Some serial) = place_of_port serial ∷ []
 place_of_destination None = []
 
 abbrev pub places_of_send : State → ℕ → UsedParts → List ℕ
-places_of_send state space parts = map (place_of_name space) (names_cited parts) ++ place_of_destination (option_and_then port_of (entry_at state space parts.remote))
+places_of_send state space parts =
+    map (place_of_name space) (names_cited parts)
+    ++ place_of_destination (option_and_then port_of (entry_at state space parts.remote))
 
 -- Where a call that finds nothing to do waits: a receive waits at its name, a send as above. No other call waits.
 abbrev pub places_of_call : State → ℕ → Call → List ℕ
@@ -60,7 +64,9 @@ WaitsAt state space c place = Contains (places_of_call state space c) place
 -- No wake-up is lost: a call that found nothing to do before a step, and waits at no place that the step names, finds
 -- nothing after it either.
 abbrev pub Wakes : State → State → (ℕ → Bool) → Type 0
-Wakes old new named = (space : ℕ) (call : Call) → FindsNothing old space call → ((place : ℕ) → WaitsAt old space call place → named place ≡ false) → FindsNothing new space call
+Wakes old new named =
+    (space : ℕ) (call : Call) → FindsNothing old space call
+    → ((place : ℕ) → WaitsAt old space call place → named place ≡ false) → FindsNothing new space call
 
 -- what a waiting call depends on of a port: how many messages its queue may hold and holds, and the port's set
 pub record Occupancy : Type 0 where
@@ -81,12 +87,18 @@ IsQuiet port = (port.set ≡ None) × (port.messages ≡ [])
 -- Which changes from one state to another the places have to name.
 pub record Covers (old new : State) (named : ℕ → Bool) : Type 0 where
   -- each name that stands for something else
-  pub entries : (space name : ℕ) → named (place_of_name space name) ≡ false → entry_at new space name ≡ entry_at old space name
+  pub entries : (space name : ℕ) → named (place_of_name space name) ≡ false
+      → entry_at new space name ≡ entry_at old space name
   -- each port whose queue was full and has room, or is gone
   pub room : (serial : ℕ) → named (place_of_port serial) ≡ false → is_full old serial ≡ true → is_full new serial ≡ true
   -- each name whose port got a message, or is in a set now
-  pub ports : (space name : ℕ) (entry : Entry) (serial : ℕ) (port : PortState) → named (place_of_name space name) ≡ false → entry_at new space name ≡ Some entry → received_port entry ≡ Some serial
+  pub ports : (space name : ℕ) (entry : Entry) (serial : ℕ) (port : PortState)
+      → named (place_of_name space name) ≡ false → entry_at new space name ≡ Some entry
+      → received_port entry ≡ Some serial
       → finmap.get new.ports serial ≡ Some port → IsQuiet port ⊎ (occupancy_at old serial ≡ occupancy_at new serial)
   -- each set of which a member got a message, or to which a member came with one
-  pub sets : (space set name : ℕ) (entry : Entry) (serial : ℕ) (port : PortState) → named (place_of_name space set) ≡ false → entry_at new space name ≡ Some entry → received_port entry ≡ Some serial
-      → finmap.get new.ports serial ≡ Some port → port.set ≡ Some set → (port.messages ≡ []) ⊎ ((entry_at old space name ≡ Some entry) × (occupancy_at old serial ≡ occupancy_at new serial))
+  pub sets : (space set name : ℕ) (entry : Entry) (serial : ℕ) (port : PortState)
+      → named (place_of_name space set) ≡ false → entry_at new space name ≡ Some entry
+      → received_port entry ≡ Some serial
+      → finmap.get new.ports serial ≡ Some port → port.set ≡ Some set → (port.messages ≡ [])
+      ⊎ ((entry_at old space name ≡ Some entry) × (occupancy_at old serial ≡ occupancy_at new serial))

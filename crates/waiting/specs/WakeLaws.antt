@@ -30,39 +30,52 @@ code_in answer = Success
 code_same : (a b : KernReturn) → without_message a 0 MACH_PORT_NULL ≡ without_message b 0 MACH_PORT_NULL → a ≡ b
 code_same a b e = ap code_in e
 
-some_code : (o : Option KernReturn) (code : KernReturn) (A B C : Type 0) → MatchOption o A (λ c. (without_message code 0 MACH_PORT_NULL ≡ without_message c 0 MACH_PORT_NULL) × B × C) → (A → ⊥) → o ≡ Some code
+some_code : (o : Option KernReturn) (code : KernReturn) (A B C : Type 0)
+    → MatchOption o A (λ c. (without_message code 0 MACH_PORT_NULL ≡ without_message c 0 MACH_PORT_NULL) × B × C)
+    → (A → ⊥) → o ≡ Some code
 some_code None code A B C is never = absurd (never is)
 some_code (Some c) code A B C is never = ap (λ (k : KernReturn). Some k) (sym (code_same code c is.0))
 
 -- a receive that takes a message, or has no room for its names, gets another answer
-takes_none : (old : State) (space : ℕ) (names : Names) (receipt : Receipt) (member serial : ℕ) (port : PortState) (message : Message) (acted : State) (effects : List Effect)
-    → TakesOut old space names receipt member serial port message (without_message RcvTimedOut 0 MACH_PORT_NULL) acted effects → ⊥
-takes_none old space names receipt member serial port message acted effects is = go (nat_lt receipt.limit (message_size message)) (lacks_names names message) is
+takes_none : (old : State) (space : ℕ) (names : Names) (receipt : Receipt) (member serial : ℕ) (port : PortState)
+    (message : Message) (acted : State) (effects : List Effect)
+    → TakesOut old space names receipt member serial port message
+    (without_message RcvTimedOut 0 MACH_PORT_NULL) acted effects → ⊥
+takes_none old space names receipt member serial port message acted effects is =
+    go (nat_lt receipt.limit (message_size message)) (lacks_names names message) is
   where
     answer : Reply
     answer = without_message RcvTimedOut 0 MACH_PORT_NULL
 
     go : (b c : Bool) → MatchBool b (TooLarge old member serial message receipt.large answer acted effects)
-        (MatchBool c ((answer ≡ without_message RcvHeaderErrorSpace 0 MACH_PORT_NULL) × (acted ≡ old) × (effects ≡ [])) (Received old space names member serial port message answer acted effects)) → ⊥
+        (MatchBool c ((answer ≡ without_message RcvHeaderErrorSpace 0 MACH_PORT_NULL) × (acted ≡ old) × (effects ≡ []))
+        (Received old space names member serial port message answer acted effects)) → ⊥
     go true c is = cc (ap code_in is.0)
     go false true is = cc (ap code_in is.0)
     go false false is = cc (ap code_in is.3)
 
-refused_receive : (old : State) (space : ℕ) (names : Names) (receipt : Receipt) (acted : State) (effects : List Effect) → Receives old space names receipt (without_message RcvTimedOut 0 MACH_PORT_NULL) acted effects
+refused_receive : (old : State) (space : ℕ) (names : Names) (receipt : Receipt) (acted : State) (effects : List Effect)
+    → Receives old space names receipt (without_message RcvTimedOut 0 MACH_PORT_NULL) acted effects
     → receive_refusal old names receipt ≡ Some RcvTimedOut
 refused_receive old space names receipt acted effects is =
-    some_code (receive_refusal old names receipt) RcvTimedOut _ (acted ≡ old) (effects ≡ []) is (λ takes. takes_none old space names receipt takes.0 takes.1 takes.2 takes.3 acted effects takes.9)
+    some_code (receive_refusal old names receipt) RcvTimedOut _ (acted ≡ old) (effects ≡ []) is
+    (λ takes. takes_none old space names receipt takes.0 takes.1 takes.2 takes.3 acted effects takes.9)
 
 abbrev failed : KernReturn → Result Ready KernReturn
 failed code = Err code
 
-refused_send : (old : State) (space : ℕ) (message : List ℕ) (acted : State) (effects : List Effect) (names : Names) → ActsIn old space names (call.Send message) (without_message SendTimedOut 0 MACH_PORT_NULL) acted effects → ready_to_send old space message ≡ Err SendTimedOut
+refused_send : (old : State) (space : ℕ) (message : List ℕ) (acted : State) (effects : List Effect) (names : Names)
+    → ActsIn old space names (call.Send message) (without_message SendTimedOut 0 MACH_PORT_NULL) acted effects
+    → ready_to_send old space message ≡ Err SendTimedOut
 refused_send old space message acted effects names is = go (ready_to_send old space message) is
   where
     answer : Reply
     answer = without_message SendTimedOut 0 MACH_PORT_NULL
 
-    go : (r : Result Ready KernReturn) → MatchResult r (λ ready. (answer ≡ without_message Success 0 MACH_PORT_NULL) × (acted ≡ (sent ready).0) × (effects ≡ (sent ready).1)) (λ code. (answer ≡ without_message code 0 MACH_PORT_NULL) × (acted ≡ old) × (effects ≡ []))
+    go : (r : Result Ready KernReturn)
+        → MatchResult r (λ ready. (answer ≡ without_message Success 0 MACH_PORT_NULL) × (acted ≡ (sent ready).0)
+        × (effects ≡ (sent ready).1)) (λ code. (answer ≡ without_message code 0 MACH_PORT_NULL) × (acted ≡ old)
+        × (effects ≡ []))
         → r ≡ Err SendTimedOut
     go (Ok ready) is = absurd (cc (ap code_in is.0))
     go (Err code) is = ap failed (sym (code_same SendTimedOut code is.0))
@@ -71,66 +84,101 @@ abbrev no_effects : List Effect
 no_effects = []
 
 -- and conversely
-matches_code : (o : Option KernReturn) (code : KernReturn) (A B C : Type 0) → o ≡ Some code → B → C → MatchOption o A (λ c. (without_message code 0 MACH_PORT_NULL ≡ without_message c 0 MACH_PORT_NULL) × B × C)
-matches_code o code A B C is b c = subst (λ (p : Option KernReturn). MatchOption p A (λ c. (without_message code 0 MACH_PORT_NULL ≡ without_message c 0 MACH_PORT_NULL) × B × C)) (sym is) (refl, b, c)
+matches_code : (o : Option KernReturn) (code : KernReturn) (A B C : Type 0) → o ≡ Some code → B → C
+    → MatchOption o A (λ c. (without_message code 0 MACH_PORT_NULL ≡ without_message c 0 MACH_PORT_NULL) × B × C)
+matches_code o code A B C is b c =
+    subst (λ (p : Option KernReturn). MatchOption p A
+    (λ c. (without_message code 0 MACH_PORT_NULL ≡ without_message c 0 MACH_PORT_NULL) × B × C)) (sym is)
+    (refl, b, c)
 
-receive_refused : (new : State) (space : ℕ) (names : Names) (receipt : Receipt) → receive_refusal new names receipt ≡ Some RcvTimedOut → Receives new space names receipt (without_message RcvTimedOut 0 MACH_PORT_NULL) new no_effects
-receive_refused new space names receipt is = matches_code (receive_refusal new names receipt) RcvTimedOut _ (new ≡ new) (no_effects ≡ no_effects) is refl refl
+receive_refused : (new : State) (space : ℕ) (names : Names) (receipt : Receipt)
+    → receive_refusal new names receipt ≡ Some RcvTimedOut
+    → Receives new space names receipt (without_message RcvTimedOut 0 MACH_PORT_NULL) new no_effects
+receive_refused new space names receipt is =
+    matches_code (receive_refusal new names receipt) RcvTimedOut _ (new ≡ new) (no_effects ≡ no_effects) is refl refl
 
-send_refused : (new : State) (space : ℕ) (message : List ℕ) (names : Names) → ready_to_send new space message ≡ Err SendTimedOut → ActsIn new space names (call.Send message) (without_message SendTimedOut 0 MACH_PORT_NULL) new no_effects
+send_refused : (new : State) (space : ℕ) (message : List ℕ) (names : Names)
+    → ready_to_send new space message ≡ Err SendTimedOut
+    → ActsIn new space names (call.Send message) (without_message SendTimedOut 0 MACH_PORT_NULL) new no_effects
 send_refused new space message names is =
-    subst (λ (r : Result Ready KernReturn). MatchResult r (λ ready. (without_message SendTimedOut 0 MACH_PORT_NULL ≡ without_message Success 0 MACH_PORT_NULL) × (new ≡ (sent ready).0) × (no_effects ≡ (sent ready).1))
-    (λ code. (without_message SendTimedOut 0 MACH_PORT_NULL ≡ without_message code 0 MACH_PORT_NULL) × (new ≡ new) × (no_effects ≡ no_effects))) (sym is) (refl, refl, refl)
+    subst (λ (r : Result Ready KernReturn). MatchResult r
+    (λ ready. (without_message SendTimedOut 0 MACH_PORT_NULL ≡ without_message Success 0 MACH_PORT_NULL)
+    × (new ≡ (sent ready).0) × (no_effects ≡ (sent ready).1))
+    (λ code. (without_message SendTimedOut 0 MACH_PORT_NULL ≡ without_message code 0 MACH_PORT_NULL) × (new ≡ new)
+    × (no_effects ≡ no_effects))) (sym is) (refl, refl, refl)
 
 -- a caller whose space is gone is refused with another code
-there : (old : State) (space : ℕ) (c : Call) (code : KernReturn) (acted : State) (effects : List Effect) → refused c InvalidTask ≡ without_message InvalidTask 0 MACH_PORT_NULL → (InvalidTask ≡ code → ⊥)
+there : (old : State) (space : ℕ) (c : Call) (code : KernReturn) (acted : State) (effects : List Effect)
+    → refused c InvalidTask ≡ without_message InvalidTask 0 MACH_PORT_NULL → (InvalidTask ≡ code → ⊥)
     → ActsFrom old space (finmap.get old.spaces space) c (without_message code 0 MACH_PORT_NULL) acted effects
-    → (names : Names) × (finmap.get old.spaces space ≡ Some names) × ActsIn old space names c (without_message code 0 MACH_PORT_NULL) acted effects
+    → (names : Names) × (finmap.get old.spaces space ≡ Some names)
+    × ActsIn old space names c (without_message code 0 MACH_PORT_NULL) acted effects
 there old space c code acted effects gone other is = go (finmap.get old.spaces space) refl is
   where
-    go : (o : Option Names) → finmap.get old.spaces space ≡ o → ActsFrom old space o c (without_message code 0 MACH_PORT_NULL) acted effects
-        → (names : Names) × (finmap.get old.spaces space ≡ Some names) × ActsIn old space names c (without_message code 0 MACH_PORT_NULL) acted effects
+    go : (o : Option Names) → finmap.get old.spaces space ≡ o
+        → ActsFrom old space o c (without_message code 0 MACH_PORT_NULL) acted effects
+        → (names : Names) × (finmap.get old.spaces space ≡ Some names)
+        × ActsIn old space names c (without_message code 0 MACH_PORT_NULL) acted effects
     go None at acts = absurd (other (sym (code_same code InvalidTask (acts.0 ∙ gone))))
     go (Some names) at acts = (names, at, acts)
 
-in_there : (new : State) (space : ℕ) (c : Call) (names : Names) (answer : Reply) → finmap.get new.spaces space ≡ Some names → ActsIn new space names c answer new [] → Step new space c answer new
+in_there : (new : State) (space : ℕ) (c : Call) (names : Names) (answer : Reply)
+    → finmap.get new.spaces space ≡ Some names → ActsIn new space names c answer new [] → Step new space c answer new
 unfolding Step
-in_there new space c names answer at acts = (new, [], subst (λ (o : Option Names). ActsFrom new space o c answer new []) (sym at) acts, settled)
+in_there new space c names answer at acts =
+    (new, [], subst (λ (o : Option Names). ActsFrom new space o c answer new []) (sym at) acts, settled)
 
-acted_from : (old : State) (space : ℕ) (c : Call) (answer : Reply) → Step old space c answer old → (acted : State) × (effects : List Effect) × ActsFrom old space (finmap.get old.spaces space) c answer acted effects
+acted_from : (old : State) (space : ℕ) (c : Call) (answer : Reply) → Step old space c answer old → (acted : State)
+    × (effects : List Effect) × ActsFrom old space (finmap.get old.spaces space) c answer acted effects
 unfolding Step
 acted_from old space c answer is = (is.0, is.1, is.2)
 
-by_parts : (state : State) (space : ℕ) (message : List ℕ) → ready_to_send state space message ≡ Err SendTimedOut → ready_by_parts state space (used_parts message) ≡ Err SendTimedOut
+by_parts : (state : State) (space : ℕ) (message : List ℕ) → ready_to_send state space message ≡ Err SendTimedOut
+    → ready_by_parts state space (used_parts message) ≡ Err SendTimedOut
 unfolding ready_to_send
 by_parts state space message is = is
 
-as_parts : (state : State) (space : ℕ) (message : List ℕ) → ready_by_parts state space (used_parts message) ≡ Err SendTimedOut → ready_to_send state space message ≡ Err SendTimedOut
+as_parts : (state : State) (space : ℕ) (message : List ℕ)
+    → ready_by_parts state space (used_parts message) ≡ Err SendTimedOut
+    → ready_to_send state space message ≡ Err SendTimedOut
 unfolding ready_to_send
 as_parts state space message is = is
 
-contains_mapped : (f : ℕ → ℕ) (xs : List ℕ) (x k : ℕ) → k < length xs → slice_index_or xs k x ≡ x → Contains (map f xs) (f x)
+contains_mapped : (f : ℕ → ℕ) (xs : List ℕ) (x k : ℕ) → k < length xs → slice_index_or xs k x ≡ x
+    → Contains (map f xs) (f x)
 contains_mapped f [] x k below is = absurd (omega (arith, below))
 contains_mapped f (y ∷ ys) x zero below is = (zero, omega arith, ap f is)
-contains_mapped f (y ∷ ys) x (suc k) below is = let rest = contains_mapped f ys x k (omega (arith, below)) is in (suc rest.0, omega (arith, rest.1), rest.2)
+contains_mapped f (y ∷ ys) x (suc k) below is =
+    let rest = contains_mapped f ys x k (omega (arith, below)) is in (suc rest.0, omega (arith, rest.1), rest.2)
 
 module _ (old new : State) (named : ℕ → Bool) (covers : Covers old new named) where
-  receives : (space limit : ℕ) (large : Bool) (name : ℕ) (waited : Bool) → FindsNothing old space (call.Receive limit large name waited) → ((place : ℕ) → WaitsAt old space (call.Receive limit large name waited) place → named place ≡ false)
+  receives : (space limit : ℕ) (large : Bool) (name : ℕ) (waited : Bool)
+      → FindsNothing old space (call.Receive limit large name waited)
+      → ((place : ℕ) → WaitsAt old space (call.Receive limit large name waited) place → named place ≡ false)
       → FindsNothing new space (call.Receive limit large name waited)
   receives space limit large name waited found off =
       let receipt : Receipt = record { limit = limit; large = large; name = name; waited = waited } in
       let acts = acted_from old space (call.Receive limit large name waited) _ found in
-      let at = there old space (call.Receive limit large name waited) RcvTimedOut acts.0 acts.1 refl (λ e. cc e) acts.2 in
-      let still = still_none old new named covers space at.0 receipt at.1 (refused_receive old space at.0 receipt acts.0 acts.1 at.2) (off (place_of_name space name) (zero, omega arith, refl)) in
+      let at =
+      there old space (call.Receive limit large name waited) RcvTimedOut acts.0 acts.1 refl (λ e. cc e) acts.2 in
+      let still =
+      still_none old new named covers space at.0 receipt at.1
+      (refused_receive old space at.0 receipt acts.0 acts.1 at.2)
+      (off (place_of_name space name) (zero, omega arith, refl)) in
       in_there new space (call.Receive limit large name waited) still.0 _ still.1
       (receive_refused new space still.0 receipt still.2)
 
-  all_wanted : (space remote : ℕ) (wanted wanted_port : ℕ → Type 0) (names : List ℕ) → ((name : ℕ) → Contains names name → wanted name) → AllWanted space remote wanted wanted_port names
+  all_wanted : (space remote : ℕ) (wanted wanted_port : ℕ → Type 0) (names : List ℕ)
+      → ((name : ℕ) → Contains names name → wanted name) → AllWanted space remote wanted wanted_port names
   all_wanted space remote wanted wanted_port [] each = tt
-  all_wanted space remote wanted wanted_port (name ∷ names) each =
-      (each name (zero, omega arith, refl), all_wanted space remote wanted wanted_port names (λ n at. each n (suc at.0, omega (arith, at.1), at.2)))
+  all_wanted space remote wanted wanted_port (name ∷ names) each = (
+    each name (zero, omega arith, refl),
+    all_wanted space remote wanted wanted_port names (λ n at. each n (suc at.0, omega (arith, at.1), at.2)),
+  )
 
-  sends : (space : ℕ) (message : List ℕ) → FindsNothing old space (call.Send message) → ((place : ℕ) → WaitsAt old space (call.Send message) place → named place ≡ false) → FindsNothing new space (call.Send message)
+  sends : (space : ℕ) (message : List ℕ) → FindsNothing old space (call.Send message)
+      → ((place : ℕ) → WaitsAt old space (call.Send message) place → named place ≡ false)
+      → FindsNothing new space (call.Send message)
   sends space message found off =
       let acts = acted_from old space (call.Send message) _ found in
       let at = there old space (call.Send message) SendTimedOut acts.0 acts.1 refl (λ e. cc e) acts.2 in
@@ -146,29 +194,52 @@ module _ (old new : State) (named : ℕ → Bool) (covers : Covers old new named
       wanted_port serial = named (place_of_port serial) ≡ false
 
       cited : (name : ℕ) → Contains (names_cited (used_parts message)) name → wanted name
-      cited name at = off (place_of_name space name) (Contains-append_left (map (place_of_name space) (names_cited (used_parts message))) (place_of_destination (option_and_then port_of (entry_at old space (used_parts message).remote))) (place_of_name space name)
+      cited name at =
+          off (place_of_name space name)
+          (Contains-append_left (map (place_of_name space) (names_cited (used_parts message)))
+          (place_of_destination (option_and_then port_of (entry_at old space (used_parts message).remote)))
+          (place_of_name space name)
           (contains_mapped (place_of_name space) (names_cited (used_parts message)) name at.0 at.1 at.2))
 
-      destined : (serial : ℕ) → option_and_then port_of (entry_at old space (used_parts message).remote) ≡ Some serial → wanted_port serial
-      destined serial to = off (place_of_port serial) (Contains-append_right (map (place_of_name space) (names_cited (used_parts message))) (place_of_destination (option_and_then port_of (entry_at old space (used_parts message).remote))) (place_of_port serial)
-          (subst (λ (o : Option ℕ). Contains (place_of_destination o) (place_of_port serial)) (sym to) (zero, omega arith, refl)))
+      destined : (serial : ℕ) → option_and_then port_of (entry_at old space (used_parts message).remote) ≡ Some serial
+          → wanted_port serial
+      destined serial to =
+          off (place_of_port serial) (Contains-append_right
+          (map (place_of_name space) (names_cited (used_parts message)))
+          (place_of_destination (option_and_then port_of (entry_at old space (used_parts message).remote)))
+          (place_of_port serial)
+          (subst (λ (o : Option ℕ). Contains (place_of_destination o) (place_of_port serial)) (sym to)
+          (zero, omega arith, refl)))
 
       -- a send whose message cites these names
-      still : (parts : UsedParts) → ((name : ℕ) → Contains (names_cited parts) name → wanted name) → ((serial : ℕ) → option_and_then port_of (entry_at old space parts.remote) ≡ Some serial → wanted_port serial)
-          → ready_by_parts old space parts ≡ Err SendTimedOut → (after : Names) × (finmap.get new.spaces space ≡ Some after) × (ready_by_parts new space parts ≡ Err SendTimedOut)
+      still : (parts : UsedParts) → ((name : ℕ) → Contains (names_cited parts) name → wanted name)
+          → ((serial : ℕ) → option_and_then port_of (entry_at old space parts.remote) ≡ Some serial
+          → wanted_port serial)
+          → ready_by_parts old space parts ≡ Err SendTimedOut → (after : Names)
+          × (finmap.get new.spaces space ≡ Some after) × (ready_by_parts new space parts ≡ Err SendTimedOut)
       still parts want want_port full =
           let destination = has_destination old space parts full in
-          let after = stands (finmap.get new.spaces space) parts.remote destination.0 (covers.entries space parts.remote (want parts.remote (0, omega arith, refl)) ∙ destination.1) in (
+          let after =
+          stands (finmap.get new.spaces space) parts.remote destination.0
+          (covers.entries space parts.remote (want parts.remote (0, omega arith, refl)) ∙ destination.1) in (
             after.names,
             after.there,
-            of_parts space parts.remote wanted wanted_port old new parts refl (want parts.remote (0, omega arith, refl)) (want parts.local (1, omega arith, refl))
-                (all_wanted space parts.remote wanted wanted_port (names_in_items (items_if_complex parts.complex parts.body)) (λ name at. want name (suc (suc at.0), omega (arith, at.1), at.2)))
-                (record { entries = λ name w. covers.entries space name w; port = want_port; full = λ serial w full. covers.room serial w full }) full,
+            of_parts space parts.remote wanted wanted_port old new parts refl (want parts.remote (0, omega arith, refl))
+                (want parts.local (1, omega arith, refl))
+                (all_wanted space parts.remote wanted wanted_port
+                (names_in_items (items_if_complex parts.complex parts.body))
+                (λ name at. want name (suc (suc at.0), omega (arith, at.1), at.2)))
+                (record {
+                  entries = λ name w. covers.entries space name w;
+                  port = want_port;
+                  full = λ serial w full. covers.room serial w full;
+                }) full,
           )
 
   pub no_wake_up_lost : Wakes old new named
   no_wake_up_lost space (call.Send message) found off = sends space message found off
-  no_wake_up_lost space (call.Receive limit large name waited) found off = receives space limit large name waited found off
+  no_wake_up_lost space (call.Receive limit large name waited) found off =
+      receives space limit large name waited found off
   no_wake_up_lost space (call.Attach _) found off = absurd found
   no_wake_up_lost space call.Names found off = absurd found
   no_wake_up_lost space (call.Type _) found off = absurd found

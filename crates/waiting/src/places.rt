@@ -71,13 +71,15 @@ impl Places {
     pub fn add_changed(&mut self, place: u128)
         ensures added { names self.new place ≡ true }
         ensures kept { IsMore self.old self.new }
-        ensures exact { (self.new ≡ record self.old { changed = self.old.changed ++ place ∷ [] }) ⊎ (self.new ≡ record self.old { are_all = true }) }
+        ensures exact { (self.new ≡ record self.old { changed = self.old.changed ++ place ∷ [] })
+            ⊎ (self.new ≡ record self.old { are_all = true }) }
     {
         self.list_changed(place);
     }
 
     fn list_changed(&mut self, place: u128)
-        ensures { (self.new ≡ record self.old { changed = self.old.changed ++ place ∷ [] }) ⊎ (self.new ≡ record self.old { are_all = true }) }
+        ensures { (self.new ≡ record self.old { changed = self.old.changed ++ place ∷ [] })
+            ⊎ (self.new ≡ record self.old { are_all = true }) }
     {
         if self.changed.push(place).is_err() {
             self.are_all = true;
@@ -88,13 +90,15 @@ impl Places {
     pub fn add_ready(&mut self, place: u128)
         ensures added { names self.new place ≡ true }
         ensures kept { IsMore self.old self.new }
-        ensures exact { (self.new ≡ record self.old { ready = self.old.ready ++ place ∷ [] }) ⊎ (self.new ≡ record self.old { are_all = true }) }
+        ensures exact { (self.new ≡ record self.old { ready = self.old.ready ++ place ∷ [] })
+            ⊎ (self.new ≡ record self.old { are_all = true }) }
     {
         self.list_ready(place);
     }
 
     fn list_ready(&mut self, place: u128)
-        ensures { (self.new ≡ record self.old { ready = self.old.ready ++ place ∷ [] }) ⊎ (self.new ≡ record self.old { are_all = true }) }
+        ensures { (self.new ≡ record self.old { ready = self.old.ready ++ place ∷ [] })
+            ⊎ (self.new ≡ record self.old { are_all = true }) }
     {
         if self.ready.push(place).is_err() {
             self.are_all = true;

@@ -10,7 +10,8 @@ use Rattle.wire.specs.Frame.{FrameValue, whole, faulty, content_at, front_of, Is
 use Rattle.wire.specs.Reading.{IsLengthOf, IsContentOf}
 
 -- the parts of an input that has a length word
-front_parts : (input : List ℕ) (n : ℕ) (rest : List ℕ) → 4 ≤ length input → little_number 4 input ≡ n → drop 4 input ≡ rest → front_of input ≡ content_at n rest
+front_parts : (input : List ℕ) (n : ℕ) (rest : List ℕ) → 4 ≤ length input → little_number 4 input ≡ n
+    → drop 4 input ≡ rest → front_of input ≡ content_at n rest
 front_parts input n rest long number-is rest-is =
     let some : eqb (length input) 0 ≡ false = ne_eqb _ _ (omega arith) in
     let enough : ltb (length input) 4 ≡ false = le-ltb _ _ long in
@@ -19,10 +20,12 @@ front_parts input n rest long number-is rest-is =
 -- after a length word
 front_after : (n : ℕ) (rest : List ℕ) → IsContentLength n → front_of (word n ++ rest) ≡ content_at n rest
 front_after n rest fits =
-    front_parts (word n ++ rest) n rest (omega (arith, length-append (word n) rest)) (little_number-reads_back 4 n rest (omega (arith, fits.greatest))) refl
+    front_parts (word n ++ rest) n rest (omega (arith, length-append (word n) rest))
+    (little_number-reads_back 4 n rest (omega (arith, fits.greatest))) refl
 
 -- enough bytes after the length word, and too few
-content_whole : (n : ℕ) (rest : List ℕ) → IsContentLength n → n ≤ length rest → content_at n rest ≡ whole (take n rest) (drop n rest)
+content_whole : (n : ℕ) (rest : List ℕ) → IsContentLength n → n ≤ length rest
+    → content_at n rest ≡ whole (take n rest) (drop n rest)
 content_whole n rest fits long =
     let least : ltb n 4 ≡ false = le-ltb _ _ fits.least in
     let greatest : ltb 65_532 n ≡ false = le-ltb _ _ fits.greatest in
@@ -37,37 +40,55 @@ content_short n rest fits short =
     rw (least, greatest, few) refl
 
 -- the bytes of a frame are a whole frame, whatever follows them
-front_of_encoding : (content rest : List ℕ) → IsContentLength (length content) → front_of (frame_encoding content ++ rest) ≡ whole content rest
+front_of_encoding : (content rest : List ℕ) → IsContentLength (length content)
+    → front_of (frame_encoding content ++ rest) ≡ whole content rest
 front_of_encoding content rest fits =
-    let regrouped : frame_encoding content ++ rest ≡ word (length content) ++ (content ++ rest) = append_assoc (word (length content)) content rest in
+    let regrouped : frame_encoding content ++ rest ≡ word (length content) ++ (content ++ rest) =
+    append_assoc (word (length content)) content rest in
     let long : length content ≤ length (content ++ rest) = omega (arith, length-append content rest) in
-    let parts : whole (take (length content) (content ++ rest)) (drop (length content) (content ++ rest)) ≡ whole content rest = rw (take_at content rest (length content) refl, drop_at content rest (length content) refl) refl in
-    ap front_of regrouped ∙ front_after (length content) (content ++ rest) fits ∙ content_whole (length content) (content ++ rest) fits long ∙ parts
+    let parts : whole (take (length content) (content ++ rest)) (drop (length content) (content ++ rest))
+    ≡ whole content rest = rw (
+      take_at content rest (length content) refl,
+      drop_at content rest (length content) refl,
+    ) refl in
+    ap front_of regrouped ∙ front_after (length content) (content ++ rest) fits
+    ∙ content_whole (length content) (content ++ rest) fits long ∙ parts
 
 -- a length word and its content are a frame
-frame_encoding_of : (n : ℕ) (content rest : List ℕ) → length content ≡ n → word n ++ (content ++ rest) ≡ frame_encoding content ++ rest
+frame_encoding_of : (n : ℕ) (content rest : List ℕ) → length content ≡ n
+    → word n ++ (content ++ rest) ≡ frame_encoding content ++ rest
 frame_encoding_of n content rest len =
     ap (λ (k : ℕ). word k ++ (content ++ rest)) (sym len) ∙ sym (append_assoc (word (length content)) content rest)
 
 -- the two steps of a frame that was read, and where it stood
-frame_found : (old mid new : Option (List ℕ)) (n : ℕ) (frame : FrameValue) → IfSome old (λ input. IsLengthOf input (Ok (Some n)) mid) → IfSome mid (λ input. IsContentOf n input (Ok frame) new)
+frame_found : (old mid new : Option (List ℕ)) (n : ℕ) (frame : FrameValue)
+    → IfSome old (λ input. IsLengthOf input (Ok (Some n)) mid)
+    → IfSome mid (λ input. IsContentOf n input (Ok frame) new)
     → IfSome old (λ input. (rest : List ℕ) × (input ≡ frame_encoding frame.content ++ rest) × (new ≡ Some rest))
 frame_found None mid new n frame first second = tt
 frame_found (Some xs) None new n frame first second = absurd cc
 frame_found (Some xs) (Some ys) new n frame first second =
     let same : ys ≡ first.0 = cc in
-    let (rest, split, len, left) = second in
-    (rest, first.1 ∙ ap (λ (b : List ℕ). word n ++ b) (sym same ∙ split) ∙ frame_encoding_of n frame.content rest len, left)
+    let (rest, split, len, left) = second in (
+      rest,
+      first.1 ∙ ap (λ (b : List ℕ). word n ++ b) (sym same ∙ split) ∙ frame_encoding_of n frame.content rest len,
+      left,
+    )
 
 -- what the two steps of reading a frame answer together
-pub frame_read : (old mid new : Option (List ℕ)) (n : ℕ) (frame : FrameValue) → IsContentLength n → IfSome old (λ input. IsLengthOf input (Ok (Some n)) mid) → IfSome mid (λ input. IsContentOf n input (Ok frame) new)
+pub frame_read : (old mid new : Option (List ℕ)) (n : ℕ) (frame : FrameValue) → IsContentLength n
+    → IfSome old (λ input. IsLengthOf input (Ok (Some n)) mid)
+    → IfSome mid (λ input. IsContentOf n input (Ok frame) new)
     → IfSome old (λ input. IsReadOf input (Ok (Some frame)) new)
 frame_read None mid new n frame fits first second = tt
 frame_read (Some xs) None new n frame fits first second = absurd cc
 frame_read (Some xs) (Some ys) new n frame fits first second =
     let (rest, encoding, left) = frame_found (Some xs) (Some ys) new n frame first second in
-    let same_length : length frame.content ≡ n = second.2 in
-    (rest, ap front_of encoding ∙ front_of_encoding frame.content rest (subst IsContentLength (sym same_length) fits), left)
+    let same_length : length frame.content ≡ n = second.2 in (
+      rest,
+      ap front_of encoding ∙ front_of_encoding frame.content rest (subst IsContentLength (sym same_length) fits),
+      left,
+    )
 
 -- the number of a length word, whatever follows it
 number_after : (n : ℕ) (rest : List ℕ) → IsContentLength n → little_number 4 (word n ++ rest) ≡ n
@@ -81,17 +102,23 @@ within_frame n taken fits few =
     (subst IsContentLength (sym number-is) fits, omega (arith, number-is, length-append (word n) taken))
 
 -- a length word, and a fault in the content after it
-after_length : (ys : List ℕ) (new : Option (List ℕ)) (n : ℕ) (fault : WireFault) → IsContentLength n → IsContentOf n ys (Err fault) new → IsReadOf (word n ++ ys) (Err fault) new
+after_length : (ys : List ℕ) (new : Option (List ℕ)) (n : ℕ) (fault : WireFault) → IsContentLength n
+    → IsContentOf n ys (Err fault) new → IsReadOf (word n ++ ys) (Err fault) new
 after_length ys new n Short fits second = ([], front_after n ys fits ∙ content_short n ys fits second.0, second.1)
 after_length ys new n TooLong fits second = absurd second
 after_length ys new n Device fits second =
-    let (taken, few, consumed) = second in
-    (word n ++ taken, Consumes-trans (Some (word n ++ ys)) (Some ys) new (word n) taken refl consumed, within_frame n taken fits few)
+    let (taken, few, consumed) = second in (
+      word n ++ taken,
+      Consumes-trans (Some (word n ++ ys)) (Some ys) new (word n) taken refl consumed,
+      within_frame n taken fits few,
+    )
 after_length ys new n NoMemory fits second =
     (omega (arith, length-append (word n) ys), subst IsContentLength (sym (number_after n ys fits)) fits, second)
 
 -- what the two steps answer if the second one fails
-pub content_failed : (old mid new : Option (List ℕ)) (n : ℕ) (fault : WireFault) → IsContentLength n → IfSome old (λ input. IsLengthOf input (Ok (Some n)) mid) → IfSome mid (λ input. IsContentOf n input (Err fault) new)
+pub content_failed : (old mid new : Option (List ℕ)) (n : ℕ) (fault : WireFault) → IsContentLength n
+    → IfSome old (λ input. IsLengthOf input (Ok (Some n)) mid)
+    → IfSome mid (λ input. IsContentOf n input (Err fault) new)
     → IfSome old (λ input. IsReadOf input (Err fault) new)
 content_failed None mid new n fault fits first second = tt
 content_failed (Some xs) None new n fault fits first second = absurd cc

@@ -14,7 +14,8 @@ pub record FrameValue : Type 0 where
 
 abbrev pub frame_code : Coded FrameValue
 frame_code =
-    code_by (List ℕ × ℕ) (coded× (coded_list coded_ℕ) coded_ℕ) (λ f. (f.content, f.room)) (λ p. record { content = p.0; room = p.1 }) (λ _. refl)
+    code_by (List ℕ × ℕ) (coded× (coded_list coded_ℕ) coded_ℕ) (λ f. (f.content, f.room))
+    (λ p. record { content = p.0; room = p.1 }) (λ _. refl)
 
 -- a count of bytes that a frame's length may give
 pub record IsContentLength (n : ℕ) : Type 0 where
@@ -51,11 +52,13 @@ IsWithinFrame taken =
 -- may fail at any byte of the frame.
 abbrev pub IsReadOf : List ℕ → Result (Option FrameValue) WireFault → Option (List ℕ) → Type 0
 IsReadOf input (Ok None) left = (front_of input ≡ ended) × (left ≡ Some [])
-IsReadOf input (Ok (Some frame)) left = (rest : List ℕ) × (front_of input ≡ whole frame.content rest) × (left ≡ Some rest)
+IsReadOf input (Ok (Some frame)) left =
+    (rest : List ℕ) × (front_of input ≡ whole frame.content rest) × (left ≡ Some rest)
 IsReadOf input (Err Short) left = (rest : List ℕ) × (front_of input ≡ faulty Short rest) × (left ≡ Some rest)
 IsReadOf input (Err TooLong) left = (rest : List ℕ) × (front_of input ≡ faulty TooLong rest) × (left ≡ Some rest)
 IsReadOf input (Err Device) left = (taken : List ℕ) × Consumes (Some input) left taken × IsWithinFrame taken
-IsReadOf input (Err NoMemory) left = (4 ≤ length input) × IsContentLength (little_number 4 input) × (left ≡ Some (drop 4 input))
+IsReadOf input (Err NoMemory) left =
+    (4 ≤ length input) × IsContentLength (little_number 4 input) × (left ≡ Some (drop 4 input))
 
 -- A frame of this content was read, or the reader failed, or memory ran out.
 abbrev pub IsFrameRead : List ℕ → Result (Option FrameValue) WireFault → Type 0

@@ -21,7 +21,8 @@ IsLengthOf input (Err NoMemory) left = ⊥
 
 -- the n bytes of content after it
 abbrev pub IsContentOf : ℕ → List ℕ → Result FrameValue WireFault → Option (List ℕ) → Type 0
-IsContentOf n input (Ok frame) left = (rest : List ℕ) × (input ≡ frame.content ++ rest) × (length frame.content ≡ n) × (left ≡ Some rest)
+IsContentOf n input (Ok frame) left =
+    (rest : List ℕ) × (input ≡ frame.content ++ rest) × (length frame.content ≡ n) × (left ≡ Some rest)
 IsContentOf n input (Err Short) left = (length input < n) × (left ≡ Some [])
 IsContentOf n input (Err TooLong) left = ⊥
 IsContentOf n input (Err Device) left = ConsumesPart (Some input) left n

@@ -25,7 +25,8 @@ front_fits (suc n) [] fits i = omega arith
 front_fits (suc n) (a ∷ bytes) fits zero = fits 0
 front_fits (suc n) (a ∷ bytes) fits (suc i) = front_fits n bytes (λ k. fits (suc k)) i
 
-pub word-little_number : (bytes : List ℕ) → AreBytes bytes → 4 ≤ length bytes → word (little_number 4 bytes) ≡ take 4 bytes
+pub word-little_number : (bytes : List ℕ) → AreBytes bytes → 4 ≤ length bytes
+    → word (little_number 4 bytes) ≡ take 4 bytes
 word-little_number [] fits long = absurd (omega arith)
 word-little_number (a ∷ []) fits long = absurd (omega arith)
 word-little_number (a ∷ b ∷ []) fits long = absurd (omega arith)
@@ -40,6 +41,8 @@ pub same_word : (m n : ℕ) (xs ys : List ℕ) → m < 2 ^ 32 → n < 2 ^ 32 →
 same_word m n xs ys fits fits_too e =
     sym (little_number-word m xs fits) ∙ ap (λ (l : List ℕ). little_number 4 l) e ∙ little_number-word n ys fits_too
 
-pub same_long_word : (m n : ℕ) (xs ys : List ℕ) → m < 2 ^ 64 → n < 2 ^ 64 → long_word m ++ xs ≡ long_word n ++ ys → m ≡ n
+pub same_long_word : (m n : ℕ) (xs ys : List ℕ) → m < 2 ^ 64 → n < 2 ^ 64 → long_word m ++ xs ≡ long_word n ++ ys
+    → m ≡ n
 same_long_word m n xs ys fits fits_too e =
-    sym (little_number-long_word m xs fits) ∙ ap (λ (l : List ℕ). little_number 8 l) e ∙ little_number-long_word n ys fits_too
+    sym (little_number-long_word m xs fits) ∙ ap (λ (l : List ℕ). little_number 8 l) e
+    ∙ little_number-long_word n ys fits_too

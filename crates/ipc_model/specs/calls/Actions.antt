@@ -43,7 +43,8 @@ done_with number state effects = record { answer = reply.Done number; state = st
 
 -- the ports whose receive rights are members of the set
 abbrev pub serials_of_members : State → Names → ℕ → List ℕ
-serials_of_members state names set = filter_map (λ e. received_port e.1) (filter (λ e. is_member state set e.1) (finmap.entries names))
+serials_of_members state names set =
+    filter_map (λ e. received_port e.1) (filter (λ e. is_member state set e.1) (finmap.entries names))
 
 abbrev pub with_ports : State → List ℕ → (PortState → PortState) → State
 with_ports state [] change = state
@@ -51,7 +52,8 @@ with_ports state (serial ∷ serials) change = with_ports (with_port state seria
 
 -- every member of a set in a space gets this set's name, or none
 abbrev pub members_in : State → Names → ℕ → Option ℕ → State
-members_in state names set other = with_ports state (serials_of_members state names set) (λ port. record port { set = other })
+members_in state names set other =
+    with_ports state (serials_of_members state names set) (λ port. record port { set = other })
 
 -- when a set goes, its members are in no set any more; when it is renamed, they get its new name
 abbrev pub members_moved : State → Names → ℕ → Option ℕ → Entry → State
@@ -61,19 +63,23 @@ members_moved state names set other Set = members_in state names set other
 members_moved state names set other (Dead references) = state
 
 abbrev pub renamed : State → ℕ → Names → ℕ → ℕ → Entry → State
-renamed state space names from to entry = with_names (members_moved state names from (Some to) entry) space (finmap.insert (finmap.remove names from) to entry)
+renamed state space names from to entry =
+    with_names (members_moved state names from (Some to) entry) space
+    (finmap.insert (finmap.remove names from) to entry)
 
 -- what a new name of a right's number stands for; a new port gets the next serial
 abbrev pub allocated_entry : ℕ → ℕ → Entry
 allocated_entry serial wanted =
-    if is_right wanted right.Receive then Port (record { port = serial; receive = true; send = 0; dead_name_target = None })
+    if is_right wanted right.Receive
+    then Port (record { port = serial; receive = true; send = 0; dead_name_target = None })
     else if is_right wanted right.PortSet then Set
     else Dead 1
 
 abbrev pub allocated : State → ℕ → Names → ℕ → ℕ → State
 allocated state space names wanted name =
     let named : State = with_names state space (finmap.insert names name (allocated_entry state.next wanted)) in
-    if is_right wanted right.Receive then record named { ports = finmap.insert state.ports state.next new_port; next = state.next + 1 } else named
+    if is_right wanted right.Receive
+    then record named { ports = finmap.insert state.ports state.next new_port; next = state.next + 1 } else named
 
 -- an effect, or none
 abbrev pub release_if : Bool → Effect → List Effect
@@ -82,20 +88,23 @@ release_if b effect = if b then effect ∷ [] else []
 -- the releases of all that a name stands for, and its port-deleted notice
 abbrev pub effects_of_name : ℕ → Entry → List Effect
 effects_of_name name (Port rights) =
-    release_if (not (rights.send == 0)) (release kind.Send rights.port) ++ (release_if rights.receive (release kind.Receive rights.port) ++ port_deleted name rights.dead_name_target)
+    release_if (not (rights.send == 0)) (release kind.Send rights.port)
+    ++ (release_if rights.receive (release kind.Receive rights.port) ++ port_deleted name rights.dead_name_target)
 effects_of_name name (SendOnce port target) = release kind.SendOnce port ∷ port_deleted name target
 effects_of_name name Set = []
 effects_of_name name (Dead references) = []
 
 abbrev pub destroyed : State → ℕ → Names → ℕ → Entry → Action
 destroyed state space names name entry =
-    done_with MACH_PORT_DESTROY (with_names (members_moved state names name None entry) space (finmap.remove names name)) (effects_of_name name entry)
+    done_with MACH_PORT_DESTROY (with_names (members_moved state names name None entry) space
+    (finmap.remove names name)) (effects_of_name name entry)
 
 -- A right keeps this many references under a name; if none are left, the right goes.
 abbrev pub send_left : State → ℕ → ℕ → PortRights → ℕ → ℕ → Action
 send_left state space name rights left number =
     let entry : Entry = Port (record rights { send = left }) in
-    done_with number (with_left state space name entry) (release_if (left == 0) (release kind.Send rights.port) ++ notices_of_left name entry)
+    done_with number (with_left state space name entry)
+    (release_if (left == 0) (release kind.Send rights.port) ++ notices_of_left name entry)
 
 abbrev pub dead_left : State → ℕ → ℕ → ℕ → ℕ → Action
 dead_left state space name left number = done_with number (with_left state space name (Dead left)) []
@@ -103,15 +112,19 @@ dead_left state space name left number = done_with number (with_left state space
 abbrev pub receive_gone : State → ℕ → ℕ → PortRights → Action
 receive_gone state space name rights =
     let entry : Entry = Port (record rights { receive = false }) in
-    done_with MACH_PORT_MOD_REFS (with_left state space name entry) (release kind.Receive rights.port ∷ notices_of_left name entry)
+    done_with MACH_PORT_MOD_REFS (with_left state space name entry)
+    (release kind.Receive rights.port ∷ notices_of_left name entry)
 
 abbrev pub send_once_gone : State → ℕ → ℕ → ℕ → Option ℕ → ℕ → Action
-send_once_gone state space name port target number = done_with number (without_name state space name) (release kind.SendOnce port ∷ port_deleted name target)
+send_once_gone state space name port target number =
+    done_with number (without_name state space name) (release kind.SendOnce port ∷ port_deleted name target)
 
 -- mach_port_deallocate: takes one reference from a send right, a send-once right or a dead name
 abbrev pub deallocated : State → ℕ → Names → ℕ → Entry → Action
-deallocated state space names name (Port rights) = send_left state space name rights (rights.send - 1) MACH_PORT_DEALLOCATE
-deallocated state space names name (SendOnce port target) = send_once_gone state space name port target MACH_PORT_DEALLOCATE
+deallocated state space names name (Port rights) =
+    send_left state space name rights (rights.send - 1) MACH_PORT_DEALLOCATE
+deallocated state space names name (SendOnce port target) =
+    send_once_gone state space name port target MACH_PORT_DEALLOCATE
 deallocated state space names name Set = done_with MACH_PORT_DEALLOCATE state []  -- its tests refuse it
 deallocated state space names name (Dead references) = dead_left state space name (references - 1) MACH_PORT_DEALLOCATE
 
@@ -124,14 +137,20 @@ modified_port state space name rights wanted delta =
 
 abbrev pub modified : State → ℕ → Names → ℕ → Entry → ℕ → ℕ → Action
 modified state space names name (Port rights) wanted delta = modified_port state space name rights wanted delta
-modified state space names name (SendOnce port target) wanted delta = if delta == minus_one then send_once_gone state space name port target MACH_PORT_MOD_REFS else done_with MACH_PORT_MOD_REFS state []
+modified state space names name (SendOnce port target) wanted delta =
+    if delta == minus_one then send_once_gone state space name port target MACH_PORT_MOD_REFS
+    else done_with MACH_PORT_MOD_REFS state []
 modified state space names name Set wanted delta =
-    if delta == minus_one then done_with MACH_PORT_MOD_REFS (with_names (members_in state names name None) space (finmap.remove names name)) [] else done_with MACH_PORT_MOD_REFS state []
-modified state space names name (Dead references) wanted delta = dead_left state space name (sum_of references delta) MACH_PORT_MOD_REFS
+    if delta == minus_one then done_with MACH_PORT_MOD_REFS
+    (with_names (members_in state names name None) space (finmap.remove names name)) []
+    else done_with MACH_PORT_MOD_REFS state []
+modified state space names name (Dead references) wanted delta =
+    dead_left state space name (sum_of references delta) MACH_PORT_MOD_REFS
 
 -- changes what the port keeps whose receive right this name holds
 abbrev pub with_received : State → Entry → (PortState → PortState) → State
-with_received state entry change = elim (received_port entry) as (λ _. State) [ None ↦ state | Some serial ↦ with_port state serial change ]
+with_received state entry change =
+    elim (received_port entry) as (λ _. State) [ None ↦ state | Some serial ↦ with_port state serial change ]
 
 -- mach_port_get_receive_status
 abbrev pub name_or_null : Option ℕ → ℕ
@@ -161,44 +180,59 @@ set_named name = if name == MACH_PORT_NULL then None else Some name
 -- the port has no send right, and as many were made as the task knows of, or more
 abbrev pub lacks_senders : State → ℕ → ℕ → Bool
 lacks_senders state sync serial =
-    elim (finmap.get state.ports serial) as (λ _. Bool) [ None ↦ false | Some port ↦ send_count state serial == 0 && nat_le sync port.make_send_count ]
+    elim (finmap.get state.ports serial) as (λ _. Bool)
+    [ None ↦ false | Some port ↦ send_count state serial == 0 && nat_le sync port.make_send_count ]
 
 abbrev pub make_send_count_of : State → ℕ → ℕ
-make_send_count_of state serial = elim (finmap.get state.ports serial) as (λ _. ℕ) [ None ↦ 0 | Some port ↦ port.make_send_count ]
+make_send_count_of state serial =
+    elim (finmap.get state.ports serial) as (λ _. ℕ) [ None ↦ 0 | Some port ↦ port.make_send_count ]
 
 -- A request on a port: it is kept, or answered at once and not kept.
 abbrev pub port_request_set : State → ℕ → ℕ → ℕ → Option ℕ → State × List Effect
-port_request_set state variant sync serial None =
-    (with_port state serial (λ port. if variant == MACH_NOTIFY_PORT_DESTROYED then record port { port_destroyed_target = None } else record port { no_senders_target = None }), [])
+port_request_set state variant sync serial None = (
+  with_port state serial (λ port. if variant == MACH_NOTIFY_PORT_DESTROYED
+      then record port { port_destroyed_target = None } else record port { no_senders_target = None }),
+  [],
+)
 port_request_set state variant sync serial (Some target) =
-    if variant == MACH_NOTIFY_PORT_DESTROYED then (with_port state serial (λ port. record port { port_destroyed_target = Some target }), [])
+    if variant == MACH_NOTIFY_PORT_DESTROYED
+    then (with_port state serial (λ port. record port { port_destroyed_target = Some target }), [])
     else if lacks_senders state sync serial
-    then (with_port state serial (λ port. record port { no_senders_target = None }), notify target (notice.NoSenders (make_send_count_of state serial)) ∷ [])
+    then (
+      with_port state serial (λ port. record port { no_senders_target = None }),
+      notify target (notice.NoSenders (make_send_count_of state serial)) ∷ [],
+    )
     else (with_port state serial (λ port. record port { no_senders_target = Some target }), [])
 
 -- A dead-name request is kept with the name. If the name is dead already, the notice goes out at once, and the name
 -- gets one more reference.
 abbrev pub dead_name_request_set : State → ℕ → ℕ → Option ℕ → Entry → State × List Effect
-dead_name_request_set state space name target (Port rights) = (with_entry state space name (Port (record rights { dead_name_target = target })), [])
-dead_name_request_set state space name target (SendOnce port former) = (with_entry state space name (SendOnce port target), [])
+dead_name_request_set state space name target (Port rights) =
+    (with_entry state space name (Port (record rights { dead_name_target = target })), [])
+dead_name_request_set state space name target (SendOnce port former) =
+    (with_entry state space name (SendOnce port target), [])
 dead_name_request_set state space name target Set = (state, [])
 dead_name_request_set state space name None (Dead references) = (state, [])
-dead_name_request_set state space name (Some target) (Dead references) = (with_entry state space name (Dead (references + 1)), notify target (notice.DeadName name) ∷ [])
+dead_name_request_set state space name (Some target) (Dead references) =
+    (with_entry state space name (Dead (references + 1)), notify target (notice.DeadName name) ∷ [])
 
 abbrev pub request_set : State → ℕ → ℕ → ℕ → ℕ → Option ℕ → Entry → State × List Effect
 request_set state space name variant sync target entry =
     if variant == MACH_NOTIFY_DEAD_NAME then dead_name_request_set state space name target entry
-    else elim (received_port entry) as (λ _. State × List Effect) [ None ↦ (state, []) | Some serial ↦ port_request_set state variant sync serial target ]
+    else elim (received_port entry) as (λ _. State × List Effect)
+    [ None ↦ (state, []) | Some serial ↦ port_request_set state variant sync serial target ]
 
 abbrev pub request_set_under : State → ℕ → ℕ → ℕ → ℕ → Option ℕ → State × List Effect
 request_set_under state space name variant sync target =
-    elim (entry_at state space name) as (λ _. State × List Effect) [ None ↦ (state, []) | Some entry ↦ request_set state space name variant sync target entry ]
+    elim (entry_at state space name) as (λ _. State × List Effect)
+    [ None ↦ (state, []) | Some entry ↦ request_set state space name variant sync target entry ]
 
 -- The former target comes back as a send-once right under a new name. The answer shows the name, or 0 where there was
 -- none.
 abbrev pub GivesBack : State → ℕ → Option ℕ → ℕ → State → Type 0
 GivesBack state space None name new = (name ≡ MACH_PORT_NULL) × (new ≡ state)
-GivesBack state space (Some former) name new = IsUnused (names_in state space) name × (new ≡ with_entry state space name (SendOnce former None))
+GivesBack state space (Some former) name new =
+    IsUnused (names_in state space) name × (new ≡ with_entry state space name (SendOnce former None))
 
 -- what was copied in for a request: the target's port, the state after it, and notices
 pub record TakenTarget : Type 0 where
@@ -208,7 +242,8 @@ pub record TakenTarget : Type 0 where
 
 abbrev pub taken_target : State → Option Taken → TakenTarget
 taken_target state None = record { target = None; state = state; notices = [] }
-taken_target state (Some taken) = record { target = live_port taken.right.port; state = taken.state; notices = taken.notices }
+taken_target state (Some taken) =
+    record { target = live_port taken.right.port; state = taken.state; notices = taken.notices }
 
 abbrev pub target_for : State → ℕ → ℕ → ℕ → TakenTarget
 target_for state space notify_name disposition =
@@ -219,14 +254,16 @@ abbrev pub Requested : State → ℕ → ℕ → ℕ → ℕ → TakenTarget →
 Requested old space name variant sync taken answer new effects =
     let former : Option ℕ = target_under taken.state (names_in taken.state space) variant name in
     let after : State × List Effect = request_set_under taken.state space name variant sync taken.target in
-    (given : ℕ) × (answer ≡ reply.PreviousTarget given) × GivesBack after.0 space former given new × (effects ≡ taken.notices ++ after.1)
+    (given : ℕ) × (answer ≡ reply.PreviousTarget given) × GivesBack after.0 space former given new
+    × (effects ≡ taken.notices ++ after.1)
 
 -- A right that was copied in comes out in a space under a name.
 abbrev pub ComesOut : Option Taken → ℕ → ℕ → State → List Effect → Type 0
 ComesOut None space name new effects = ⊥
 ComesOut (Some taken) space name new effects =
     MayArrive (names_in taken.state space) taken.right.kind taken.right.port name
-    × (new ≡ with_names taken.state space (names_after (names_in taken.state space) taken.right.kind taken.right.port name)) × (effects ≡ taken.notices)
+    × (new ≡ with_names taken.state space
+    (names_after (names_in taken.state space) taken.right.kind taken.right.port name)) × (effects ≡ taken.notices)
 
 abbrev pub taken_by : State → ℕ → ℕ → ℕ → Option Taken
 taken_by state space name disposition = option_and_then (copy_in state space name) (disposition_of disposition)
@@ -235,12 +272,14 @@ taken_by state space name disposition = option_and_then (copy_in state space nam
 abbrev pub Inserted : Option Taken → ℕ → ℕ → State → List Effect → Type 0
 Inserted None space name new effects = ⊥
 Inserted (Some taken) space name new effects =
-    (new ≡ with_names taken.state space (names_after (names_in taken.state space) taken.right.kind taken.right.port name)) × (effects ≡ taken.notices)
+    (new ≡ with_names taken.state space
+    (names_after (names_in taken.state space) taken.right.kind taken.right.port name)) × (effects ≡ taken.notices)
 
 -- mach_port_extract_right: the right comes out under its port's name, or a new one
 abbrev pub Extracted : Option Taken → ℕ → Reply → State → List Effect → Type 0
 Extracted None space answer new effects = ⊥
-Extracted (Some taken) space answer new effects = (name : ℕ) × (answer ≡ reply.Extracted name taken.right.kind) × ComesOut (Some taken) space name new effects
+Extracted (Some taken) space answer new effects =
+    (name : ℕ) × (answer ≡ reply.Extracted name taken.right.kind) × ComesOut (Some taken) space name new effects
 
 -- a space's number: from 1 to the greatest number of spaces, and not in use
 pub record IsUnusedSpace (state : State) (space : ℕ) : Type 0 where
@@ -254,7 +293,8 @@ Created None answer new effects = ⊥
 Created (Some taken) answer new effects =
     (number : ℕ) × (name : ℕ) × IsUnusedSpace taken.state number × (answer ≡ reply.SpaceCreated number name)
     × MayArrive finmap.empty taken.right.kind taken.right.port name
-    × (new ≡ with_names taken.state number (names_after finmap.empty taken.right.kind taken.right.port name)) × (effects ≡ taken.notices)
+    × (new ≡ with_names taken.state number (names_after finmap.empty taken.right.kind taken.right.port name))
+    × (effects ≡ taken.notices)
 
 -- A space is destroyed with all its names, in ascending order, and its sets go with it.
 abbrev pub received_serials : Names → List ℕ
@@ -263,7 +303,8 @@ received_serials names = filter_map (λ e. received_port e.1) (finmap.entries na
 abbrev pub space_destroyed : State → ℕ → Names → Action
 space_destroyed state space names =
     let outside : State = with_ports state (received_serials names) (λ port. record port { set = None }) in
-    done_with SPACE_DESTROY (record outside { spaces = finmap.remove state.spaces space }) (flat_map (λ e. effects_of_name e.0 e.1) (finmap.entries names))
+    done_with SPACE_DESTROY (record outside { spaces = finmap.remove state.spaces space })
+    (flat_map (λ e. effects_of_name e.0 e.1) (finmap.entries names))
 
 -- an action as a relation: the answer, the state that it leaves, and the effects that it sets off
 abbrev pub Acts : Action → Reply → State → List Effect → Type 0
@@ -288,32 +329,56 @@ status_action_of state (Some serial) = status_action state (finmap.get state.por
 unfoldable pub Done : State → ℕ → Names → Call → Reply → State → List Effect → Type 0
 Done old space names (call.Attach other) answer new effects = Acts (done_with ATTACH old []) answer new effects
 Done old space names call.Names answer new effects =
-    Acts (only old (reply.Names (map (λ e. record { name = e.0; bits = type_of e.1 }) (finmap.entries names)))) answer new effects
-Done old space names (call.Type name) answer new effects = ActsOn (finmap.get names name) (λ entry. only old (reply.Type (type_of entry))) answer new effects
-Done old space names (call.Rename from to) answer new effects = ActsOn (finmap.get names from) (λ entry. done_with MACH_PORT_RENAME (renamed old space names from to entry) []) answer new effects
-Done old space names (call.AllocateName wanted name) answer new effects = Acts (done_with MACH_PORT_ALLOCATE_NAME (allocated old space names wanted name) []) answer new effects
+    Acts (only old (reply.Names (map (λ e. record { name = e.0; bits = type_of e.1 }) (finmap.entries names)))) answer
+    new effects
+Done old space names (call.Type name) answer new effects =
+    ActsOn (finmap.get names name) (λ entry. only old (reply.Type (type_of entry))) answer new effects
+Done old space names (call.Rename from to) answer new effects =
+    ActsOn (finmap.get names from)
+    (λ entry. done_with MACH_PORT_RENAME (renamed old space names from to entry) []) answer new effects
+Done old space names (call.AllocateName wanted name) answer new effects =
+    Acts (done_with MACH_PORT_ALLOCATE_NAME (allocated old space names wanted name) []) answer new effects
 Done old space names (call.Allocate wanted) answer new effects =
-    (name : ℕ) × IsUnused names name × (answer ≡ reply.Allocate name) × (new ≡ allocated old space names wanted name) × (effects ≡ [])
-Done old space names (call.Destroy name) answer new effects = ActsOn (finmap.get names name) (destroyed old space names name) answer new effects
-Done old space names (call.Deallocate name) answer new effects = ActsOn (finmap.get names name) (deallocated old space names name) answer new effects
-Done old space names (call.GetRefs name wanted) answer new effects = ActsOn (finmap.get names name) (λ entry. only old (reply.References (references_of wanted entry))) answer new effects
-Done old space names (call.ModRefs name wanted delta) answer new effects = ActsOn (finmap.get names name) (λ entry. modified old space names name entry wanted delta) answer new effects
+    (name : ℕ) × IsUnused names name × (answer ≡ reply.Allocate name) × (new ≡ allocated old space names wanted name)
+    × (effects ≡ [])
+Done old space names (call.Destroy name) answer new effects =
+    ActsOn (finmap.get names name) (destroyed old space names name) answer new effects
+Done old space names (call.Deallocate name) answer new effects =
+    ActsOn (finmap.get names name) (deallocated old space names name) answer new effects
+Done old space names (call.GetRefs name wanted) answer new effects =
+    ActsOn (finmap.get names name)
+    (λ entry. only old (reply.References (references_of wanted entry))) answer new effects
+Done old space names (call.ModRefs name wanted delta) answer new effects =
+    ActsOn (finmap.get names name) (λ entry. modified old space names name entry wanted delta) answer new effects
 Done old space names (call.SetQlimit name limit) answer new effects =
-    ActsOn (finmap.get names name) (λ entry. done_with MACH_PORT_SET_QLIMIT (with_received old entry (λ port. record port { limit = limit })) []) answer new effects
+    ActsOn (finmap.get names name)
+    (λ entry. done_with MACH_PORT_SET_QLIMIT (with_received old entry (λ port. record port { limit = limit })) [])
+    answer new effects
 Done old space names (call.SetMscount name count) answer new effects =
-    ActsOn (finmap.get names name) (λ entry. done_with MACH_PORT_SET_MSCOUNT (with_received old entry (λ port. record port { make_send_count = count })) []) answer new effects
+    ActsOn (finmap.get names name)
+    (λ entry. done_with MACH_PORT_SET_MSCOUNT
+    (with_received old entry (λ port. record port { make_send_count = count })) []) answer new effects
 Done old space names (call.SetSeqno name seqno) answer new effects =
-    ActsOn (finmap.get names name) (λ entry. done_with MACH_PORT_SET_SEQNO (with_received old entry (λ port. record port { sequence_number = seqno })) []) answer new effects
-Done old space names (call.GetReceiveStatus name) answer new effects = ActsOn (finmap.get names name) (λ entry. status_action_of old (received_port entry)) answer new effects
-Done old space names (call.GetSetStatus name) answer new effects = Acts (only old (reply.SetStatus (members_of old names name))) answer new effects
+    ActsOn (finmap.get names name)
+    (λ entry. done_with MACH_PORT_SET_SEQNO
+    (with_received old entry (λ port. record port { sequence_number = seqno })) []) answer new effects
+Done old space names (call.GetReceiveStatus name) answer new effects =
+    ActsOn (finmap.get names name) (λ entry. status_action_of old (received_port entry)) answer new effects
+Done old space names (call.GetSetStatus name) answer new effects =
+    Acts (only old (reply.SetStatus (members_of old names name))) answer new effects
 Done old space names (call.MoveMember member after) answer new effects =
-    ActsOn (finmap.get names member) (λ entry. done_with MACH_PORT_MOVE_MEMBER (with_received old entry (λ port. record port { set = set_named after })) []) answer new effects
+    ActsOn (finmap.get names member)
+    (λ entry. done_with MACH_PORT_MOVE_MEMBER
+    (with_received old entry (λ port. record port { set = set_named after })) []) answer new effects
 Done old space names (call.RequestNotification name variant sync notify_name disposition) answer new effects =
     Requested old space name variant sync (target_for old space notify_name disposition) answer new effects
 Done old space names (call.InsertRight name right_name disposition) answer new effects =
-    (answer ≡ reply.Done MACH_PORT_INSERT_RIGHT) × Inserted (taken_by old space right_name disposition) space name new effects
-Done old space names (call.ExtractRight name disposition) answer new effects = Extracted (taken_by old space name disposition) space answer new effects
+    (answer ≡ reply.Done MACH_PORT_INSERT_RIGHT)
+    × Inserted (taken_by old space right_name disposition) space name new effects
+Done old space names (call.ExtractRight name disposition) answer new effects =
+    Extracted (taken_by old space name disposition) space answer new effects
 Done old space names (call.Send message) answer new effects = ⊥
 Done old space names (call.Receive limit large name waited) answer new effects = ⊥
-Done old space names (call.SpaceCreate name disposition) answer new effects = Created (taken_by old space name disposition) answer new effects
+Done old space names (call.SpaceCreate name disposition) answer new effects =
+    Created (taken_by old space name disposition) answer new effects
 Done old space names call.SpaceDestroy answer new effects = Acts (space_destroyed old space names) answer new effects

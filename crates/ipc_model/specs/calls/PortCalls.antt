@@ -98,7 +98,8 @@ references_of n entry =
     else dead_references entry
 
 abbrev pub references_under : Names → ℕ → ℕ → ℕ
-references_under names name n = elim (finmap.get names name) as (λ _. ℕ) [ None ↦ 0 | Some entry ↦ references_of n entry ]
+references_under names name n =
+    elim (finmap.get names name) as (λ _. ℕ) [ None ↦ 0 | Some entry ↦ references_of n entry ]
 
 abbrev pub is_no_right : ℕ → Bool
 is_no_right n = nat_lt 4 n
@@ -131,28 +132,34 @@ bound_of n = if is_right n right.Send then MAX_SEND_REFERENCES else MAX_DEAD_REF
 abbrev pub tests_of_delta : ℕ → ℕ → ℕ → Tests
 tests_of_delta n references delta =
     if is_right n right.Send || is_right n right.DeadName
-    then (sum_is_negative references delta, InvalidValue) ∷ (nat_lt (bound_of n) (sum_of references delta), UrefsOverflow) ∷ []
+    then (sum_is_negative references delta, InvalidValue) ∷
+    (nat_lt (bound_of n) (sum_of references delta), UrefsOverflow) ∷ []
     else (not (is_none_or_minus_one delta), InvalidValue) ∷ []
 
 -- the tests of a right that is copied in, and, where it was taken, of the state after that
 abbrev pub tests_of_taken : KernReturn → Option Taken → (Taken → ℕ → Tests) → Tests
 tests_of_taken code None later = (true, code) ∷ []
-tests_of_taken code (Some taken) later = elim (live_port taken.right.port) as (λ _. Tests) [ None ↦ (true, code) ∷ [] | Some serial ↦ later taken serial ]
+tests_of_taken code (Some taken) later =
+    elim (live_port taken.right.port) as (λ _. Tests) [ None ↦ (true, code) ∷ [] | Some serial ↦ later taken serial ]
 
 abbrev pub tests_of_copy_in : State → ℕ → ℕ → Option Disposition → KernReturn → (Taken → ℕ → Tests) → Tests
 tests_of_copy_in state space name None code later = (true, InvalidValue) ∷ []
-tests_of_copy_in state space name (Some disposition) code later = tests_of_taken code (copy_in state space name disposition) later
+tests_of_copy_in state space name (Some disposition) code later =
+    tests_of_taken code (copy_in state space name disposition) later
 
 abbrev pub names_in : State → ℕ → Names
 names_in state space = elim (finmap.get state.spaces space) as (λ _. Names) [ None ↦ finmap.empty | Some names ↦ names ]
 
 -- the port whose receive right an entry holds is a member of a set
 abbrev pub is_in_some_set : State → Entry → Bool
-is_in_some_set state entry = elim (option_and_then (λ serial. finmap.get state.ports serial) (received_port entry)) as (λ _. Bool) [ None ↦ false | Some port ↦ is_some port.set ]
+is_in_some_set state entry =
+    elim (option_and_then (λ serial. finmap.get state.ports serial) (received_port entry)) as (λ _. Bool)
+    [ None ↦ false | Some port ↦ is_some port.set ]
 
 -- the port stands under another name of the space, by a send or receive right
 abbrev pub stands_elsewhere : Names → ℕ → ℕ → Bool
-stands_elsewhere names name serial = list_any (λ e. is_number (port_held e.1) serial && not (e.0 == name)) (finmap.entries names)
+stands_elsewhere names name serial =
+    list_any (λ e. is_number (port_held e.1) serial && not (e.0 == name)) (finmap.entries names)
 
 -- a name is in use for something that this right can't be merged with: a send-once right merges with nothing, and a
 -- send or receive right only with other rights to its own port
@@ -190,15 +197,19 @@ tests_of_extract space taken serial =
 
 -- MACH_NOTIFY_PORT_DESTROYED, _NO_SENDERS and _DEAD_NAME can be asked for
 abbrev pub is_variant : ℕ → Bool
-is_variant variant = variant == MACH_NOTIFY_PORT_DESTROYED || variant == MACH_NOTIFY_NO_SENDERS || variant == MACH_NOTIFY_DEAD_NAME
+is_variant variant =
+    variant == MACH_NOTIFY_PORT_DESTROYED || variant == MACH_NOTIFY_NO_SENDERS || variant == MACH_NOTIFY_DEAD_NAME
 
 -- the target of the request that a variant asks of an entry, as it stands now
 abbrev pub target_of_port : State → ℕ → Option ℕ → Option ℕ
 target_of_port state variant None = None
-target_of_port state variant (Some serial) = option_and_then (λ (port : PortState). if variant == MACH_NOTIFY_PORT_DESTROYED then port.port_destroyed_target else port.no_senders_target) (finmap.get state.ports serial)
+target_of_port state variant (Some serial) =
+    option_and_then (λ (port : PortState). if variant == MACH_NOTIFY_PORT_DESTROYED then port.port_destroyed_target
+    else port.no_senders_target) (finmap.get state.ports serial)
 
 abbrev pub target_now : State → ℕ → Entry → Option ℕ
-target_now state variant entry = if variant == MACH_NOTIFY_DEAD_NAME then request_of entry else target_of_port state variant (received_port entry)
+target_now state variant entry =
+    if variant == MACH_NOTIFY_DEAD_NAME then request_of entry else target_of_port state variant (received_port entry)
 
 abbrev pub target_under : State → Names → ℕ → ℕ → Option ℕ
 target_under state names variant name = option_and_then (target_now state variant) (finmap.get names name)
@@ -206,7 +217,8 @@ target_under state names variant name = option_and_then (target_now state varian
 -- the tests of a request of this variant
 abbrev pub tests_of_variant : Names → ℕ → ℕ → ℕ → Bool → Tests
 tests_of_variant names name variant sync cancels =
-    if variant == MACH_NOTIFY_PORT_DESTROYED then (not (sync == 0), InvalidValue) ∷ (not (name_is has_receive names name), InvalidRight) ∷ []
+    if variant == MACH_NOTIFY_PORT_DESTROYED
+    then (not (sync == 0), InvalidValue) ∷ (not (name_is has_receive names name), InvalidRight) ∷ []
     else if variant == MACH_NOTIFY_NO_SENDERS then (not (name_is has_receive names name), InvalidRight) ∷ []
     else (name_is is_set names name, InvalidRight)
     ∷ (name_is is_dead names name && (sync == 0 || cancels), InvalidArgument)
@@ -222,12 +234,14 @@ tests_of_request state space name variant sync cancels =
 -- a notification's disposition makes or moves a send-once right
 abbrev pub notify_disposition : ℕ → Option Disposition
 notify_disposition n =
-    if n == number_of_disposition MoveSendOnce then Some MoveSendOnce else if n == number_of_disposition MakeSendOnce then Some MakeSendOnce else None
+    if n == number_of_disposition MoveSendOnce then Some MoveSendOnce else if n == number_of_disposition MakeSendOnce
+    then Some MakeSendOnce else None
 
 abbrev pub tests_of_notify : State → ℕ → ℕ → ℕ → ℕ → ℕ → ℕ → Tests
 tests_of_notify state space name variant sync notify_name disposition =
     if notify_name == MACH_PORT_NULL then tests_of_request state space name variant sync true
-    else tests_of_copy_in state space notify_name (notify_disposition disposition) InvalidCapability (λ taken serial. tests_of_request taken.state space name variant sync false)
+    else tests_of_copy_in state space notify_name (notify_disposition disposition) InvalidCapability
+    (λ taken serial. tests_of_request taken.state space name variant sync false)
 
 -- The tests of a call, in the order in which they are made.
 unfoldable pub tests_of : State → ℕ → Names → Call → Tests
@@ -237,24 +251,35 @@ tests_of state space names (call.Type name) = (is_no_name names name, InvalidNam
 tests_of state space names (call.Rename from to) =
     (is_no_name names from, InvalidName) ∷ (is_null_or_dead to, InvalidValue) ∷ (is_in_use names to, NameExists) ∷ []
 tests_of state space names (call.AllocateName wanted name) =
-    (is_null_or_dead name, InvalidValue) ∷ (not (is_allocatable wanted), InvalidValue) ∷ (is_in_use names name, NameExists)
-    ∷ (names_are_used_up names, NoSpace) ∷ (is_right wanted right.Receive && ports_are_used_up state, ResourceShortage) ∷ []
+    (is_null_or_dead name, InvalidValue) ∷ (not (is_allocatable wanted), InvalidValue) ∷
+    (is_in_use names name, NameExists)
+    ∷ (names_are_used_up names, NoSpace) ∷
+    (is_right wanted right.Receive && ports_are_used_up state, ResourceShortage) ∷ []
 tests_of state space names (call.Allocate wanted) =
-    (not (is_allocatable wanted), InvalidValue) ∷ (names_are_used_up names, NoSpace) ∷ (is_right wanted right.Receive && ports_are_used_up state, ResourceShortage) ∷ []
+    (not (is_allocatable wanted), InvalidValue) ∷ (names_are_used_up names, NoSpace) ∷
+    (is_right wanted right.Receive && ports_are_used_up state, ResourceShortage) ∷ []
 tests_of state space names (call.Destroy name) = (is_no_name names name, InvalidName) ∷ []
 tests_of state space names (call.Deallocate name) =
     (is_no_name names name, InvalidName)
-    ∷ (name_is (λ entry. is_set entry || (has_receive entry && send_references entry == 0)) names name, InvalidRight) ∷ []
-tests_of state space names (call.GetRefs name wanted) = (is_no_right wanted, InvalidValue) ∷ (is_no_name names name, InvalidName) ∷ []
+    ∷ (name_is (λ entry. is_set entry || (has_receive entry && send_references entry == 0)) names name, InvalidRight) ∷
+    []
+tests_of state space names (call.GetRefs name wanted) =
+    (is_no_right wanted, InvalidValue) ∷ (is_no_name names name, InvalidName) ∷ []
 tests_of state space names (call.ModRefs name wanted delta) =
-    (is_no_right wanted, InvalidValue) ∷ (is_no_name names name, InvalidName) ∷ (references_under names name wanted == 0, InvalidRight)
+    (is_no_right wanted, InvalidValue) ∷ (is_no_name names name, InvalidName) ∷
+    (references_under names name wanted == 0, InvalidRight)
     ∷ tests_of_delta wanted (references_under names name wanted) delta
 tests_of state space names (call.SetQlimit name limit) =
-    (nat_lt MAX_QUEUE_LIMIT limit, InvalidValue) ∷ (is_no_name names name, InvalidName) ∷ (not (name_is has_receive names name), InvalidRight) ∷ []
-tests_of state space names (call.SetMscount name count) = (is_no_name names name, InvalidName) ∷ (not (name_is has_receive names name), InvalidRight) ∷ []
-tests_of state space names (call.SetSeqno name seqno) = (is_no_name names name, InvalidName) ∷ (not (name_is has_receive names name), InvalidRight) ∷ []
-tests_of state space names (call.GetReceiveStatus name) = (is_no_name names name, InvalidName) ∷ (not (name_is has_receive names name), InvalidRight) ∷ []
-tests_of state space names (call.GetSetStatus name) = (is_no_name names name, InvalidName) ∷ (not (name_is is_set names name), InvalidRight) ∷ []
+    (nat_lt MAX_QUEUE_LIMIT limit, InvalidValue) ∷ (is_no_name names name, InvalidName) ∷
+    (not (name_is has_receive names name), InvalidRight) ∷ []
+tests_of state space names (call.SetMscount name count) =
+    (is_no_name names name, InvalidName) ∷ (not (name_is has_receive names name), InvalidRight) ∷ []
+tests_of state space names (call.SetSeqno name seqno) =
+    (is_no_name names name, InvalidName) ∷ (not (name_is has_receive names name), InvalidRight) ∷ []
+tests_of state space names (call.GetReceiveStatus name) =
+    (is_no_name names name, InvalidName) ∷ (not (name_is has_receive names name), InvalidRight) ∷ []
+tests_of state space names (call.GetSetStatus name) =
+    (is_no_name names name, InvalidName) ∷ (not (name_is is_set names name), InvalidRight) ∷ []
 tests_of state space names (call.MoveMember member after) =
     (is_no_name names member, InvalidName) ∷ (not (name_is has_receive names member), InvalidRight)
     ∷ (if after == MACH_PORT_NULL
@@ -265,7 +290,8 @@ tests_of state space names (call.RequestNotification name variant sync notify_na
     ∷ (not (notify_name == MACH_PORT_NULL) && is_none (notify_disposition disposition), InvalidValue)
     ∷ tests_of_notify state space name variant sync notify_name disposition
 tests_of state space names (call.InsertRight name right_name disposition) =
-    (is_null_or_dead name, InvalidValue) ∷ tests_of_copy_in state space right_name (disposition_of disposition) InvalidCapability (tests_of_insert space name)
+    (is_null_or_dead name, InvalidValue) ∷ tests_of_copy_in state space right_name
+    (disposition_of disposition) InvalidCapability (tests_of_insert space name)
 tests_of state space names (call.ExtractRight name disposition) =
     (is_none (disposition_of disposition), InvalidValue) ∷ (is_no_name names name, InvalidName)
     ∷ tests_of_copy_in state space name (disposition_of disposition) InvalidRight (tests_of_extract space)
@@ -273,5 +299,6 @@ tests_of state space names (call.Send message) = []
 tests_of state space names (call.Receive limit large name waited) = []
 tests_of state space names (call.SpaceCreate name disposition) =
     (is_none (disposition_of disposition), InvalidValue) ∷ (is_no_name names name, InvalidName)
-    ∷ tests_of_copy_in state space name (disposition_of disposition) InvalidRight (λ taken serial. (nat_le MAX_SPACES (finmap.len state.spaces), ResourceShortage) ∷ [])
+    ∷ tests_of_copy_in state space name (disposition_of disposition) InvalidRight
+    (λ taken serial. (nat_le MAX_SPACES (finmap.len state.spaces), ResourceShortage) ∷ [])
 tests_of state space names call.SpaceDestroy = (space == FIRST_SPACE, Failure) ∷ []

@@ -59,13 +59,15 @@ IsRefusedWith refusal old answer new effects = (answer ≡ refusal) × (new ≡ 
 abbrev pub ActsIn : State → ℕ → Names → Call → Reply → State → List Effect → Type 0
 ActsIn old space names (call.Send message) answer new effects =
     MatchResult (ready_to_send old space message)
-    (λ (ready : Ready). (answer ≡ without_message Success 0 MACH_PORT_NULL) × (new ≡ (sent ready).0) × (effects ≡ (sent ready).1))
+    (λ (ready : Ready). (answer ≡ without_message Success 0 MACH_PORT_NULL) × (new ≡ (sent ready).0)
+    × (effects ≡ (sent ready).1))
     (λ code. IsRefusedWith (without_message code 0 MACH_PORT_NULL) old answer new effects)
 ActsIn old space names (call.Receive limit large name waited) answer new effects =
     Receives old space names (record { limit = limit; large = large; name = name; waited = waited }) answer new effects
 ActsIn old space names c answer new effects =
     RefusedOrDone (first_failing (tests_of old space names c))
-    (λ code. IsRefusedWith (reply.Refused (number_of_call c) code) old answer new effects) (Done old space names c answer new effects)
+    (λ code. IsRefusedWith (reply.Refused (number_of_call c) code) old answer new effects)
+    (Done old space names c answer new effects)
 
 -- A caller whose space is gone is refused before any test.
 abbrev pub ActsFrom : State → ℕ → Option Names → Call → Reply → State → List Effect → Type 0
@@ -76,7 +78,8 @@ ActsFrom old space (Some names) c answer new effects = ActsIn old space names c 
 -- have settled.
 unfoldable pub Step : State → ℕ → Call → Reply → State → Type 0
 Step old space c answer new =
-    (acted : State) × (effects : List Effect) × ActsFrom old space (finmap.get old.spaces space) c answer acted effects × Settles acted effects new
+    (acted : State) × (effects : List Effect) × ActsFrom old space (finmap.get old.spaces space) c answer acted effects
+    × Settles acted effects new
 
 -- a step that leaves the state as it is
 abbrev pub Answer : State → ℕ → Call → Reply → Type 0

@@ -93,7 +93,8 @@ dead_name_of_entry serial name entry = if is_name_of serial entry then dead_name
 
 -- all dead-name notices of a port's death, by space and name
 abbrev pub dead_name_notices : State → ℕ → List Effect
-dead_name_notices state serial = flat_map (λ s. flat_map (λ e. dead_name_of_entry serial e.0 e.1) (finmap.entries s.1)) (finmap.entries state.spaces)
+dead_name_notices state serial =
+    flat_map (λ s. flat_map (λ e. dead_name_of_entry serial e.0 e.1) (finmap.entries s.1)) (finmap.entries state.spaces)
 
 -- what a carried right becomes when a port dies
 abbrev pub carried_after_death : ℕ → PortInMessage → PortInMessage
@@ -137,7 +138,8 @@ release_of_target (Some target) = release kind.SendOnce target ∷ []
 -- What a death adds: the releases of its messages' rights, oldest message first; the dead-name notices; the release of
 -- its no-senders target.
 abbrev pub effects_of_death : State → ℕ → PortState → List Effect
-effects_of_death state serial port = flat_map releases_of port.messages ++ (dead_name_notices state serial ++ release_of_target port.no_senders_target)
+effects_of_death state serial port =
+    flat_map releases_of port.messages ++ (dead_name_notices state serial ++ release_of_target port.no_senders_target)
 
 -- a state, and the effects that a step adds to the list
 abbrev pub Outcome : Type 0
@@ -150,22 +152,27 @@ died state serial port = (after_death state serial, effects_of_death state seria
 abbrev pub notified_no_senders : State → ℕ → PortState → Option ℕ → State
 notified_no_senders state serial port None = state
 notified_no_senders state serial port (Some target) =
-    notified (with_port state serial (λ p. record p { no_senders_target = None })) target (notice.NoSenders port.make_send_count)
+    notified (with_port state serial (λ p. record p { no_senders_target = None })) target
+    (notice.NoSenders port.make_send_count)
 
 abbrev pub send_released : State → ℕ → PortState → State
-send_released state serial port = if send_count state serial == 0 then notified_no_senders state serial port port.no_senders_target else state
+send_released state serial port =
+    if send_count state serial == 0 then notified_no_senders state serial port port.no_senders_target else state
 
 -- a receive right goes to the target of a port-destroyed request, in the notice; the port begins anew, in no set
 abbrev pub sent_to_target : State → ℕ → ℕ → State
 sent_to_target state serial target =
-    notified (with_port state serial (λ p. record p { set = None; sequence_number = 0; make_send_count = 0; port_destroyed_target = None })) target (notice.PortDestroyed serial)
+    notified (with_port state serial
+    (λ p. record p { set = None; sequence_number = 0; make_send_count = 0; port_destroyed_target = None })) target
+    (notice.PortDestroyed serial)
 
 -- A receive right was released: the port leaves its set. A port-destroyed request takes the right along, unless the
 -- right would come back to its own queue; otherwise the port dies.
 abbrev pub receive_released_to : State → ℕ → PortState → Option ℕ → Outcome
 receive_released_to state serial port None = died state serial port
 receive_released_to state serial port (Some target) =
-    if lives state target && not (is_circular state serial target) then (sent_to_target state serial target, []) else died state serial port
+    if lives state target && not (is_circular state serial target) then (sent_to_target state serial target, [])
+    else died state serial port
 
 -- the effect of a release, where the port lives
 abbrev pub released : State → ℕ → PortState → RightKind → Outcome
@@ -185,4 +192,5 @@ effect state (notify target what) = (notified state target what, [])
 -- The list is drained from its front, until nothing is left.
 pub data Settles : State → List Effect → State → Type 0 where
   settled : {state : State} → Settles state [] state
-  next_effect : {state end : State} {first : Effect} {rest : List Effect} → Settles (effect state first).0 (rest ++ (effect state first).1) end → Settles state (first ∷ rest) end
+  next_effect : {state end : State} {first : Effect} {rest : List Effect}
+      → Settles (effect state first).0 (rest ++ (effect state first).1) end → Settles state (first ∷ rest) end

@@ -48,11 +48,13 @@ arguments_encoding (call.SetSeqno name seqno) = word name ++ word seqno
 arguments_encoding (call.GetReceiveStatus name) = word name
 arguments_encoding (call.GetSetStatus name) = word name
 arguments_encoding (call.MoveMember member after) = word member ++ word after
-arguments_encoding (call.RequestNotification name variant sync notify_name disposition) = word name ++ (word variant ++ (word sync ++ (word notify_name ++ word disposition)))
+arguments_encoding (call.RequestNotification name variant sync notify_name disposition) =
+    word name ++ (word variant ++ (word sync ++ (word notify_name ++ word disposition)))
 arguments_encoding (call.InsertRight name right_name disposition) = word name ++ (word right_name ++ word disposition)
 arguments_encoding (call.ExtractRight name disposition) = word name ++ word disposition
 arguments_encoding (call.Send message) = word send_option ++ (word 0 ++ (word 0 ++ (word 0 ++ message)))
-arguments_encoding (call.Receive limit large name waited) = word (receive_option large) ++ (word limit ++ (word name ++ word (number_of_bool waited)))
+arguments_encoding (call.Receive limit large name waited) =
+    word (receive_option large) ++ (word limit ++ (word name ++ word (number_of_bool waited)))
 arguments_encoding (call.SpaceCreate name disposition) = word name ++ word disposition
 arguments_encoding call.SpaceDestroy = []
 
@@ -62,8 +64,12 @@ call_encoding c = word (number_of_call c) ++ arguments_encoding c
 
 abbrev pub status_encoding : ReceiveStatus → List ℕ
 status_encoding status =
-    word status.set ++ (word status.sequence_number ++ (word status.make_send_count ++ (word status.limit ++ (word status.messages
-    ++ (word status.send_once_count ++ (word (number_of_bool status.has_senders) ++ (word (number_of_bool status.has_port_destroyed_request) ++ word (number_of_bool status.has_no_senders_request))))))))
+    word status.set ++ (word status.sequence_number
+    ++ (word status.make_send_count ++ (word status.limit ++ (word status.messages
+    ++ (word status.send_once_count
+    ++ (word (number_of_bool status.has_senders)
+    ++ (word (number_of_bool status.has_port_destroyed_request)
+    ++ word (number_of_bool status.has_no_senders_request))))))))
 
 -- the call's number, the code 0, and the results
 abbrev pub done_encoding : ℕ → List ℕ → List ℕ
@@ -74,15 +80,20 @@ done_encoding number results = word number ++ (word 0 ++ results)
 unfoldable pub reply_encoding : Reply → List ℕ
 reply_encoding (reply.Refused number code) = word number ++ word (number_of code)
 reply_encoding (reply.Done number) = done_encoding number []
-reply_encoding (reply.Names names) = done_encoding MACH_PORT_NAMES (word (length names) ++ flat_map (λ (n : NamedType). word n.name ++ word n.bits) names)
+reply_encoding (reply.Names names) =
+    done_encoding MACH_PORT_NAMES (word (length names) ++ flat_map
+    (λ (n : NamedType). word n.name ++ word n.bits) names)
 reply_encoding (reply.Type bits) = done_encoding MACH_PORT_TYPE (word bits)
 reply_encoding (reply.Allocate name) = done_encoding MACH_PORT_ALLOCATE (word name)
 reply_encoding (reply.References count) = done_encoding MACH_PORT_GET_REFS (word count)
 reply_encoding (reply.ReceiveStatus status) = done_encoding MACH_PORT_GET_RECEIVE_STATUS (status_encoding status)
-reply_encoding (reply.SetStatus members) = done_encoding MACH_PORT_GET_SET_STATUS (word (length members) ++ flat_map word members)
+reply_encoding (reply.SetStatus members) =
+    done_encoding MACH_PORT_GET_SET_STATUS (word (length members) ++ flat_map word members)
 reply_encoding (reply.PreviousTarget name) = done_encoding MACH_PORT_REQUEST_NOTIFICATION (word name)
-reply_encoding (reply.Extracted name kind) = done_encoding MACH_PORT_EXTRACT_RIGHT (word name ++ word (number_of_kind kind))
-reply_encoding (reply.Message code size member message) = word MACH_MSG ++ (word (number_of code) ++ (word size ++ (word member ++ message)))
+reply_encoding (reply.Extracted name kind) =
+    done_encoding MACH_PORT_EXTRACT_RIGHT (word name ++ word (number_of_kind kind))
+reply_encoding (reply.Message code size member message) =
+    word MACH_MSG ++ (word (number_of code) ++ (word size ++ (word member ++ message)))
 reply_encoding (reply.SpaceCreated space name) = done_encoding SPACE_CREATE (word space ++ word name)
 
 -- the number of the call that a reply belongs to
@@ -110,7 +121,9 @@ canonical_record entry = record entry { call = canonical_call entry.call }
 
 -- a record with its number in its epoch: the caller's space, the frame of the kept call, and the frame of the reply
 unfoldable pub record_encoding : ℕ → Record → List ℕ
-record_encoding number entry = long_word number ++ (word entry.space ++ (frame_encoding (call_encoding (canonical_call entry.call)) ++ frame_encoding (reply_encoding entry.reply)))
+record_encoding number entry =
+    long_word number ++ (word entry.space
+    ++ (frame_encoding (call_encoding (canonical_call entry.call)) ++ frame_encoding (reply_encoding entry.reply)))
 
 -- records that follow one another, numbered from n
 abbrev pub records_encoding : ℕ → List Record → List ℕ
@@ -137,7 +150,8 @@ FitsCall (call.GetSetStatus name) = name < 2 ^ 32
 FitsCall (call.MoveMember member after) = (member < 2 ^ 32) × (after < 2 ^ 32)
 FitsCall (call.RequestNotification name variant sync notify_name disposition) =
     (name < 2 ^ 32) × (variant < 2 ^ 32) × (sync < 2 ^ 32) × (notify_name < 2 ^ 32) × (disposition < 2 ^ 32)
-FitsCall (call.InsertRight name right_name disposition) = (name < 2 ^ 32) × (right_name < 2 ^ 32) × (disposition < 2 ^ 32)
+FitsCall (call.InsertRight name right_name disposition) =
+    (name < 2 ^ 32) × (right_name < 2 ^ 32) × (disposition < 2 ^ 32)
 FitsCall (call.ExtractRight name disposition) = (name < 2 ^ 32) × (disposition < 2 ^ 32)
 FitsCall (call.Send message) = AreBytes message
 FitsCall (call.Receive limit large name waited) = (limit < 2 ^ 32) × (name < 2 ^ 32)
@@ -148,12 +162,14 @@ FitsCall call.SpaceDestroy = Unit {0}
 abbrev pub FitsReply : Reply → Type 0
 FitsReply (reply.Refused number code) = number < 2 ^ 32
 FitsReply (reply.Done number) = number < 2 ^ 32
-FitsReply (reply.Names names) = (length names < 2 ^ 32) × All (λ (n : NamedType). (n.name < 2 ^ 32) × (n.bits < 2 ^ 32)) names
+FitsReply (reply.Names names) =
+    (length names < 2 ^ 32) × All (λ (n : NamedType). (n.name < 2 ^ 32) × (n.bits < 2 ^ 32)) names
 FitsReply (reply.Type bits) = bits < 2 ^ 32
 FitsReply (reply.Allocate name) = name < 2 ^ 32
 FitsReply (reply.References count) = count < 2 ^ 32
 FitsReply (reply.ReceiveStatus status) =
-    (status.set < 2 ^ 32) × (status.sequence_number < 2 ^ 32) × (status.make_send_count < 2 ^ 32) × (status.limit < 2 ^ 32) × (status.messages < 2 ^ 32) × (status.send_once_count < 2 ^ 32)
+    (status.set < 2 ^ 32) × (status.sequence_number < 2 ^ 32) × (status.make_send_count < 2 ^ 32)
+    × (status.limit < 2 ^ 32) × (status.messages < 2 ^ 32) × (status.send_once_count < 2 ^ 32)
 FitsReply (reply.SetStatus members) = (length members < 2 ^ 32) × All (λ name. name < 2 ^ 32) members
 FitsReply (reply.PreviousTarget name) = name < 2 ^ 32
 FitsReply (reply.Extracted name kind) = name < 2 ^ 32
@@ -233,4 +249,5 @@ pub record IsRecord (entry : Record) : Type 0 where
   pub space : entry.space < 2 ^ 32
   pub call : IsCanonicalCall entry.call
   pub reply : IsRecordedReply entry.call entry.reply
-  pub frames : (length (call_encoding entry.call) ≤ MAX_FRAME_CONTENT) × (length (reply_encoding entry.reply) ≤ MAX_FRAME_CONTENT)
+  pub frames : (length (call_encoding entry.call) ≤ MAX_FRAME_CONTENT)
+      × (length (reply_encoding entry.reply) ≤ MAX_FRAME_CONTENT)

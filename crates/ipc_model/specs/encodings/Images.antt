@@ -22,7 +22,8 @@ number_or_0 (Some n) = n
 -- after an entry's name: a byte for its kind, and the rest
 abbrev pub entry_encoding : Entry → List ℕ
 entry_encoding (Port rights) =
-    1 ∷ (long_word rights.port ++ (number_of_bool rights.receive ∷ (word rights.send ++ long_word (number_or_0 rights.dead_name_target))))
+    1 ∷ (long_word rights.port ++
+    (number_of_bool rights.receive ∷ (word rights.send ++ long_word (number_or_0 rights.dead_name_target))))
 entry_encoding (SendOnce port target) = 2 ∷ (long_word port ++ long_word (number_or_0 target))
 entry_encoding Set = 3 ∷ []
 entry_encoding (Dead references) = 4 ∷ word references
@@ -46,8 +47,10 @@ reply_right_encoding (Some right) = carried_encoding right
 
 abbrev pub message_image : Message → List ℕ
 message_image message =
-    number_of_kind message.destination ∷ (reply_right_encoding message.reply ++ (word message.id ++ (word (message_size message)
-    ++ (number_of_bool message.complex ∷ (word (length message.rights) ++ (flat_map carried_encoding message.rights ++ message.body))))))
+    number_of_kind message.destination ∷
+    (reply_right_encoding message.reply ++ (word message.id ++ (word (message_size message)
+    ++ (number_of_bool message.complex ∷
+    (word (length message.rights) ++ (flat_map carried_encoding message.rights ++ message.body))))))
 
 abbrev pub port_encoding : PortState → List ℕ
 port_encoding port =
@@ -60,4 +63,5 @@ unfoldable pub image_encoding : State → List ℕ
 image_encoding state =
     long_word state.next
     ++ (word (finmap.len state.spaces) ++ (flat_map (λ e. word e.0 ++ names_encoding e.1) (finmap.entries state.spaces)
-    ++ (word (finmap.len state.ports) ++ flat_map (λ e. long_word e.0 ++ port_encoding e.1) (finmap.entries state.ports))))
+    ++ (word (finmap.len state.ports) ++ flat_map
+    (λ e. long_word e.0 ++ port_encoding e.1) (finmap.entries state.ports))))

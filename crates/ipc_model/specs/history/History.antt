@@ -49,11 +49,16 @@ pub record HasPlace (history : List Record) (old : Session) (c : Call) (answer :
   pub unseen : old.seen ≤ place
   pub there : slice_get history place ≡ Some (record { space = old.space; call = c; reply = answer })
   pub seen : place < new.seen
-  pub after : new ≡ record old { seen = new.seen; tickets = old.tickets ++ new.seen ∷ []; places = old.places ++ place ∷ [] }
+  pub after : new ≡ record old {
+    seen = new.seen;
+    tickets = old.tickets ++ new.seen ∷ [];
+    places = old.places ++ place ∷ [];
+  }
 
 -- Every other reply is an answer in the state after some prefix of the history, no shorter than what its session had
 -- seen before. The session has then seen this prefix.
-pub record IsAnswered (base : State) (history : List Record) (old : Session) (c : Call) (answer : Reply) (new : Session) : Type 0 where
+pub record IsAnswered (base : State) (history : List Record) (old : Session) (c : Call) (answer : Reply)
+    (new : Session) : Type 0 where
   pub unrecorded : has_record c answer ≡ false
   pub beginning : ℕ
   pub unseen : old.seen ≤ beginning
@@ -61,7 +66,11 @@ pub record IsAnswered (base : State) (history : List Record) (old : Session) (c 
   pub run : Run base (take beginning history) state
   pub answered : Answer state old.space c answer
   pub seen : beginning ≤ new.seen
-  pub after : new ≡ record old { space = space_after old.space c answer; seen = new.seen; tickets = old.tickets ++ new.seen ∷ [] }
+  pub after : new ≡ record old {
+    space = space_after old.space c answer;
+    seen = new.seen;
+    tickets = old.tickets ++ new.seen ∷ [];
+  }
 
 -- a session was given a ticket whose reply saw this many records
 abbrev pub has_ticket : Session → ℕ → Bool
@@ -73,17 +82,20 @@ redemption session seen = if has_ticket session seen then redeemed seen else red
 
 -- this many records, or more before, are then acknowledged to the session, and it has seen them
 abbrev pub IsTold : Session → ℕ → Session → Type 0
-IsTold old seen new = (seen ≤ new.seen) × (new ≡ record old { seen = new.seen; acknowledged = max old.acknowledged seen })
+IsTold old seen new =
+    (seen ≤ new.seen) × (new ≡ record old { seen = new.seen; acknowledged = max old.acknowledged seen })
 
 -- what an operation makes of a session; no reply is redeemed that saw more than the session has then seen
 abbrev pub Leads : State → List Record → Session → Operation → Session → Type 0
-Leads base history old (called c answer) new = HasPlace history old c answer new ⊎ IsAnswered base history old c answer new
+Leads base history old (called c answer) new =
+    HasPlace history old c answer new ⊎ IsAnswered base history old c answer new
 Leads base history old (redeemed seen) new = (has_ticket old seen ≡ true) × IsTold old seen new
 Leads base history old (redeemed_for_another seen) new = IsTold old seen new
 Leads base history old looked new = new ≡ record old { seen = new.seen }
 
 -- A session after one more operation: it forgets nothing that it saw, and sees no more than there is.
-pub record After (base : State) (history : List Record) (old : Session) (operation : Operation) (new : Session) : Type 0 where
+pub record After (base : State) (history : List Record) (old : Session) (operation : Operation)
+    (new : Session) : Type 0 where
   pub leads : Leads base history old operation new
   pub more : old.seen ≤ new.seen
   pub within : new.seen ≤ length history
@@ -91,7 +103,8 @@ pub record After (base : State) (history : List Record) (old : Session) (operati
 -- and after several, one after another
 abbrev pub AfterAll : State → List Record → Session → List Operation → Session → Type 0
 AfterAll base history old [] new = new ≡ old
-AfterAll base history old (first ∷ operations) new = (mid : Session) × After base history old first mid × AfterAll base history mid operations new
+AfterAll base history old (first ∷ operations) new =
+    (mid : Session) × After base history old first mid × AfterAll base history mid operations new
 
 -- A new session is attached to the first space, nothing is acknowledged to it, and it has seen a prefix of the history.
 pub record IsNew (history : List Record) (session : Session) : Type 0 where

@@ -55,7 +55,8 @@ padded n = (((n + 7) / 8 + 3) / 4) * 4
 
 -- MACH_MSG_TYPE_MOVE_RECEIVE to MACH_MSG_TYPE_MAKE_SEND_ONCE
 abbrev pub is_port_type : ℕ → Bool
-is_port_type type_name = nat_le (number_of_disposition MoveReceive) type_name && nat_le type_name (number_of_disposition MakeSendOnce)
+is_port_type type_name =
+    nat_le (number_of_disposition MoveReceive) type_name && nat_le type_name (number_of_disposition MakeSendOnce)
 
 abbrev pub data_length : List ℕ → Bool → ℕ
 data_length bytes long = padded (number_in bytes long * bits_in bytes long)
@@ -68,7 +69,11 @@ tests_of_item bytes =
     (nat_lt (length bytes) 4, SendMsgTooSmall)
     ∷ (long && nat_lt (length bytes) 12, SendMsgTooSmall)
     ∷ (not (is_inline w), SendInvalidMemory)
-    ∷ (has_other_bit w || (long && not (w % 2 ^ 28 == 0)) || (is_port_type (type_name_in bytes long) && not (bits_in bytes long == 32)), SendInvalidType)
+    ∷ (
+      has_other_bit w || (long && not (w % 2 ^ 28 == 0)) ||
+          (is_port_type (type_name_in bytes long) && not (bits_in bytes long == 32)),
+      SendInvalidType,
+    )
     ∷ (nat_lt (length bytes) (descriptor_length long + data_length bytes long), SendMsgTooSmall)
     ∷ []
 
@@ -90,7 +95,8 @@ items_within zero bytes = Ok []
 items_within (suc n) [] = Ok []
 items_within (suc n) (b ∷ bytes) =
     let long : Bool = is_long_form (little_number 4 (b ∷ bytes)) in
-    unless_failing (tests_of_item (b ∷ bytes)) (and_then (items_within n (after_item (b ∷ bytes) long)) (λ items. Ok (item_of (b ∷ bytes) long ∷ items)))
+    unless_failing (tests_of_item (b ∷ bytes))
+    (and_then (items_within n (after_item (b ∷ bytes) long)) (λ items. Ok (item_of (b ∷ bytes) long ∷ items)))
 
 -- The items of a body, or the code of its leftmost fault.
 unfoldable pub items_of : List ℕ → Result (List Item) KernReturn
@@ -99,7 +105,8 @@ items_of body = items_within (length body) body
 -- the bytes of an item
 abbrev pub descriptor_encoding : Item → Bool → List ℕ
 descriptor_encoding item false = word (item.type_name + item.bits * 2 ^ 8 + item.number * 2 ^ 16 + 2 ^ 28)
-descriptor_encoding item true = word (2 ^ 28 + 2 ^ 29) ++ (little_bytes 2 item.type_name ++ (little_bytes 2 item.bits ++ word item.number))
+descriptor_encoding item true =
+    word (2 ^ 28 + 2 ^ 29) ++ (little_bytes 2 item.type_name ++ (little_bytes 2 item.bits ++ word item.number))
 
 abbrev pub item_encoding : Item → List ℕ
 item_encoding item = descriptor_encoding item item.is_long ++ item.content
@@ -148,17 +155,21 @@ names_of_item item = if is_port_item item then words_of item.number item.content
 
 -- the number of a port type as received; other types stay as they are
 abbrev pub received_type : ℕ → ℕ
-received_type n = elim (disposition_of n) as (λ _. ℕ) [ None ↦ n | Some disposition ↦ number_of_kind (received_kind disposition) ]
+received_type n =
+    elim (disposition_of n) as (λ _. ℕ) [ None ↦ n | Some disposition ↦ number_of_kind (received_kind disposition) ]
 
 -- A port item as a queued message has it: its type as received, and 0 in each port's place.
 abbrev pub as_stored : Item → Item
-as_stored item = if is_port_item item then record item { type_name = received_type item.type_name; content = replicate (4 * item.number) 0 } else item
+as_stored item =
+    if is_port_item item then record item
+    { type_name = received_type item.type_name; content = replicate (4 * item.number) 0 } else item
 
 -- Items with these names in the places of their ports, from the left.
 abbrev pub filled : List Item → List ℕ → List Item
 filled [] names = []
 filled (item ∷ items) names =
-    if is_port_item item then record item { content = flat_map word (take item.number names) } ∷ filled items (drop item.number names) else item ∷ filled items names
+    if is_port_item item then record item { content = flat_map word (take item.number names) } ∷ filled items
+    (drop item.number names) else item ∷ filled items names
 
 abbrev pub body_filled : Result (List Item) KernReturn → List ℕ → List ℕ → List ℕ
 body_filled (Ok items) body names = items_encoding (filled items names)

@@ -70,4 +70,5 @@ pub record HasUsedParts (bytes : List ℕ) (parts : UsedParts) : Type 0 where
 -- a message's bytes
 abbrev pub message_encoding : ℕ → ℕ → ℕ → ℕ → ℕ → List ℕ → List ℕ
 message_encoding bits remote local seqno id body =
-    word bits ++ (word (header_length + length body) ++ (word remote ++ (word local ++ (word seqno ++ (word id ++ body)))))
+    word bits ++ (word (header_length + length body)
+    ++ (word remote ++ (word local ++ (word seqno ++ (word id ++ body)))))

@@ -45,4 +45,12 @@ notice_message (PortDestroyed serial) = record {
   rights = (record { kind = kind.Receive; port = Live serial }) ∷ [];
   body = notice_body (PortDestroyed serial);
 }
-notice_message notice = record { destination = kind.SendOnce; reply = None; id = notice_id notice; complex = false; rights = []; body = notice_body notice }
+notice_message notice =
+    record {
+      destination = kind.SendOnce;
+      reply = None;
+      id = notice_id notice;
+      complex = false;
+      rights = [];
+      body = notice_body notice;
+    }

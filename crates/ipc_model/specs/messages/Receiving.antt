@@ -44,7 +44,9 @@ sources state names name (Some (Dead references)) = None
 
 -- the port whose receive right a name holds
 abbrev pub port_under : State → Names → ℕ → Option PortState
-port_under state names name = option_and_then (λ (serial : ℕ). finmap.get state.ports serial) (option_and_then received_port (finmap.get names name))
+port_under state names name =
+    option_and_then (λ (serial : ℕ). finmap.get state.ports serial)
+    (option_and_then received_port (finmap.get names name))
 
 -- the message that the port under a name would give next
 abbrev pub oldest : List Message → Option Message
@@ -52,16 +54,19 @@ oldest [] = None
 oldest (message ∷ messages) = Some message
 
 abbrev pub oldest_under : State → Names → ℕ → Option Message
-oldest_under state names name = option_and_then (λ (port : PortState). oldest port.messages) (port_under state names name)
+oldest_under state names name =
+    option_and_then (λ (port : PortState). oldest port.messages) (port_under state names name)
 
 -- a port that is in a set gives messages only through the set
 abbrev pub is_in_set : State → Names → ℕ → Bool
-is_in_set state names name = elim (port_under state names name) as (λ _. Bool) [ None ↦ false | Some port ↦ is_some port.set ]
+is_in_set state names name =
+    elim (port_under state names name) as (λ _. Bool) [ None ↦ false | Some port ↦ is_some port.set ]
 
 -- no port among these has a message
 abbrev pub all_empty : State → Names → List ℕ → Bool
 all_empty state names [] = true
-all_empty state names (name ∷ others) = if is_some (oldest_under state names name) then false else all_empty state names others
+all_empty state names (name ∷ others) =
+    if is_some (oldest_under state names name) then false else all_empty state names others
 
 -- The code with which an attempt is refused before it looks at a message. After a wait the name or the set may have
 -- changed.
@@ -73,11 +78,14 @@ refusal_of_sources state names receipt (Some among) =
     else None
 
 abbrev pub receive_refusal : State → Names → Receipt → Option KernReturn
-receive_refusal state names receipt = refusal_of_sources state names receipt (sources state names receipt.name (finmap.get names receipt.name))
+receive_refusal state names receipt =
+    refusal_of_sources state names receipt (sources state names receipt.name (finmap.get names receipt.name))
 
 -- the state without a port's oldest message, and its next sequence number
 abbrev pub without_oldest : State → ℕ → State
-without_oldest state serial = with_port state serial (λ port. record port { messages = drop 1 port.messages; sequence_number = next_count port.sequence_number })
+without_oldest state serial =
+    with_port state serial (λ port. record port
+    { messages = drop 1 port.messages; sequence_number = next_count port.sequence_number })
 
 -- The destination right of a message that was taken out is consumed: a send right is released, a send-once right
 -- vanishes.
@@ -101,7 +109,8 @@ reply_kind_number (Some right) = number_of_kind right.kind
 
 -- the bits as received: the kind of the reply right, that of the destination, and whether the body has ports
 abbrev pub received_bits : Message → ℕ
-received_bits message = reply_kind_number message.reply + number_of_kind message.destination * 2 ^ 8 + complex_bit message.complex
+received_bits message =
+    reply_kind_number message.reply + number_of_kind message.destination * 2 ^ 8 + complex_bit message.complex
 
 abbrev pub first_name : List ℕ → ℕ
 first_name [] = MACH_PORT_NULL
@@ -118,12 +127,14 @@ body_names (Some right) given = drop 1 given
 
 -- a body's bytes as received: names stand in the places of its ports
 abbrev pub received_body : Message → List ℕ → List ℕ
-received_body message names = if message.complex then body_filled (items_of message.body) message.body names else message.body
+received_body message names =
+    if message.complex then body_filled (items_of message.body) message.body names else message.body
 
 -- A message as received under its port's name `member`, where its rights got these names.
 abbrev pub received_encoding : Message → ℕ → ℕ → List ℕ → List ℕ
 received_encoding message member sequence_number given =
-    message_encoding (received_bits message) (reply_name message.reply given) member sequence_number message.id (received_body message (body_names message.reply given))
+    message_encoding (received_bits message) (reply_name message.reply given) member sequence_number message.id
+    (received_body message (body_names message.reply given))
 
 -- the reply where no message is received: a code, and the size and the port's name of a message that it reports
 abbrev pub without_message : KernReturn → ℕ → ℕ → Reply
@@ -141,7 +152,8 @@ TooLarge old member serial message large answer new effects =
 abbrev pub Received : State → ℕ → Names → ℕ → ℕ → PortState → Message → Reply → State → List Effect → Type 0
 Received old space names member serial port message answer new effects =
     (given : List ℕ) × (after : Names) × Arrives names (arriving message) given after
-    × (answer ≡ reply.Message Success (message_size message) member (received_encoding message member port.sequence_number given))
+    × (answer ≡ reply.Message Success (message_size message) member
+    (received_encoding message member port.sequence_number given))
     × (new ≡ with_names (without_oldest old serial) space after)
     × (effects ≡ destination_consumed message.destination serial)
 
@@ -163,7 +175,8 @@ source_names (Some among) = among
 
 -- a name holds the receive right of a port
 abbrev pub HoldsReceiveRight : Names → ℕ → ℕ → Type 0
-HoldsReceiveRight names name serial = (entry : Entry) × (finmap.get names name ≡ Some entry) × (received_port entry ≡ Some serial)
+HoldsReceiveRight names name serial =
+    (entry : Entry) × (finmap.get names name ≡ Some entry) × (received_port entry ≡ Some serial)
 
 -- A receive takes the oldest message of one of its sources; the reply names the source.
 abbrev pub Receives : State → ℕ → Names → Receipt → Reply → State → List Effect → Type 0
@@ -171,6 +184,7 @@ Receives old space names receipt answer new effects =
     MatchOption (receive_refusal old names receipt)
     ((member : ℕ) × (serial : ℕ) × (port : PortState) × (message : Message) × (later : List Message)
     × Contains (source_names (sources old names receipt.name (finmap.get names receipt.name))) member
-    × HoldsReceiveRight names member serial × (finmap.get old.ports serial ≡ Some port) × (port.messages ≡ message ∷ later)
+    × HoldsReceiveRight names member serial × (finmap.get old.ports serial ≡ Some port)
+    × (port.messages ≡ message ∷ later)
     × TakesOut old space names receipt member serial port message answer new effects)
     (λ code. (answer ≡ without_message code 0 MACH_PORT_NULL) × (new ≡ old) × (effects ≡ []))

@@ -37,15 +37,24 @@ passed name = if name == MACH_PORT_NULL then in_message.Null else in_message.Dea
 abbrev pub take_right : ℕ → ℕ → Disposition → TakenRights → Option TakenRights
 take_right space name disposition taken =
     if is_null_or_dead name
-    then Some (record taken { rights = taken.rights ++ (record { kind = received_kind disposition; port = passed name }) ∷ [] })
-    else option_map (λ (next : Taken). record { rights = taken.rights ++ next.right ∷ []; state = next.state; notices = taken.notices ++ next.notices })
+    then Some (record taken {
+      rights = taken.rights
+          ++ (record { kind = received_kind disposition; port = passed name }) ∷ [];
+    })
+    else option_map (λ (next : Taken).
+    record {
+      rights = taken.rights ++ next.right ∷ [];
+      state = next.state;
+      notices = taken.notices ++ next.notices;
+    })
     (copy_in taken.state space name disposition)
 
 -- the rights of names, from the left
 abbrev pub take_rights : ℕ → Disposition → List ℕ → TakenRights → Option TakenRights
 take_rights space disposition [] taken = Some taken
 take_rights space disposition (name ∷ names) taken =
-    elim (take_right space name disposition taken) as (λ _. Option TakenRights) [ None ↦ None | Some next ↦ take_rights space disposition names next ]
+    elim (take_right space name disposition taken) as (λ _. Option TakenRights)
+    [ None ↦ None | Some next ↦ take_rights space disposition names next ]
 
 abbrev pub take_item : ℕ → Item → Option Disposition → TakenRights → Option TakenRights
 take_item space item None taken = Some taken
@@ -55,7 +64,8 @@ take_item space item (Some disposition) taken = take_rights space disposition (n
 abbrev pub take_items : ℕ → List Item → TakenRights → Option TakenRights
 take_items space [] taken = Some taken
 take_items space (item ∷ items) taken =
-    elim (take_item space item (disposition_of item.type_name) taken) as (λ _. Option TakenRights) [ None ↦ None | Some next ↦ take_items space items next ]
+    elim (take_item space item (disposition_of item.type_name) taken) as (λ _. Option TakenRights)
+    [ None ↦ None | Some next ↦ take_items space items next ]
 
 -- The rights of a message's header: the destination, by a right to a port that lives, and the reply right.
 pub record TakenHeader : Type 0 where
@@ -95,7 +105,11 @@ abbrev pub take_reply : State → ℕ → ℕ → Option Disposition → Result 
 take_reply state space name None = Ok (record { reply = None; state = state; notices = [] })
 take_reply state space name (Some disposition) =
     if is_null_or_dead name
-    then Ok (record { reply = Some (record { kind = received_kind disposition; port = passed name }); state = state; notices = [] })
+    then Ok (record {
+      reply = Some (record { kind = received_kind disposition; port = passed name });
+      state = state;
+      notices = [];
+    })
     else and_then (or_refused SendInvalidReply (copy_in state space name disposition)) (λ (taken : Taken).
     Ok (record { reply = Some taken.right; state = taken.state; notices = taken.notices }))
 
@@ -109,10 +123,22 @@ take_header state space remote destination local reply =
     if reply_goes_first destination reply
     then and_then (take_reply state space local reply) (λ (first : TakenReply).
     and_then (take_destination first.state space remote destination) (λ (second : Taken × ℕ).
-    Ok (record { kind = second.0.right.kind; port = second.1; reply = first.reply; state = second.0.state; notices = first.notices ++ second.0.notices })))
+    Ok (record {
+      kind = second.0.right.kind;
+      port = second.1;
+      reply = first.reply;
+      state = second.0.state;
+      notices = first.notices ++ second.0.notices;
+    })))
     else and_then (take_destination state space remote destination) (λ (first : Taken × ℕ).
     and_then (take_reply first.0.state space local reply) (λ (second : TakenReply).
-    Ok (record { kind = first.0.right.kind; port = first.1; reply = second.reply; state = second.state; notices = first.0.notices ++ second.notices })))
+    Ok (record {
+      kind = first.0.right.kind;
+      port = first.1;
+      reply = second.reply;
+      state = second.state;
+      notices = first.0.notices ++ second.notices;
+    })))
 
 -- the items of a body; without MACH_MSGH_BITS_COMPLEX the body isn't read, and has none
 abbrev pub items_if_complex : Bool → List ℕ → Result (List Item) KernReturn
@@ -123,7 +149,9 @@ abbrev pub ports_in : List Item → ℕ
 ports_in items = length (flat_map names_of_item items)
 
 abbrev pub tests_of_size : ℕ → Tests
-tests_of_size size = (nat_lt size header_length || not (size % 4 == 0), SendMsgTooSmall) ∷ (nat_lt MAX_MESSAGE_SIZE size, SendNoBuffer) ∷ []
+tests_of_size size =
+    (nat_lt size header_length || not (size % 4 == 0), SendMsgTooSmall) ∷ (nat_lt MAX_MESSAGE_SIZE size, SendNoBuffer) ∷
+    []
 
 -- a disposition for a header names a send or send-once right
 abbrev pub header_disposition : ℕ → Option Disposition
@@ -133,7 +161,8 @@ header_disposition n = if n == number_of_disposition MoveReceive then None else 
 abbrev pub reply_disposition : ℕ → ℕ → Result (Option Disposition) KernReturn
 reply_disposition n name =
     if n == 0 && name == MACH_PORT_NULL then Ok None
-    else and_then (or_refused SendInvalidHeader (header_disposition n)) (λ (disposition : Disposition). Ok (Some disposition))
+    else and_then (or_refused SendInvalidHeader (header_disposition n))
+    (λ (disposition : Disposition). Ok (Some disposition))
 
 -- A message that is ready to be queued, and at which port, once everything was taken for it.
 pub record Ready : Type 0 where
@@ -159,16 +188,22 @@ ready_message parts items header taken = record {
 
 -- the queue holds as many messages as its limit, or more; a message by a send-once right is queued all the same
 abbrev pub is_full : State → ℕ → Bool
-is_full state serial = elim (finmap.get state.ports serial) as (λ _. Bool) [ None ↦ false | Some port ↦ nat_le port.limit (length port.messages) ]
+is_full state serial =
+    elim (finmap.get state.ports serial) as (λ _. Bool)
+    [ None ↦ false | Some port ↦ nat_le port.limit (length port.messages) ]
 
 abbrev pub tests_of_queue : Ready → Tests
-tests_of_queue ready = (is_full ready.state ready.port && not (same_kind ready.message.destination kind.SendOnce), SendTimedOut) ∷ []
+tests_of_queue ready =
+    (is_full ready.state ready.port && not (same_kind ready.message.destination kind.SendOnce), SendTimedOut) ∷ []
 
-abbrev pub ready_of_items : State → ℕ → UsedParts → Disposition → Option Disposition → List Item → Result Ready KernReturn
+abbrev pub ready_of_items : State → ℕ → UsedParts → Disposition → Option Disposition → List Item
+    → Result Ready KernReturn
 ready_of_items state space parts destination reply items =
-    unless_failing ((nat_lt MAX_MESSAGE_PORTS (ports_in items), SendNoBuffer) ∷ (is_null_or_dead parts.remote, SendInvalidDest) ∷ [])
+    unless_failing ((nat_lt MAX_MESSAGE_PORTS (ports_in items), SendNoBuffer) ∷
+    (is_null_or_dead parts.remote, SendInvalidDest) ∷ [])
     (and_then (take_header state space parts.remote destination parts.local reply) (λ (header : TakenHeader).
-    and_then (or_refused SendInvalidRight (take_items space items (record { rights = []; state = header.state; notices = [] }))) (λ (taken : TakenRights).
+    and_then (or_refused SendInvalidRight
+    (take_items space items (record { rights = []; state = header.state; notices = [] }))) (λ (taken : TakenRights).
     let ready : Ready = ready_message parts items header taken in
     unless_failing (tests_of_queue ready) (Ok ready))))
 
@@ -177,9 +212,11 @@ ready_of_items state space parts destination reply items =
 abbrev pub ready_by_parts : State → ℕ → UsedParts → Result Ready KernReturn
 ready_by_parts state space parts =
     unless_failing (tests_of_size parts.size)
-    (and_then (or_refused SendInvalidHeader (header_disposition parts.remote_disposition)) (λ (destination : Disposition).
+    (and_then (or_refused SendInvalidHeader (header_disposition parts.remote_disposition))
+    (λ (destination : Disposition).
     and_then (reply_disposition parts.local_disposition parts.local) (λ (reply : Option Disposition).
-    and_then (items_if_complex parts.complex parts.body) (λ (items : List Item). ready_of_items state space parts destination reply items))))
+    and_then (items_if_complex parts.complex parts.body)
+    (λ (items : List Item). ready_of_items state space parts destination reply items))))
 
 -- the same, of a task's bytes
 unfoldable pub ready_to_send : State → ℕ → List ℕ → Result Ready KernReturn
@@ -188,7 +225,8 @@ ready_to_send state space bytes = ready_by_parts state space (used_parts bytes)
 -- a receive right in the body would travel to its own queue
 abbrev pub goes_in_circle : State → ℕ → CarriedRight → Bool
 goes_in_circle state queue carried =
-    same_kind carried.kind kind.Receive && elim (live_port carried.port) as (λ _. Bool) [ None ↦ false | Some serial ↦ is_circular state serial queue ]
+    same_kind carried.kind kind.Receive && elim (live_port carried.port) as (λ _. Bool)
+    [ None ↦ false | Some serial ↦ is_circular state serial queue ]
 
 -- The message is queued. If it would carry a receive right in a circle, it is destroyed, which releases its
 -- destination, its reply right and the rights of its body, in this order.

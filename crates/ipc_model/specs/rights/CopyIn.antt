@@ -21,14 +21,16 @@ pub record Taken : Type 0 where
 
 -- the state in which a name stands for this; a name that is left without a right ceases to be
 abbrev pub with_left : State → ℕ → ℕ → Entry → State
-with_left state space name entry = if is_empty_entry entry then without_name state space name else with_entry state space name entry
+with_left state space name entry =
+    if is_empty_entry entry then without_name state space name else with_entry state space name entry
 
 abbrev pub notices_of_left : ℕ → Entry → List Effect
 notices_of_left name entry = if is_empty_entry entry then port_deleted name (request_of entry) else []
 
 -- a right was taken and this is what is left of its name
 abbrev pub taken_leaving : State → ℕ → ℕ → CarriedRight → Entry → Taken
-taken_leaving state space name right entry = record { right = right; state = with_left state space name entry; notices = notices_of_left name entry }
+taken_leaving state space name right entry =
+    record { right = right; state = with_left state space name entry; notices = notices_of_left name entry }
 
 -- a right was taken and its name is as before
 abbrev pub taken_keeping : State → CarriedRight → Taken
@@ -36,42 +38,59 @@ taken_keeping state right = record { right = right; state = state; notices = [] 
 
 -- a moved receive right leaves its set and loses its sequence number and make-send count; requests stay with the port
 abbrev pub moved_port : State → ℕ → State
-moved_port state serial = with_port state serial (λ port. record port { set = None; sequence_number = 0; make_send_count = 0 })
+moved_port state serial =
+    with_port state serial (λ port. record port { set = None; sequence_number = 0; make_send_count = 0 })
 
 abbrev pub taken_of_port : State → ℕ → ℕ → Disposition → PortRights → Option Taken
 taken_of_port state space name MoveReceive rights =
-    if rights.receive then Some (taken_leaving (moved_port state rights.port) space name (record { kind = kind.Receive; port = Live rights.port }) (Port (record rights { receive = false }))) else None
+    if rights.receive then Some (taken_leaving (moved_port state rights.port) space name
+    (record { kind = kind.Receive; port = Live rights.port }) (Port (record rights { receive = false }))) else None
 taken_of_port state space name MoveSend rights =
-    if rights.send == 0 then None else Some (taken_leaving state space name (record { kind = kind.Send; port = Live rights.port }) (Port (record rights { send = rights.send - 1 })))
+    if rights.send == 0 then None else Some
+    (taken_leaving state space name (record { kind = kind.Send; port = Live rights.port })
+    (Port (record rights { send = rights.send - 1 })))
 taken_of_port state space name MoveSendOnce rights = None
 taken_of_port state space name CopySend rights =
     if rights.send == 0 then None else Some (taken_keeping state (record { kind = kind.Send; port = Live rights.port }))
 taken_of_port state space name MakeSend rights =
     if rights.receive
-    then Some (taken_keeping (with_port state rights.port (λ port. record port { make_send_count = next_count port.make_send_count })) (record { kind = kind.Send; port = Live rights.port }))
+    then Some (taken_keeping (with_port state rights.port
+    (λ port. record port { make_send_count = next_count port.make_send_count }))
+    (record { kind = kind.Send; port = Live rights.port }))
     else None
 taken_of_port state space name MakeSendOnce rights =
-    if rights.receive then Some (taken_keeping state (record { kind = kind.SendOnce; port = Live rights.port })) else None
+    if rights.receive then Some (taken_keeping state (record { kind = kind.SendOnce; port = Live rights.port }))
+    else None
 
 -- a send-once right is moved, and its name goes
 abbrev pub taken_of_send_once : State → ℕ → ℕ → Disposition → ℕ → Option ℕ → Option Taken
 taken_of_send_once state space name MoveSendOnce port target =
-    Some (record { right = record { kind = kind.SendOnce; port = Live port }; state = without_name state space name; notices = port_deleted name target })
+    Some (record {
+      right = record { kind = kind.SendOnce; port = Live port };
+      state = without_name state space name;
+      notices = port_deleted name target;
+    })
 taken_of_send_once state space name _ port target = None
 
 -- a dead name arrives as MACH_PORT_DEAD, for a disposition that copies or moves a send or send-once right
 abbrev pub taken_of_dead : State → ℕ → ℕ → Disposition → ℕ → Option Taken
-taken_of_dead state space name CopySend references = Some (taken_keeping state (record { kind = kind.Send; port = in_message.Dead }))
-taken_of_dead state space name MoveSend references = Some (taken_leaving state space name (record { kind = kind.Send; port = in_message.Dead }) (Dead (references - 1)))
-taken_of_dead state space name MoveSendOnce references = Some (taken_leaving state space name (record { kind = kind.SendOnce; port = in_message.Dead }) (Dead (references - 1)))
+taken_of_dead state space name CopySend references =
+    Some (taken_keeping state (record { kind = kind.Send; port = in_message.Dead }))
+taken_of_dead state space name MoveSend references =
+    Some (taken_leaving state space name (record { kind = kind.Send; port = in_message.Dead }) (Dead (references - 1)))
+taken_of_dead state space name MoveSendOnce references =
+    Some (taken_leaving state space name (record { kind = kind.SendOnce; port = in_message.Dead })
+    (Dead (references - 1)))
 taken_of_dead state space name _ references = None
 
 abbrev pub taken_of_entry : State → ℕ → ℕ → Disposition → Entry → Option Taken
 taken_of_entry state space name disposition (Port rights) = taken_of_port state space name disposition rights
-taken_of_entry state space name disposition (SendOnce port target) = taken_of_send_once state space name disposition port target
+taken_of_entry state space name disposition (SendOnce port target) =
+    taken_of_send_once state space name disposition port target
 taken_of_entry state space name disposition Set = None
 taken_of_entry state space name disposition (Dead references) = taken_of_dead state space name disposition references
 
 -- What copy in takes from a name of a space, or nothing where it is refused.
 unfoldable pub copy_in : State → ℕ → ℕ → Disposition → Option Taken
-copy_in state space name disposition = option_and_then (taken_of_entry state space name disposition) (entry_at state space name)
+copy_in state space name disposition =
+    option_and_then (taken_of_entry state space name disposition) (entry_at state space name)

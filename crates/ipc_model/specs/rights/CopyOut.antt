@@ -18,8 +18,10 @@ use Rattle.ipc_model.specs.state.State.{Names, IsUnused, name_of_port}
 -- right gets the name that the port has there, or else an unused one.
 abbrev pub MayBeNamed : Names → RightKind → ℕ → ℕ → Type 0
 MayBeNamed names kind.SendOnce serial name = IsUnused names name
-MayBeNamed names kind.Send serial name = MatchOption (name_of_port names serial) (IsUnused names name) (λ there. name ≡ there)
-MayBeNamed names kind.Receive serial name = MatchOption (name_of_port names serial) (IsUnused names name) (λ there. name ≡ there)
+MayBeNamed names kind.Send serial name =
+    MatchOption (name_of_port names serial) (IsUnused names name) (λ there. name ≡ there)
+MayBeNamed names kind.Receive serial name =
+    MatchOption (name_of_port names serial) (IsUnused names name) (λ there. name ≡ there)
 
 -- MACH_PORT_NULL and MACH_PORT_DEAD arrive as themselves.
 abbrev pub MayArrive : Names → RightKind → PortInMessage → ℕ → Type 0
@@ -50,13 +52,15 @@ merged_entry kind serial (Some (Dead references)) = new_entry kind serial
 abbrev pub names_after : Names → RightKind → PortInMessage → ℕ → Names
 names_after names kind in_message.Null name = names
 names_after names kind in_message.Dead name = names
-names_after names kind (in_message.Live serial) name = finmap.insert names name (merged_entry kind serial (finmap.get names name))
+names_after names kind (in_message.Live serial) name =
+    finmap.insert names name (merged_entry kind serial (finmap.get names name))
 
 -- Rights arrive in a space one after another, under these names.
 abbrev pub Arrives : Names → List CarriedRight → List ℕ → Names → Type 0
 Arrives names [] given new = (given ≡ []) × (new ≡ names)
 Arrives names (right ∷ rights) given new =
-    (name : ℕ) × (others : List ℕ) × (given ≡ name ∷ others) × MayArrive names right.kind right.port name × Arrives (names_after names right.kind right.port name) rights others new
+    (name : ℕ) × (others : List ℕ) × (given ≡ name ∷ others) × MayArrive names right.kind right.port name
+    × Arrives (names_after names right.kind right.port name) rights others new
 
 -- Whether a right needs a new name: a send-once right to a port does, and so does a send or receive right to a port
 -- that has no name there and gets none by a right before it. `named` are the ports that do.
@@ -64,8 +68,10 @@ abbrev pub wants_name : Names → List ℕ → RightKind → PortInMessage → B
 wants_name names named kind in_message.Null = false
 wants_name names named kind in_message.Dead = false
 wants_name names named kind.SendOnce (in_message.Live serial) = true
-wants_name names named kind.Send (in_message.Live serial) = is_none (name_of_port names serial) && not (list_any (λ port. port == serial) named)
-wants_name names named kind.Receive (in_message.Live serial) = is_none (name_of_port names serial) && not (list_any (λ port. port == serial) named)
+wants_name names named kind.Send (in_message.Live serial) =
+    is_none (name_of_port names serial) && not (list_any (λ port. port == serial) named)
+wants_name names named kind.Receive (in_message.Live serial) =
+    is_none (name_of_port names serial) && not (list_any (λ port. port == serial) named)
 
 -- the ports that have names once this right has one
 abbrev pub named_with : List ℕ → RightKind → PortInMessage → List ℕ
@@ -79,4 +85,5 @@ named_with named kind.Receive (in_message.Live serial) = serial ∷ named
 abbrev pub names_needed : Names → List ℕ → List CarriedRight → ℕ
 names_needed names named [] = 0
 names_needed names named (right ∷ rights) =
-    (if wants_name names named right.kind right.port then 1 else 0) + names_needed names (named_with named right.kind right.port) rights
+    (if wants_name names named right.kind right.port then 1 else 0) + names_needed names
+    (named_with named right.kind right.port) rights

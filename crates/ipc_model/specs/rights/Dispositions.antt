@@ -3,7 +3,14 @@ use Rattle.std.specs.Prelude.{ℕ}
 use Rattle.ipc_model.specs.declared.message.RightKind.{RightKind}
 use Rattle.ipc_model.specs.declared.message.RightKind.TheVariants as kind
 pub use Rattle.codes.specs.declared.disposition.Disposition.{Disposition}
-pub use Rattle.codes.specs.declared.disposition.Disposition.TheVariants.{MoveReceive, MoveSend, MoveSendOnce, CopySend, MakeSend, MakeSendOnce}
+pub use Rattle.codes.specs.declared.disposition.Disposition.TheVariants.{
+  MoveReceive,
+  MoveSend,
+  MoveSendOnce,
+  CopySend,
+  MakeSend,
+  MakeSendOnce,
+}
 pub use Rattle.codes.specs.Disposition.{disposition_of, number_of_disposition}
 
 -- the kind of right that arrives

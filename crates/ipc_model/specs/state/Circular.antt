@@ -33,7 +33,9 @@ carrier_of state serial = option_map (λ e. e.0) (find (λ e. carries serial e.1
 -- in a circle already, some number of hops leads up to the port.)
 abbrev pub meets : State → ℕ → ℕ → ℕ → Bool
 meets state zero wanted serial = serial == wanted
-meets state (suc hops) wanted serial = serial == wanted || elim (carrier_of state serial) as (λ _. Bool) [ None ↦ false | Some carrier ↦ meets state hops wanted carrier ]
+meets state (suc hops) wanted serial =
+    serial == wanted || elim (carrier_of state serial) as (λ _. Bool)
+    [ None ↦ false | Some carrier ↦ meets state hops wanted carrier ]
 
 -- If it were put into this queue, the receive right of the port would travel, directly or through others, to the port's
 -- own queue. There are at most as many hops as there are ports.
@@ -42,7 +44,8 @@ is_circular state serial queue = meets state (finmap.len state.ports) serial que
 
 -- The queue `outer` holds a message with the receive right of the port `inner`.
 abbrev pub Carries : State → ℕ → ℕ → Type 0
-Carries state outer inner = (port : PortState) × (finmap.get state.ports outer ≡ Some port) × (carries inner port ≡ true)
+Carries state outer inner =
+    (port : PortState) × (finmap.get state.ports outer ≡ Some port) × (carries inner port ≡ true)
 
 -- Acyclic: no ports carry one another in a circle. They have ranks, by which a port ranks below the one that carries
 -- it.

@@ -36,20 +36,26 @@ LawfulEntry (Dead references) = (0 < references) × (references ≤ MAX_DEAD_REF
 -- under one.
 pub record LawfulNames (names : Names) : Type 0 where
   pub few : finmap.len names ≤ MAX_NAMES
-  pub named : (name : ℕ) (entry : Entry) → finmap.get names name ≡ Some entry → (0 < name) × (name < MACH_PORT_DEAD) × LawfulEntry entry
-  pub one_name : (one other serial : ℕ) (first second : Entry) → finmap.get names one ≡ Some first → finmap.get names other ≡ Some second
+  pub named : (name : ℕ) (entry : Entry) → finmap.get names name ≡ Some entry → (0 < name) × (name < MACH_PORT_DEAD)
+      × LawfulEntry entry
+  pub one_name : (one other serial : ℕ) (first second : Entry) → finmap.get names one ≡ Some first
+      → finmap.get names other ≡ Some second
       → port_held first ≡ Some serial → port_held second ≡ Some serial → one ≡ other
 
 -- the kinds of right that a port item brings: one for each of its ports
 abbrev pub kind_of_number : ℕ → RightKind
-kind_of_number n = if n == number_of_kind kind.Receive then kind.Receive else if n == number_of_kind kind.Send then kind.Send else kind.SendOnce
+kind_of_number n =
+    if n == number_of_kind kind.Receive then kind.Receive else if n == number_of_kind kind.Send then kind.Send
+    else kind.SendOnce
 
 abbrev pub kinds_of_item : Item → List RightKind
 kinds_of_item item = if is_port_item item then replicate item.number (kind_of_number item.type_name) else []
 
 -- a port item has a type as received, and 0 in each port's place
 abbrev pub IsStoredItem : Item → Type 0
-IsStoredItem item = MatchBool (is_port_item item) ((item.type_name ≤ number_of_kind kind.SendOnce) × All (λ byte. byte ≡ 0) item.content) (Unit {0})
+IsStoredItem item =
+    MatchBool (is_port_item item) ((item.type_name ≤ number_of_kind kind.SendOnce)
+    × All (λ byte. byte ≡ 0) item.content) (Unit {0})
 
 -- A body with ports: its items tile it, at least one holds ports, and the rights are those of its ports, in order.
 pub record HoldsPorts (body : List ℕ) (rights : List CarriedRight) : Type 0 where
@@ -91,8 +97,10 @@ IsHeldAlongsideSet state serial set =
 -- A lawful state.
 pub record Lawful (state : State) : Type 0 where
   pub first_space : (names : Names) × (finmap.get state.spaces FIRST_SPACE ≡ Some names)
-  pub spaces : (space : ℕ) (names : Names) → finmap.get state.spaces space ≡ Some names → (0 < space) × (space ≤ MAX_SPACES) × LawfulNames names
-  pub ports : (serial : ℕ) (port : PortState) → finmap.get state.ports serial ≡ Some port → (0 < serial) × (serial < state.next) × LawfulPort port
+  pub spaces : (space : ℕ) (names : Names) → finmap.get state.spaces space ≡ Some names → (0 < space)
+      × (space ≤ MAX_SPACES) × LawfulNames names
+  pub ports : (serial : ℕ) (port : PortState) → finmap.get state.ports serial ≡ Some port → (0 < serial)
+      × (serial < state.next) × LawfulPort port
   pub few_ports : finmap.len state.ports ≤ MAX_PORTS
   pub next : (0 < state.next) × (state.next < 2 ^ 64)
   -- each live port has exactly one receive right, held or carried
@@ -100,7 +108,8 @@ pub record Lawful (state : State) : Type 0 where
   -- each right names a live port: a port that isn't live has none
   pub live : (serial : ℕ) → lives state serial ≡ false → rights_count state serial ≡ 0
   -- a port is in a set of the space that holds its receive right
-  pub sets : (serial set : ℕ) (port : PortState) → finmap.get state.ports serial ≡ Some port → port.set ≡ Some set → IsHeldAlongsideSet state serial set
+  pub sets : (serial set : ℕ) (port : PortState) → finmap.get state.ports serial ≡ Some port → port.set ≡ Some set
+      → IsHeldAlongsideSet state serial set
 
 -- No queue holds more messages than a word counts. This is not part of being lawful, since no call of the machine is
 -- refused for it: notices and messages by send-once rights are queued whatever the limit. A program keeps it by
@@ -125,7 +134,8 @@ placed_with state effects = placed state ++ map right_of_effect effects
 
 -- how many rights of a kind a port has, those among effects too
 abbrev pub count_with : RightKind → State → List Effect → ℕ → ℕ
-count_with wanted state effects serial = count_by (λ r. same_kind r.kind wanted && r.port == serial) (placed_with state effects)
+count_with wanted state effects serial =
+    count_by (λ r. same_kind r.kind wanted && r.port == serial) (placed_with state effects)
 
 -- a port-destroyed notice goes out within the effect that sends it, and never waits
 abbrev pub IsWaiting : Effect → Type 0
@@ -147,8 +157,10 @@ IsReleased effects serial = Contains effects (release kind.Receive serial)
 -- A state is lawful, if the rights that wait among effects count as placed. With no effects left it is lawful.
 pub record LawfulBut (state : State) (effects : List Effect) : Type 0 where
   pub first_space : (names : Names) × (finmap.get state.spaces FIRST_SPACE ≡ Some names)
-  pub spaces : (space : ℕ) (names : Names) → finmap.get state.spaces space ≡ Some names → (0 < space) × (space ≤ MAX_SPACES) × LawfulNames names
-  pub ports : (serial : ℕ) (port : PortState) → finmap.get state.ports serial ≡ Some port → (0 < serial) × (serial < state.next) × LawfulPort port
+  pub spaces : (space : ℕ) (names : Names) → finmap.get state.spaces space ≡ Some names → (0 < space)
+      × (space ≤ MAX_SPACES) × LawfulNames names
+  pub ports : (serial : ℕ) (port : PortState) → finmap.get state.ports serial ≡ Some port → (0 < serial)
+      × (serial < state.next) × LawfulPort port
   pub few_ports : finmap.len state.ports ≤ MAX_PORTS
   pub next : (0 < state.next) × (state.next < 2 ^ 64)
   -- each live port has exactly one receive right
@@ -156,4 +168,5 @@ pub record LawfulBut (state : State) (effects : List Effect) : Type 0 where
   -- each right that stands in a place names a live port: a port that isn't live has none
   pub live : (serial : ℕ) → lives state serial ≡ false → rights_count state serial ≡ 0
   pub waits : AllWaiting effects
-  pub sets : (serial set : ℕ) (port : PortState) → finmap.get state.ports serial ≡ Some port → port.set ≡ Some set → IsHeldAlongsideSet state serial set ⊎ IsReleased effects serial
+  pub sets : (serial set : ℕ) (port : PortState) → finmap.get state.ports serial ≡ Some port → port.set ≡ Some set
+      → IsHeldAlongsideSet state serial set ⊎ IsReleased effects serial

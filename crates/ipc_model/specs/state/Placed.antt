@@ -54,19 +54,25 @@ right_of_target request (Some serial) = record { kind = kind.SendOnce; port = se
 -- The rights of a message in a port's queue: its destination, its reply right, and those of its body.
 abbrev pub rights_of_message : ℕ → Message → List Right
 rights_of_message queue message =
-    (record { kind = message.destination; port = queue; place = destination queue }) ∷ (right_of_reply queue message.reply ++ flat_map (right_of_carried (body queue)) message.rights)
+    (record { kind = message.destination; port = queue; place = destination queue }) ∷
+    (right_of_reply queue message.reply ++ flat_map (right_of_carried (body queue)) message.rights)
 
 -- The rights that a port keeps: those of its messages, and the targets of its requests.
 abbrev pub rights_of_port : ℕ → PortState → List Right
 rights_of_port serial port =
-    flat_map (rights_of_message serial) port.messages ++ (right_of_target (no_senders_request serial) port.no_senders_target ++ right_of_target (port_destroyed_request serial) port.port_destroyed_target)
+    flat_map (rights_of_message serial) port.messages
+    ++ (right_of_target (no_senders_request serial) port.no_senders_target
+    ++ right_of_target (port_destroyed_request serial) port.port_destroyed_target)
 
 -- The rights that stand under a name, and the target of its request. References of a send right are one right.
 abbrev pub rights_of_entry : ℕ → ℕ → Entry → List Right
 rights_of_entry space name (Port rights) =
     (if rights.receive then record { kind = kind.Receive; port = rights.port; place = held space name } ∷ [] else [])
-    ++ ((if rights.send == 0 then [] else record { kind = kind.Send; port = rights.port; place = held space name } ∷ []) ++ right_of_target (dead_name_request space name) rights.dead_name_target)
-rights_of_entry space name (SendOnce port target) = (record { kind = kind.SendOnce; port = port; place = held space name }) ∷ right_of_target (dead_name_request space name) target
+    ++ ((if rights.send == 0 then [] else record { kind = kind.Send; port = rights.port; place = held space name } ∷ [])
+    ++ right_of_target (dead_name_request space name) rights.dead_name_target)
+rights_of_entry space name (SendOnce port target) =
+    (record { kind = kind.SendOnce; port = port; place = held space name }) ∷ right_of_target
+    (dead_name_request space name) target
 rights_of_entry space name Set = []
 rights_of_entry space name (Dead references) = []
 
@@ -75,7 +81,9 @@ rights_of_space space names = flat_map (λ e. rights_of_entry space e.0 e.1) (fi
 
 -- Every right of a state, with its place.
 unfoldable pub placed : State → List Right
-placed state = flat_map (λ e. rights_of_space e.0 e.1) (finmap.entries state.spaces) ++ flat_map (λ e. rights_of_port e.0 e.1) (finmap.entries state.ports)
+placed state =
+    flat_map (λ e. rights_of_space e.0 e.1) (finmap.entries state.spaces) ++ flat_map
+    (λ e. rights_of_port e.0 e.1) (finmap.entries state.ports)
 
 abbrev pub same_kind : RightKind → RightKind → Bool
 same_kind kind.Receive kind.Receive = true

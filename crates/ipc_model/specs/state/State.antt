@@ -74,7 +74,8 @@ request_bit (Some target) = 2 ^ 31
 -- The type of a name: the bits of the rights that it holds, and of its dead-name request (mach_port_type).
 abbrev pub type_of : Entry → ℕ
 type_of (Port rights) =
-    (if rights.send == 0 then 0 else type_bit right.Send) + (if rights.receive then type_bit right.Receive else 0) + request_bit rights.dead_name_target
+    (if rights.send == 0 then 0 else type_bit right.Send) +
+    (if rights.receive then type_bit right.Receive else 0) + request_bit rights.dead_name_target
 type_of (SendOnce port target) = type_bit right.SendOnce + request_bit target
 type_of Set = type_bit right.PortSet
 type_of (Dead references) = type_bit right.DeadName
@@ -109,7 +110,16 @@ is_empty_entry (Dead references) = references == 0
 
 -- A new port: an empty queue with the default limit, in no set, with no requests.
 abbrev pub new_port : PortState
-new_port = record { limit = DEFAULT_QUEUE_LIMIT; sequence_number = 0; make_send_count = 0; set = None; messages = []; no_senders_target = None; port_destroyed_target = None }
+new_port =
+    record {
+      limit = DEFAULT_QUEUE_LIMIT;
+      sequence_number = 0;
+      make_send_count = 0;
+      set = None;
+      messages = [];
+      no_senders_target = None;
+      port_destroyed_target = None;
+    }
 
 -- No further port can be made: the greatest number of ports live, or the serials are used up.
 abbrev pub ports_are_used_up : State → Bool
@@ -127,10 +137,11 @@ name_of_port names serial = option_map (λ e. e.0) (find (λ e. is_number (port_
 -- the names of a set's members in a space, in ascending order: those that hold the receive right of a port that is in
 -- the set
 abbrev pub is_member : State → ℕ → Entry → Bool
-is_member state set entry = elim (option_and_then (λ serial. finmap.get state.ports serial) (received_port entry)) as (λ _. Bool) [
-  | None ↦ false
-  | Some port ↦ is_number port.set set
-]
+is_member state set entry =
+    elim (option_and_then (λ serial. finmap.get state.ports serial) (received_port entry)) as (λ _. Bool) [
+      | None ↦ false
+      | Some port ↦ is_number port.set set
+    ]
 
 abbrev pub members_of : State → Names → ℕ → List ℕ
 members_of state names set = map (λ e. e.0) (filter (λ e. is_member state set e.1) (finmap.entries names))

@@ -13,5 +13,6 @@ names_code = code coded_ℕ entry.the_row.coded
 
 abbrev pub state_code : Coded State
 state_code =
-    code_by (FinMap nat_cmp Names × (FinMap nat_cmp PortState × ℕ)) (coded× (code coded_ℕ names_code) (coded× (code coded_ℕ port.the_row.coded) coded_ℕ))
+    code_by (FinMap nat_cmp Names × (FinMap nat_cmp PortState × ℕ))
+    (coded× (code coded_ℕ names_code) (coded× (code coded_ℕ port.the_row.coded) coded_ℕ))
     (λ s. (s.spaces, (s.ports, s.next))) (λ p. record { spaces = p.0; ports = p.1.0; next = p.1.1 }) (λ _. refl)

@@ -38,12 +38,15 @@ HasHeader header number slot = IsOpen header slot → (epoch : ℕ) × IsOfEpoch
 
 -- each of the four slots has one, if it is open
 abbrev pub HeadersFit : Slots → Type 0
-HeadersFit slots = (number : ℕ) → number < 2 → HasHeader image_header number (slots.image number) × HasHeader segment_header_length number (slots.segment number)
+HeadersFit slots =
+    (number : ℕ) → number < 2 → HasHeader image_header number (slots.image number)
+    × HasHeader segment_header_length number (slots.segment number)
 
 -- The store is new: no image is open, and a segment that is open is of epoch 0 and has no open batch.
 pub record IsNew (slots : Slots) : Type 0 where
   pub no_image : (number : ℕ) → number < 2 → IsOpen image_header (slots.image number) → ⊥
-  pub unused : (number epoch : ℕ) → number < 2 → IsOpen segment_header_length (slots.segment number) → IsOfEpoch number epoch (slots.segment number)
+  pub unused : (number epoch : ℕ) → number < 2 → IsOpen segment_header_length (slots.segment number)
+      → IsOfEpoch number epoch (slots.segment number)
       → (epoch ≡ 0) × IsClosed (drop segment_header_length (slots.segment number))
 
 -- These bytes are the image of this state, which is lawful and acyclic, and whose queues are short.
@@ -69,7 +72,8 @@ ClosedAddsNothing slot next = (IsOpen segment_header_length slot → ⊥) × (ne
 
 -- or it is of the previous epoch, and adds nothing;
 abbrev pub FormerAddsNothing : ℕ → List ℕ → List Record → Type 0
-FormerAddsNothing epoch slot next = (before : ℕ) × (suc before ≡ epoch) × IsOfEpoch (before % 2) before slot × (next ≡ [])
+FormerAddsNothing epoch slot next =
+    (before : ℕ) × (suc before ≡ epoch) × IsOfEpoch (before % 2) before slot × (next ≡ [])
 
 -- or it is of the next epoch, and adds that epoch's records.
 abbrev pub NextAddsRecords : ℕ → List ℕ → List Record → Type 0
@@ -77,7 +81,8 @@ NextAddsRecords epoch slot next = (epoch + 1 < 2 ^ 64) × EncodesSegment (epoch 
 
 -- What the other segment slot adds to the records of an epoch.
 abbrev pub Continues : ℕ → List ℕ → List Record → Type 0
-Continues epoch slot next = ClosedAddsNothing slot next ⊎ (FormerAddsNothing epoch slot next ⊎ NextAddsRecords epoch slot next)
+Continues epoch slot next =
+    ClosedAddsNothing slot next ⊎ (FormerAddsNothing epoch slot next ⊎ NextAddsRecords epoch slot next)
 
 -- A store in use: the open image of the greatest epoch, the records of that epoch's segment, and then those of the next
 -- epoch's segment where that follows.
@@ -85,7 +90,8 @@ pub record IsStored (slots : Slots) (base : State) (records : List Record) : Typ
   pub epoch : ℕ
   pub fits : epoch < 2 ^ 64
   pub image : HoldsImage epoch (slots.image (epoch % 2)) base
-  pub latest : (number other : ℕ) → number < 2 → IsOpen image_header (slots.image number) → IsOfEpoch number other (slots.image number) → other ≤ epoch
+  pub latest : (number other : ℕ) → number < 2 → IsOpen image_header (slots.image number)
+      → IsOfEpoch number other (slots.image number) → other ≤ epoch
   pub first : List Record
   pub next : List Record
   pub segment : EncodesSegment epoch (slots.segment (epoch % 2)) first
@@ -110,7 +116,10 @@ HasOtherVersion header slot = IsOpen header slot × (slice_index slot 1 ≢ 1)
 
 -- Why nothing is recovered: some open slot is of another version than 1,
 abbrev pub IsOtherVersion : Slots → Type 0
-IsOtherVersion slots = (number : ℕ) × (number < 2) × (HasOtherVersion image_header (slots.image number) ⊎ HasOtherVersion segment_header_length (slots.segment number))
+IsOtherVersion slots =
+    (number : ℕ) × (number < 2) ×
+    (HasOtherVersion image_header (slots.image number)
+    ⊎ HasOtherVersion segment_header_length (slots.segment number))
 
 -- or none is, and the disk encodes no run.
 abbrev pub IsDamaged : Slots → Type 0

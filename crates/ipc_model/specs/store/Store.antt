@@ -26,12 +26,14 @@ image_content epoch encoding = epoch_encoding epoch ++ (long_word (length encodi
 
 -- after a batch's gate: the number of records, the number of their bytes, and the records, numbered from n
 unfoldable pub batch_encoding : ℕ → List Record → List ℕ
-batch_encoding n records = word (length records) ++ (long_word (length (records_encoding n records)) ++ records_encoding n records)
+batch_encoding n records =
+    word (length records) ++ (long_word (length (records_encoding n records)) ++ records_encoding n records)
 
 -- open batches, one after another
 abbrev pub batches_encoding : ℕ → List (List Record) → List ℕ
 batches_encoding n [] = []
-batches_encoding n (batch ∷ batches) = open_gate ∷ (batch_encoding n batch ++ batches_encoding (n + length batch) batches)
+batches_encoding n (batch ∷ batches) =
+    open_gate ∷ (batch_encoding n batch ++ batches_encoding (n + length batch) batches)
 
 -- the byte in a gate's place is no open gate, or there is none
 abbrev pub IsClosed : List ℕ → Type 0
@@ -85,4 +87,5 @@ with_batch segment encoding = take (length segment - 1) segment ++ (open_gate �
 -- any byte in the place of its last gate, and after that the batch's encoding and a closed gate.
 abbrev pub IsMidAppend : List ℕ → List ℕ → List ℕ → Type 0
 IsMidAppend old encoding new =
-    ((tail : List ℕ) × (new ≡ old ++ tail)) ⊎ ((gate : ℕ) × (new ≡ take (length old - 1) old ++ (gate ∷ (encoding ++ closed_gate ∷ []))))
+    ((tail : List ℕ) × (new ≡ old ++ tail))
+    ⊎ ((gate : ℕ) × (new ≡ take (length old - 1) old ++ (gate ∷ (encoding ++ closed_gate ∷ []))))

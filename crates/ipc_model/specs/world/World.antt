@@ -103,7 +103,8 @@ first_world epoch opened = record {
 -- was given.
 abbrev pub greatest_seen : List Ticket → ℕ
 greatest_seen [] = 0
-greatest_seen (ticket ∷ tickets) = if ticket.answered then max ticket.seen (greatest_seen tickets) else greatest_seen tickets
+greatest_seen (ticket ∷ tickets) =
+    if ticket.answered then max ticket.seen (greatest_seen tickets) else greatest_seen tickets
 
 abbrev pub acknowledged : World → ℕ
 acknowledged world = max world.stored (greatest_seen world.tickets)
@@ -156,7 +157,8 @@ HasPieceLeft (Some checkpoint) = (0 < checkpoint.imaged) × (checkpoint.imaged <
 -- the image's encoding is written, the image isn't finished, and the store has rotated to the next segment
 abbrev pub CanFinish : Option Checkpoint → Type 0
 CanFinish None = ⊥
-CanFinish (Some checkpoint) = (checkpoint.imaged ≡ checkpoint.pieces + 1) × (checkpoint.rolled ≡ 3) × (checkpoint.finished ≡ false)
+CanFinish (Some checkpoint) =
+    (checkpoint.imaged ≡ checkpoint.pieces + 1) × (checkpoint.rolled ≡ 3) × (checkpoint.finished ≡ false)
 
 abbrev pub CanAppend : World → Option Batch → Type 0
 CanAppend world None = ⊥
@@ -185,25 +187,35 @@ IsPossible world finish = CanFinish world.checkpoint
 
 -- the record of an answered call, if it has one
 abbrev pub record_of : ℕ → Call → Reply → List Record
-record_of space call answer = if has_record call answer then record { space = space; call = call; reply = answer } ∷ [] else []
+record_of space call answer =
+    if has_record call answer then record { space = space; call = call; reply = answer } ∷ [] else []
 
 abbrev pub after_submit : World → ℕ → Call → Reply → World
 after_submit world space call answer =
     let applied : List Record = world.applied ++ record_of space call answer in
-    record world { applied = applied; tickets = world.tickets ++ (record { answer = answer; seen = length applied; answered = false }) ∷ [] }
+    record world {
+      applied = applied;
+      tickets = world.tickets ++ (record { answer = answer; seen = length applied; answered = false }) ∷ [];
+    }
 
 abbrev pub after_take : World → World
 after_take world = record world { batch = Some (next_batch world); taken = world.taken + (next_batch world).size }
 
 abbrev pub after_append : World → Option Batch → World
 after_append world None = world
-after_append world (Some batch) = record world { batch = Some (record batch { appended = true }); stored = world.stored + batch.size; receipts = world.receipts ++ of_append batch.size ∷ [] }
+after_append world (Some batch) =
+    record world {
+      batch = Some (record batch { appended = true });
+      stored = world.stored + batch.size;
+      receipts = world.receipts ++ of_append batch.size ∷ [];
+    }
 
 -- the oldest receipt is handed in: of an append, and the batch is no longer out; or of a finished image, and the
 -- checkpoint is over
 abbrev pub after_durable : World → List Receipt → World
 after_durable world [] = world
-after_durable world (of_append size ∷ receipts) = record world { batch = None; handed = world.handed + size; receipts = receipts }
+after_durable world (of_append size ∷ receipts) =
+    record world { batch = None; handed = world.handed + size; receipts = receipts }
 after_durable world (of_finish ∷ receipts) = record world { checkpoint = None; receipts = receipts }
 
 abbrev pub with_answered : List Ticket → ℕ → List Ticket
@@ -225,10 +237,12 @@ with_checkpoint world change None = world
 with_checkpoint world change (Some checkpoint) = record world { checkpoint = Some (change checkpoint) }
 
 abbrev pub one_rolled : World → World
-one_rolled world = with_checkpoint world (λ checkpoint. record checkpoint { rolled = checkpoint.rolled + 1 }) world.checkpoint
+one_rolled world =
+    with_checkpoint world (λ checkpoint. record checkpoint { rolled = checkpoint.rolled + 1 }) world.checkpoint
 
 abbrev pub one_imaged : World → World
-one_imaged world = with_checkpoint world (λ checkpoint. record checkpoint { imaged = checkpoint.imaged + 1 }) world.checkpoint
+one_imaged world =
+    with_checkpoint world (λ checkpoint. record checkpoint { imaged = checkpoint.imaged + 1 }) world.checkpoint
 
 -- The world after an event that was done, where the store's records began from this base.
 abbrev pub AfterDone : State → World → Event → World → Type 0
@@ -243,24 +257,30 @@ AfterDone base world roll_head new = new ≡ one_rolled world
 AfterDone base world roll_open new = new ≡ one_rolled world
 AfterDone base world image_close new = new ≡ one_imaged world
 AfterDone base world piece new = new ≡ one_imaged world
-AfterDone base world finish new = new ≡ record (with_checkpoint world (λ checkpoint. record checkpoint { finished = true }) world.checkpoint) { receipts = world.receipts ++ of_finish ∷ [] }
+AfterDone base world finish new =
+    new ≡ record (with_checkpoint world (λ checkpoint. record checkpoint { finished = true }) world.checkpoint)
+    { receipts = world.receipts ++ of_finish ∷ [] }
 
 -- The machine may give a call this reply in the state after all that was applied, which is a run from this base.
 abbrev pub IsStep : State → World → ℕ → Call → Reply → Type 0
-IsStep base world space call answer = (old : State) × (new : State) × Run base world.applied old × Step old space call answer new
+IsStep base world space call answer =
+    (old : State) × (new : State) × Run base world.applied old × Step old space call answer new
 
 -- A ticket keeps such a reply; and a full epoch log takes no record.
 abbrev pub MayGive : State → World → ℕ → Call → Reply → Type 0
-MayGive base world space call answer = IsStep base world space call answer × ((has_record call answer ≡ true) → log_length world < MAX_RECORDS)
+MayGive base world space call answer =
+    IsStep base world space call answer × ((has_record call answer ≡ true) → log_length world < MAX_RECORDS)
 
 -- The epoch is full for a call: its log is full, and a step of the call has a record.
 abbrev pub HasNoRoom : State → World → ℕ → Call → Type 0
-HasNoRoom base world space call = IsLogFull world × (answer : Reply) × IsStep base world space call answer × (has_record call answer ≡ true)
+HasNoRoom base world space call =
+    IsLogFull world × (answer : Reply) × IsStep base world space call answer × (has_record call answer ≡ true)
 
 -- a ticket's reply is given once
 abbrev pub AfterReply : World → ℕ → Reply → World → Type 0
 AfterReply world ticket answer new =
-    (kept : Ticket) × (slice_get world.tickets ticket ≡ Some kept) × (kept.answer ≡ answer) × (new ≡ record world { tickets = with_answered world.tickets ticket })
+    (kept : Ticket) × (slice_get world.tickets ticket ≡ Some kept) × (kept.answer ≡ answer)
+    × (new ≡ record world { tickets = with_answered world.tickets ticket })
 
 -- the events that write the store, and so meet its faults
 abbrev pub is_of_store : Event → Bool
@@ -287,13 +307,15 @@ store_takes_memory _ = false
 -- What a possible event may answer, and the world after it. A refusal changes nothing; a fault of the device leaves the
 -- batch as it is, not stored.
 abbrev pub AfterPossible : State → World → Event → Outcome → World → Type 0
-AfterPossible base world (submit space call) (given answer) new = MayGive base world space call answer × (new ≡ after_submit world space call answer)
+AfterPossible base world (submit space call) (given answer) new =
+    MayGive base world space call answer × (new ≡ after_submit world space call answer)
 AfterPossible base world (submit space call) epoch_full new = HasNoRoom base world space call × (new ≡ world)
 AfterPossible base world (ask_reply ticket) (replied answer) new = AfterReply world ticket answer new
 AfterPossible base world event done new = AfterDone base world event new
 AfterPossible base world event no_memory new = (core_takes_memory event ≡ true) × (new ≡ world)
 AfterPossible base world event (store fault.no_memory) new = (store_takes_memory event ≡ true) × (new ≡ world)
-AfterPossible base world event (store fault.device) new = (is_of_store event ≡ true) × (new ≡ record world { failed = true })
+AfterPossible base world event (store fault.device) new =
+    (is_of_store event ≡ true) × (new ≡ record world { failed = true })
 AfterPossible base world _ _ new = ⊥
 
 -- Once the device failed, every event of the store answers that it failed, even one that isn't possible.
@@ -305,9 +327,11 @@ fails_first world event = world.failed && is_of_store event
 abbrev pub After : State → World → Event → Outcome → World → Type 0
 After base world event (store fault.failed) new = (fails_first world event ≡ true) × (new ≡ world)
 After base world event not_now new = (fails_first world event ≡ false) × (IsPossible world event → ⊥) × (new ≡ world)
-After base world event outcome new = (fails_first world event ≡ false) × IsPossible world event × AfterPossible base world event outcome new
+After base world event outcome new =
+    (fails_first world event ≡ false) × IsPossible world event × AfterPossible base world event outcome new
 
 -- The world that a list of events leaves.
 abbrev pub Worlds : State → World → List (Event × Outcome) → World → Type 0
 Worlds base world [] new = new ≡ world
-Worlds base world (first ∷ events) new = (mid : World) × After base world first.0 first.1 mid × Worlds base mid events new
+Worlds base world (first ∷ events) new =
+    (mid : World) × After base world first.0 first.1 mid × Worlds base mid events new

@@ -7,8 +7,11 @@ loop-key-init g c = record { shows = refl; left = all_left c.args.slots.now c.ar
 
 pub loop-key-preserved : goal.loop-key-preserved
 loop-key-preserved g c =
-    let done = is_gone c.loop-key.slots c.remove.new.self c.loop-key.rest.now c.in-Some.before.now c.in-Some.key.now c.remove.ensures.removed c.in-Some.ensures.cases.0 c.loop-key.invariant.left in
+    let done =
+    is_gone c.loop-key.slots c.remove.new.self c.loop-key.rest.now c.in-Some.before.now c.in-Some.key.now
+    c.remove.ensures.removed c.in-Some.ensures.cases.0 c.loop-key.invariant.left in
     record { shows = done.shows ∙ c.loop-key.invariant.shows; left = done.left }
 
 pub returns-clause-none : goal.returns-clause-none
-returns-clause-none g c = none_left c.loop-key.slots c.loop-key.rest.now c.in_default.ensures.cases c.loop-key.invariant.left
+returns-clause-none g c =
+    none_left c.loop-key.slots c.loop-key.rest.now c.in_default.ensures.cases c.loop-key.invariant.left

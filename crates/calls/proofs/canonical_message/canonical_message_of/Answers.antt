@@ -10,4 +10,5 @@ loop-i-preserved c =
 
 pub returns : goal.returns
 unfolding canonical_message
-returns c = c.loop-i.invariant ∙ masked_all used_bits c.args.message.now c.loop-i.i (omega (arith, c.in_ok-kept.ensures.len))
+returns c =
+    c.loop-i.invariant ∙ masked_all used_bits c.args.message.now c.loop-i.i (omega (arith, c.in_ok-kept.ensures.len))

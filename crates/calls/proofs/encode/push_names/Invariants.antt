@@ -4,4 +4,5 @@ use Rattle.calls.specs.Rows.{names_encoding}
 use Rattle.calls.proofs.encode.push_names.Given as goal
 
 abbrev pub invariant-loop-named : goal.invariant-loop-named
-invariant-loop-named l = l.out.items ≡ l.fn.out.items ++ (word (length l.names) ++ names_encoding (take l.named-index l.names))
+invariant-loop-named l =
+    l.out.items ≡ l.fn.out.items ++ (word (length l.names) ++ names_encoding (take l.named-index l.names))

@@ -9,5 +9,6 @@ push_names-requires c =
 
 pub overflow_cast-members : goal.overflow_cast-members
 overflow_cast-members c =
-    let few = few_members c.args.reply.now c.in-SetStatus.members 0xffff_ffff c.in-SetStatus.is (omega (arith, c.requires)) in
+    let few =
+    few_members c.args.reply.now c.in-SetStatus.members 0xffff_ffff c.in-SetStatus.is (omega (arith, c.requires)) in
     omega (arith, few, ap length c.as_slice-members.ensures)

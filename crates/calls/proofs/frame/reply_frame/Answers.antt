@@ -20,15 +20,18 @@ put_names-requires-clause-limit c =
 
 pub overflow_cast-members : goal.overflow_cast-members
 overflow_cast-members c =
-    let few = few_members c.args.reply.now c.in-SetStatus.members MAX_FRAME_CONTENT c.in-SetStatus.is c.requires.limit in
+    let few =
+    few_members c.args.reply.now c.in-SetStatus.members MAX_FRAME_CONTENT c.in-SetStatus.is c.requires.limit in
     omega (arith, few, ap length c.as_slice-members.ensures)
 
 pub put_words-requires-clause-room : goal.put_words-requires-clause-room
 put_words-requires-clause-room c =
-    let few = few_members c.args.reply.now c.in-SetStatus.members MAX_FRAME_CONTENT c.in-SetStatus.is c.requires.limit in
+    let few =
+    few_members c.args.reply.now c.in-SetStatus.members MAX_FRAME_CONTENT c.in-SetStatus.is c.requires.limit in
     omega (arith, few, ap length c.as_slice-members.ensures, ap length c.start_reply-in-SetStatus.ensures.content)
 
 pub put_words-requires-clause-limit : goal.put_words-requires-clause-limit
 put_words-requires-clause-limit c =
-    let few = few_members c.args.reply.now c.in-SetStatus.members MAX_FRAME_CONTENT c.in-SetStatus.is c.requires.limit in
+    let few =
+    few_members c.args.reply.now c.in-SetStatus.members MAX_FRAME_CONTENT c.in-SetStatus.is c.requires.limit in
     omega (arith, few, ap length c.as_slice-members.ensures, ap length c.start_reply-in-SetStatus.ensures.content)

@@ -10,27 +10,38 @@ pub returns-in_ok-name-in-5-clause-only : goal.returns-in_ok-name-in-5-clause-on
 unfolding reply_encoding
 returns-in_ok-name-in-5-clause-only c = λ d answer of_record number other some is.
     let results = c.args.results.now in
-    one_done d (reply.Allocate c.in_ok-name-in-5.name) answer (done_encoding c.args.number results) c.in_ok-name-in-5.ensures.fits refl
-    (ap (λ (n : ℕ). done_encoding n results) c.in-5.is ∙ ap (λ (l : List ℕ). done_encoding 5 l) c.in_ok-name-in-5.ensures.found) of_record is
+    one_done d (reply.Allocate c.in_ok-name-in-5.name) answer
+    (done_encoding c.args.number results) c.in_ok-name-in-5.ensures.fits refl
+    (ap (λ (n : ℕ). done_encoding n results) c.in-5.is ∙ ap
+    (λ (l : List ℕ). done_encoding 5 l) c.in_ok-name-in-5.ensures.found) of_record is
 
 pub returns-in_ok-name-in-16-clause-only : goal.returns-in_ok-name-in-16-clause-only
 unfolding reply_encoding
 returns-in_ok-name-in-16-clause-only c = λ d answer of_record number other some is.
     let results = c.args.results.now in
-    one_done d (reply.PreviousTarget c.in_ok-name-in-16.name) answer (done_encoding c.args.number results) c.in_ok-name-in-16.ensures.fits refl
-    (ap (λ (n : ℕ). done_encoding n results) c.in-16.is ∙ ap (λ (l : List ℕ). done_encoding 16 l) c.in_ok-name-in-16.ensures.found) of_record is
+    one_done d (reply.PreviousTarget c.in_ok-name-in-16.name) answer
+    (done_encoding c.args.number results) c.in_ok-name-in-16.ensures.fits refl
+    (ap (λ (n : ℕ). done_encoding n results) c.in-16.is ∙ ap
+    (λ (l : List ℕ). done_encoding 16 l) c.in_ok-name-in-16.ensures.found) of_record is
 
 pub returns-in_ok-kind-in-18-clause-only : goal.returns-in_ok-kind-in-18-clause-only
 unfolding reply_encoding
 returns-in_ok-kind-in-18-clause-only c = λ d answer of_record number other some is.
     let results = c.args.results.now in
-    let kind : c.in_ok-name-in-18.kind ≡ number_of_kind c.in_ok-kind-in-18.kind = sym c.in_ok-kind-in-18.ensures.found in
-    one_done d (reply.Extracted c.in_ok-name-in-18.name c.in_ok-kind-in-18.kind) answer (done_encoding c.args.number results) c.in_ok-name-in-18.ensures.fits.0 refl
-    (ap (λ (n : ℕ). done_encoding n results) c.in-18.is ∙ ap (λ (l : List ℕ). done_encoding 18 l) (c.in_ok-name-in-18.ensures.found ∙ ap (λ (k : ℕ). word c.in_ok-name-in-18.name ++ word k) kind)) of_record is
+    let kind : c.in_ok-name-in-18.kind ≡ number_of_kind c.in_ok-kind-in-18.kind =
+    sym c.in_ok-kind-in-18.ensures.found in
+    one_done d (reply.Extracted c.in_ok-name-in-18.name c.in_ok-kind-in-18.kind) answer
+    (done_encoding c.args.number results) c.in_ok-name-in-18.ensures.fits.0 refl
+    (ap (λ (n : ℕ). done_encoding n results) c.in-18.is ∙ ap
+    (λ (l : List ℕ). done_encoding 18 l)
+    (c.in_ok-name-in-18.ensures.found ∙ ap (λ (k : ℕ). word c.in_ok-name-in-18.name ++ word k) kind))
+    of_record is
 
 pub returns-in_ok-space-in-20-clause-only : goal.returns-in_ok-space-in-20-clause-only
 unfolding reply_encoding
 returns-in_ok-space-in-20-clause-only c = λ d answer of_record number other some is.
     let results = c.args.results.now in
-    one_done d (reply.SpaceCreated c.in_ok-space-in-20.space c.in_ok-space-in-20.name) answer (done_encoding c.args.number results) c.in_ok-space-in-20.ensures.fits refl
-    (ap (λ (n : ℕ). done_encoding n results) c.in-20.is ∙ ap (λ (l : List ℕ). done_encoding 20 l) c.in_ok-space-in-20.ensures.found) of_record is
+    one_done d (reply.SpaceCreated c.in_ok-space-in-20.space c.in_ok-space-in-20.name) answer
+    (done_encoding c.args.number results) c.in_ok-space-in-20.ensures.fits refl
+    (ap (λ (n : ℕ). done_encoding n results) c.in-20.is ∙ ap
+    (λ (l : List ℕ). done_encoding 20 l) c.in_ok-space-in-20.ensures.found) of_record is

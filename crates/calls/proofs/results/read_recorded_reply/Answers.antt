@@ -14,5 +14,7 @@ returns-in_default-take_word-clause-only c = λ answer of_record is.
 
 pub returns-then-number-clause-only : goal.returns-then-number-clause-only
 returns-then-number-clause-only c = λ answer of_record is.
-    let same = number_in_front c.args.call.now answer c.in-Some.number c.in-Some.rest.now c.in-Some.ensures.fits of_record.of_one_call (sym c.in-Some.ensures.found ∙ is) in
+    let same =
+    number_in_front c.args.call.now answer c.in-Some.number c.in-Some.rest.now c.in-Some.ensures.fits
+    of_record.of_one_call (sym c.in-Some.ensures.found ∙ is) in
     absurd (c.if-number.true (same ∙ sym c.number.ensures))

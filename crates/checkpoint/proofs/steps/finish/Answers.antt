@@ -11,7 +11,8 @@ returns-clause-made g c = λ honest.
     let mid = (g.D.Disk.view c.write_header.new.disk).seen in
     let before = c.in_ok-write_header.ensures.written honest in
     on_ok c.write_gate.result
-    (gate_written slot old mid (g.D.Disk.view c.write_gate.new.disk).seen c.args.epoch c.args.encoding.now _ before (header_written slot old mid c.args.epoch c.args.encoding.now (c.requires honest) before))
+    (gate_written slot old mid (g.D.Disk.view c.write_gate.new.disk).seen c.args.epoch c.args.encoding.now _ before
+    (header_written slot old mid c.args.epoch c.args.encoding.now (c.requires honest) before))
     (c.write_gate.ensures.written honest)
 
 pub returns-clause-any_moment : goal.returns-clause-any_moment
@@ -20,5 +21,7 @@ returns-clause-any_moment g c = λ honest shut.
     let old = g.D.Disk.view c.args.disk.now in
     let mid = g.D.Disk.view c.write_header.new.disk in
     let before = c.in_ok-write_header.ensures.written honest in
-    opening_then slot old mid (g.D.Disk.view c.write_gate.new.disk) (image_content c.args.epoch c.args.encoding.now) (c.in_ok-write_header.ensures.synced honest)
-    (header_written slot old.seen mid.seen c.args.epoch c.args.encoding.now (c.requires honest) before) (c.write_header.ensures.any_moment honest shut) (c.write_gate.ensures.any_moment honest)
+    opening_then slot old mid (g.D.Disk.view c.write_gate.new.disk) (image_content c.args.epoch c.args.encoding.now)
+    (c.in_ok-write_header.ensures.synced honest)
+    (header_written slot old.seen mid.seen c.args.epoch c.args.encoding.now (c.requires honest) before)
+    (c.write_header.ensures.any_moment honest shut) (c.write_gate.ensures.any_moment honest)

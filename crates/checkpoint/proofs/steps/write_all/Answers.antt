@@ -8,7 +8,8 @@ returns-in_err-write_encoding-clause-any_moment g c = λ honest synced.
     let old = g.D.Disk.view c.args.disk.now in
     let written = g.D.Disk.view c.write_encoding.new.disk in
     closing_remade slot old written 24 (open_image c.args.epoch c.args.encoding.now)
-    (closing_then slot old (g.D.Disk.view c.clear.new.disk) written 24 (c.clear.ensures.any_moment honest synced) (c.write_encoding.ensures.any_moment honest (c.in_ok-clear.ensures.shut honest)))
+    (closing_then slot old (g.D.Disk.view c.clear.new.disk) written 24 (c.clear.ensures.any_moment honest synced)
+    (c.write_encoding.ensures.any_moment honest (c.in_ok-clear.ensures.shut honest)))
 
 pub returns-clause-any_moment : goal.returns-clause-any_moment
 returns-clause-any_moment g c = λ honest synced.
@@ -17,5 +18,6 @@ returns-clause-any_moment g c = λ honest synced.
     let written = g.D.Disk.view c.write_encoding.new.disk in
     let shut = c.in_ok-clear.ensures.shut honest in
     remade_then slot old written (g.D.Disk.view c.finish.new.disk) 24 (open_image c.args.epoch c.args.encoding.now)
-    (closing_then slot old (g.D.Disk.view c.clear.new.disk) written 24 (c.clear.ensures.any_moment honest synced) (c.write_encoding.ensures.any_moment honest shut))
+    (closing_then slot old (g.D.Disk.view c.clear.new.disk) written 24 (c.clear.ensures.any_moment honest synced)
+    (c.write_encoding.ensures.any_moment honest shut))
     (c.finish.ensures.any_moment honest (c.in_ok-write_encoding.ensures.shut honest shut))

@@ -5,7 +5,9 @@ use Rattle.command_line.specs.About.{version_lines}
 use Rattle.command_line.proofs.about.send_version.Goals as goal
 
 pub returns-in_err-write_bytes-clause-part : goal.returns-in_err-write_bytes-clause-part
-returns-in_err-write_bytes-clause-part g c = at_any _ (part_before _ _ c.args.name.now version_lines (rw c.as_bytes.ensures.value at c.in_err-write_bytes.ensures.part))
+returns-in_err-write_bytes-clause-part g c =
+    at_any _ (part_before _ _ c.args.name.now version_lines
+    (rw c.as_bytes.ensures.value at c.in_err-write_bytes.ensures.part))
 
 pub returns-clause-ok : goal.returns-clause-ok
 returns-clause-ok g c =

@@ -16,7 +16,10 @@ returns c =
     let target = c.in_ok-target.target in
     let back : Bool = not (is_circular state c.args.serial target) in
     let takes : c.if-has_port.then_some ≡ (lives state target && back) = elim c.if-has_port.branch [
-      | then-has_port w ↦ w.then_some-is ∙ (ap not w.would_circle.ensures ∙ ap (λ (b : Bool). b && back) (sym w.if-has_port.true ∙ c.has_port.ensures))
-      | else-has_port w ↦ w.then_some-is ∙ (w.if-has_port.false ∙ ap (λ (b : Bool). b && back) (sym w.if-has_port.false ∙ c.has_port.ensures))
+      | then-has_port w ↦ w.then_some-is
+          ∙ (ap not w.would_circle.ensures ∙ ap (λ (b : Bool). b && back) (sym w.if-has_port.true ∙ c.has_port.ensures))
+      | else-has_port w ↦ w.then_some-is
+          ∙ (w.if-has_port.false ∙ ap (λ (b : Bool). b && back) (sym w.if-has_port.false ∙ c.has_port.ensures))
     ] in
-    c.then_some.ensures ∙ (ap (λ (b : Bool). then_some b target) takes ∙ (same_if (lives state target && back) target ∙ ap (taker state c.args.serial) (sym c.in_ok-target.was)))
+    c.then_some.ensures ∙ (ap (λ (b : Bool). then_some b target) takes
+    ∙ (same_if (lives state target && back) target ∙ ap (taker state c.args.serial) (sym c.in_ok-target.was)))

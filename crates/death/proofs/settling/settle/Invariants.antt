@@ -6,7 +6,8 @@ use Rattle.death.proofs.settling.settle.Given as goal
 
 abbrev pub invariant-loop-first : goal.invariant-loop-first
 invariant-loop-first l = record {
-  settles : (end : State) → Settles l.state.current l.effects end → Settles l.initial.state.current l.initial.effects end;
+  settles : (end : State) → Settles l.state.current l.effects end
+      → Settles l.initial.state.current l.initial.effects end;
   before : l.state.before ≡ l.initial.state.before;
 }
 

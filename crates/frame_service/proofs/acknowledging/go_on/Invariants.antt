@@ -6,5 +6,8 @@ use Rattle.frame_service.proofs.acknowledging.go_on.Given as goal
 
 -- however what is left goes on, the whole goes on like that
 abbrev pub invariant-loop : goal.invariant-loop
-invariant-loop g l = (more : List MessageRequest) (ready : Ready g.row.A-Ticket.Denot) (new : g.row.A.Denot) → GoesOn g.A.Asker.answer g.A.Asker.makes g.A.Asker.lacks l.asker l.rest more ready new
-    → (all : List MessageRequest) × GoesOn g.A.Asker.answer g.A.Asker.makes g.A.Asker.lacks l.fn.asker l.fn.message all ready new
+invariant-loop g l =
+    (more : List MessageRequest) (ready : Ready g.row.A-Ticket.Denot) (new : g.row.A.Denot)
+    → GoesOn g.A.Asker.answer g.A.Asker.makes g.A.Asker.lacks l.asker l.rest more ready new
+    → (all : List MessageRequest) × GoesOn g.A.Asker.answer g.A.Asker.makes g.A.Asker.lacks l.fn.asker l.fn.message all
+    ready new

@@ -11,6 +11,8 @@ invariant-loop g l = record {
   none : (l.all_pending.items ≡ []) × (deque_len l.all_pending ≡ 0);
   capacity : MOST_PENDING_FRAMES ≤ deque_capacity l.all_pending;
   room : MAX_FRAME_CONTENT ≤ l.reply.room;
-  turning : (input before : List ℕ) → g.R.Read.remaining l.fn.reader ≡ Some input → g.W.Write.contents l.fn.writer ≡ Some before
-      → Turning g.A.Asker.answer g.A.Asker.makes g.A.Asker.lacks g.A.Asker.acknowledges g.A.Asker.fails l.fn.asker l.asker input before (g.R.Read.remaining l.reader) (g.W.Write.contents l.writer) l.counter;
+  turning : (input before : List ℕ) → g.R.Read.remaining l.fn.reader ≡ Some input
+      → g.W.Write.contents l.fn.writer ≡ Some before
+      → Turning g.A.Asker.answer g.A.Asker.makes g.A.Asker.lacks g.A.Asker.acknowledges g.A.Asker.fails l.fn.asker
+      l.asker input before (g.R.Read.remaining l.reader) (g.W.Write.contents l.writer) l.counter;
 }

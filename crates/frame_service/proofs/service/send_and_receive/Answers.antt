@@ -24,5 +24,11 @@ returns-clause-answered g c =
 pub returns-clause-failed : goal.returns-clause-failed
 returns-clause-failed g c =
     if_err c.call-2.result
-    (λ _ failed. inr (c.in_ok-sent.sent, c.call.new.self, c.in_ok-sent.ensures.answers, sym (c.is_success.ensures c.args.send) ∙ c.if-not-is_success.false, failed))
+    (λ _ failed. inr (
+      c.in_ok-sent.sent,
+      c.call.new.self,
+      c.in_ok-sent.ensures.answers,
+      sym (c.is_success.ensures c.args.send) ∙ c.if-not-is_success.false,
+      failed,
+    ))
     c.call-2.ensures.fails

@@ -7,6 +7,8 @@ use Rattle.frame_service.proofs.service.serve.Given as goal
 abbrev pub invariant-loop : goal.invariant-loop
 invariant-loop g l = record {
   room : MAX_FRAME_CONTENT ≤ l.reply.room;
-  going : (input before : List ℕ) → g.R.Read.remaining l.fn.reader ≡ Some input → g.W.Write.contents l.fn.writer ≡ Some before
-      → Going g.C.Caller.answers g.C.Caller.rests l.fn.caller l.caller input before (g.R.Read.remaining l.reader) (g.W.Write.contents l.writer) l.counter;
+  going : (input before : List ℕ) → g.R.Read.remaining l.fn.reader ≡ Some input
+      → g.W.Write.contents l.fn.writer ≡ Some before
+      → Going g.C.Caller.answers g.C.Caller.rests l.fn.caller l.caller input before (g.R.Read.remaining l.reader)
+      (g.W.Write.contents l.writer) l.counter;
 }

@@ -11,5 +11,6 @@ loop-at-preserved g c =
       c.push_reserved.ensures.capacity ∙ so_far.1,
       omega (arith, ap length grown, length-append c.loop-at.notes.items (one ∷ []), so_far.2),
       ap (λ l. l ++ drop (c.loop-at.at + 1) c.args.others.now.items) grown
-          ∙ copy_next c.loop-at.notes.items c.args.others.now.items _ c.loop-at.at one (ap (λ l. slice_get l c.loop-at.at) (sym so_far.0) ∙ c.again_at.ensures.note) so_far.3,
+          ∙ copy_next c.loop-at.notes.items c.args.others.now.items _ c.loop-at.at one
+          (ap (λ l. slice_get l c.loop-at.at) (sym so_far.0) ∙ c.again_at.ensures.note) so_far.3,
     )

@@ -2,7 +2,8 @@ use Rattle.std.proofs.Common.{◌≡◌, ◌++◌, flat_map, length}
 use Rattle.image.proofs.encoded.push_rows.Given as goal
 
 abbrev pub invariant-loop-row : goal.invariant-loop-row
-invariant-loop-row g l = l.out.items ++ flat_map g.T.Encoded.encoding l.rest ≡ l.fn.out.items ++ flat_map g.T.Encoded.encoding l.fn.rows
+invariant-loop-row g l =
+    l.out.items ++ flat_map g.T.Encoded.encoding l.rest ≡ l.fn.out.items ++ flat_map g.T.Encoded.encoding l.fn.rows
 
 abbrev pub decreases-loop-row : goal.decreases-loop-row
 decreases-loop-row g l = length l.rest

@@ -8,5 +8,7 @@ pub returns : goal.returns
 returns c =
     let target = long_word (number_or_0 c.args.target) in
     let end = c.push_target.new.out.items in
-    added c.args.out.now.items c.push_byte.new.out.items (2 ∷ []) (long_word c.args.port ++ target) end c.in_ok-push_byte.ensures
-    (added c.push_byte.new.out.items c.push_long_word.new.out.items (long_word c.args.port) target end c.in_ok-push_long_word.ensures.ok c.in_ok-push_target.ensures)
+    added c.args.out.now.items c.push_byte.new.out.items (2 ∷ [])
+    (long_word c.args.port ++ target) end c.in_ok-push_byte.ensures
+    (added c.push_byte.new.out.items c.push_long_word.new.out.items
+    (long_word c.args.port) target end c.in_ok-push_long_word.ensures.ok c.in_ok-push_target.ensures)

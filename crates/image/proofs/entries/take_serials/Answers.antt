@@ -6,8 +6,12 @@ use Rattle.image.proofs.entries.take_serials.Goals as goal
 
 pub returns-clause-only : goal.returns-clause-only
 returns-clause-only c = λ first second rest fits fits_too is.
-    let one = long_word_once c.in_ok-first.first first c.in_ok-first.rest.now (long_word second ++ rest) c.in_ok-first.ensures.fits fits (sym c.in_ok-first.ensures.found ∙ is) in
-    let two = long_word_once c.in_ok-second.second second c.in_ok-second.rest.now rest c.in_ok-second.ensures.fits fits_too (sym c.in_ok-second.ensures.found ∙ one.1) in
+    let one =
+    long_word_once c.in_ok-first.first first c.in_ok-first.rest.now
+    (long_word second ++ rest) c.in_ok-first.ensures.fits fits (sym c.in_ok-first.ensures.found ∙ is) in
+    let two =
+    long_word_once c.in_ok-second.second second c.in_ok-second.rest.now rest c.in_ok-second.ensures.fits fits_too
+    (sym c.in_ok-second.ensures.found ∙ one.1) in
     (one.0, two.0, two.1)
 
 pub returns-in_err-first-clause-only : goal.returns-in_err-first-clause-only
@@ -16,5 +20,7 @@ returns-in_err-first-clause-only c = λ first second rest fits fits_too is.
 
 pub returns-in_err-second-clause-only : goal.returns-in_err-second-clause-only
 returns-in_err-second-clause-only c = λ first second rest fits fits_too is.
-    let one = long_word_once c.in_ok-first.first first c.in_ok-first.rest.now (long_word second ++ rest) c.in_ok-first.ensures.fits fits (sym c.in_ok-first.ensures.found ∙ is) in
+    let one =
+    long_word_once c.in_ok-first.first first c.in_ok-first.rest.now
+    (long_word second ++ rest) c.in_ok-first.ensures.fits fits (sym c.in_ok-first.ensures.found ∙ is) in
     no_long_word c.in_ok-first.rest.now second rest c.in_err-second.ensures.none one.1

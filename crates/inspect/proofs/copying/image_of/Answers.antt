@@ -9,7 +9,9 @@ use Rattle.inspect.proofs.copying.image_of.Goals as goal
 pub returns-clause-image : goal.returns-clause-image
 returns-clause-image c =
     let state : State = c.in-Ok.kernel in
-    let is : c.in_ok-image.image ≡ unwritten 0 (image_encoding state) = c.in_ok-image.ensures ∙ ap (unwritten 0) (ap snapshot_encoding c.in-Ok.ensures.same ∙ c.image_is_of_state.ensures state) in
+    let is : c.in_ok-image.image ≡ unwritten 0 (image_encoding state) =
+    c.in_ok-image.ensures ∙ ap (unwritten 0)
+    (ap snapshot_encoding c.in-Ok.ensures.same ∙ c.image_is_of_state.ensures state) in
     record {
       state = state;
       same = c.in-Ok.ensures.same;

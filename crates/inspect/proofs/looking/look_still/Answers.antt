@@ -23,11 +23,14 @@ returns-in-Ok-clause-state g c =
     let found = c.in-Ok.ensures.state in
     record {
       state = found.state;
-      reads = λ honest. subst (λ (s : Slots). Reads s look.epoch look.records found.state) (c.in_ok-copy.ensures.slots honest) (found.reads tt);
+      reads =
+          λ honest. subst (λ (s : Slots). Reads s look.epoch look.records found.state)
+          (c.in_ok-copy.ensures.slots honest) (found.reads tt);
       rows = found.rows;
     }
 
 pub returns-in-Err-clause-damaged : goal.returns-in-Err-clause-damaged
 returns-in-Err-clause-damaged g c = λ honest reported.
     let damaged : of_looking c.in-Err.fault ≡ Store store.Damaged = cc (c.fault_of_copy.ensures, reported) in
-    subst (λ (s : Slots). IsDamaged (as_written s)) (c.in_ok-copy.ensures.slots honest) (c.in-Err.ensures.damaged (ap Err (looking_damaged c.in-Err.fault damaged)))
+    subst (λ (s : Slots). IsDamaged (as_written s)) (c.in_ok-copy.ensures.slots honest)
+    (c.in-Err.ensures.damaged (ap Err (looking_damaged c.in-Err.fault damaged)))

@@ -16,5 +16,8 @@ returns-clause-text g c =
       epoch = c.in_ok-look.look.epoch;
       records = c.in_ok-look.look.records;
       reads = found.reads;
-      lines = c.in_ok-list.ensures found.state found.rows ∙ (λ i. c.new-text.ensures.items i ++ listing c.in_ok-look.look.epoch c.in_ok-look.look.records found.state);
+      lines =
+          c.in_ok-list.ensures found.state found.rows ∙
+          (λ i. c.new-text.ensures.items i
+          ++ listing c.in_ok-look.look.epoch c.in_ok-look.look.records found.state);
     }

@@ -3,7 +3,9 @@ use Rattle.inspect.proofs.Parts.{at_any, part_before, part_after}
 use Rattle.inspect.proofs.program.write_line.Goals as goal
 
 pub returns-in_err-write_bytes-clause-part : goal.returns-in_err-write_bytes-clause-part
-returns-in_err-write_bytes-clause-part g c = at_any _ (part_before _ _ c.args.name.now c.args.words.now (rw c.as_bytes.ensures.value at c.in_err-write_bytes.ensures.part))
+returns-in_err-write_bytes-clause-part g c =
+    at_any _ (part_before _ _ c.args.name.now c.args.words.now
+    (rw c.as_bytes.ensures.value at c.in_err-write_bytes.ensures.part))
 
 pub returns-clause-part : goal.returns-clause-part
 returns-clause-part g c =

@@ -6,4 +6,6 @@ use Rattle.ipc_state.proofs.carried.release_rights.Given as goal
 
 -- what was added so far
 abbrev pub invariant-loop-right : goal.invariant-loop-right
-invariant-loop-right l = l.effects ≡ l.initial.effects ++ flat_map (λ (r : CarriedRight). release_of (seen_right (lives_in l.ports.current.ports) r)) (take l.right-index l.rights)
+invariant-loop-right l =
+    l.effects ≡ l.initial.effects ++ flat_map
+    (λ (r : CarriedRight). release_of (seen_right (lives_in l.ports.current.ports) r)) (take l.right-index l.rights)

@@ -6,7 +6,9 @@ use Rattle.ipc_state.proofs.waking.name_names.Given as goal
 
 -- each place is still to be done, or named
 abbrev pub invariant-loop-place : goal.invariant-loop-place
-invariant-loop-place l = (number : ℕ) → is_touched number l.initial.rest ≡ true → (is_touched number l.rest ≡ true) ⊎ IsSetListed (names l.places) l.spaces.current l.ports.current.ports number
+invariant-loop-place l =
+    (number : ℕ) → is_touched number l.initial.rest ≡ true → (is_touched number l.rest ≡ true)
+    ⊎ IsSetListed (names l.places) l.spaces.current l.ports.current.ports number
 
 abbrev pub decreases-loop-place : goal.decreases-loop-place
 decreases-loop-place l = length l.rest

@@ -12,4 +12,5 @@ decreases-loop-place l = 2 ^ 64 - l.at
 abbrev pub invariant-loop-place : goal.invariant-loop-place
 invariant-loop-place l =
     (l.at ≤ 2 ^ 64) × IsMore l.initial.places l.places
-    × ((number : ℕ) → number < l.at → is_number (at_place received_port l.spaces.current number) l.serial ≡ true → IsListedFor (names l.places) l.numbers.set l.has_messages number)
+    × ((number : ℕ) → number < l.at → is_number (at_place received_port l.spaces.current number) l.serial ≡ true
+    → IsListedFor (names l.places) l.numbers.set l.has_messages number)

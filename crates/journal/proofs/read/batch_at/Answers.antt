@@ -13,7 +13,9 @@ returns-clause-found c = inr (
   omega (arith, c.if-count-eq0.false),
   c.in-Some-take_word.ensures.fits,
   c.in-Some-take_long_word.ensures.fits,
-  c.in-Some.ensures.open ∙ ap (λ (l : List ℕ). open_gate ∷ l) (c.in-Some-take_word.ensures.found ∙ ap (λ (l : List ℕ). word c.in-Some-take_word.count ++ l) c.in-Some-take_long_word.ensures.found),
+  c.in-Some.ensures.open ∙ ap (λ (l : List ℕ). open_gate ∷ l)
+      (c.in-Some-take_word.ensures.found ∙ ap
+      (λ (l : List ℕ). word c.in-Some-take_word.count ++ l) c.in-Some-take_long_word.ensures.found),
 )
 
 pub returns-clause-ended : goal.returns-clause-ended

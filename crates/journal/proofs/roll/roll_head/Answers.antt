@@ -12,15 +12,20 @@ pub returns-clause-header : goal.returns-clause-header
 returns-clause-header g c = λ honest.
     let old = g.D.Disk.view c.args.disk.now in
     let new = g.D.Disk.view c.write_header.new.disk in
-    subst (λ (s : Slot). OnOk c.write_header.result (new.seen ≡ with_slot old.seen s (take 1 (slot_of old.seen s) ++ (epoch_encoding c.args.epoch ++ closed_gate ∷ [])))) c.segment_slot.ensures (c.write_header.ensures.header honest)
+    subst (λ (s : Slot). OnOk c.write_header.result
+    (new.seen ≡ with_slot old.seen s
+    (take 1 (slot_of old.seen s) ++ (epoch_encoding c.args.epoch ++ closed_gate ∷ [])))) c.segment_slot.ensures
+    (c.write_header.ensures.header honest)
 
 pub returns-clause-synced : goal.returns-clause-synced
 returns-clause-synced g c = λ honest.
     let new = g.D.Disk.view c.write_header.new.disk in
-    subst (λ (s : Slot). OnOk c.write_header.result (IsSynced new s)) c.segment_slot.ensures (c.write_header.ensures.synced honest)
+    subst (λ (s : Slot). OnOk c.write_header.result (IsSynced new s)) c.segment_slot.ensures
+    (c.write_header.ensures.synced honest)
 
 pub returns-clause-any_moment : goal.returns-clause-any_moment
 returns-clause-any_moment g c = λ honest.
     let old = g.D.Disk.view c.args.disk.now in
     let new = g.D.Disk.view c.write_header.new.disk in
-    subst (λ (s : Slot). IsShut old s → Passes old new (Follows old s IsStillClosed)) c.segment_slot.ensures (c.write_header.ensures.any_moment honest)
+    subst (λ (s : Slot). IsShut old s → Passes old new (Follows old s IsStillClosed)) c.segment_slot.ensures
+    (c.write_header.ensures.any_moment honest)

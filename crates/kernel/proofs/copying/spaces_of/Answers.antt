@@ -7,7 +7,8 @@ use Rattle.kernel.proofs.copying.spaces_of.Goals as goal
 
 pub loop-number-init : goal.loop-number-init
 loop-number-init c = record {
-  gathered = gathered_none space_row c.args.state.now.current.spaces c.new-spaces.result.items c.new-spaces.ensures.items;
+  gathered =
+      gathered_none space_row c.args.state.now.current.spaces c.new-spaces.result.items c.new-spaces.ensures.items;
   fits = omega arith;
 }
 
@@ -17,11 +18,17 @@ loop-number-preserved c =
     let before = c.loop-number.spaces.items in
     let row : List NamedEntry → List Space = λ names. record { number = c.in-Some.number; names = names } ∷ [] in
     record {
-      gathered = subst (λ (n : ℕ). AreGathered space_row state.spaces c.push.new.self.items (n + 1)) (sym c.from-at.ensures)
-          (space_more state before c.push.new.self.items c.loop-number.at c.in-Some.number c.in-Some.ensures.0 c.in-Some.ensures.1 c.in-Some.ensures.2
-          (c.in_ok-push.ensures.items ∙ ap (λ (names : List NamedEntry). before ++ row names) (c.new.ensures ∙ c.in_ok-names.ensures)) c.loop-number.invariant.gathered);
+      gathered =
+          subst (λ (n : ℕ). AreGathered space_row state.spaces c.push.new.self.items (n + 1)) (sym c.from-at.ensures)
+          (space_more state before c.push.new.self.items c.loop-number.at c.in-Some.number c.in-Some.ensures.0
+          c.in-Some.ensures.1 c.in-Some.ensures.2
+          (c.in_ok-push.ensures.items ∙ ap
+          (λ (names : List NamedEntry). before ++ row names) (c.new.ensures ∙ c.in_ok-names.ensures))
+          c.loop-number.invariant.gathered);
       fits = omega (arith, c.from-at.ensures);
     }
 
 pub returns : goal.returns
-returns c = spaces_all c.args.state.now.current c.loop-number.spaces.items c.loop-number.at c.requires c.in_default.ensures c.loop-number.invariant.gathered
+returns c =
+    spaces_all c.args.state.now.current c.loop-number.spaces.items c.loop-number.at c.requires c.in_default.ensures
+    c.loop-number.invariant.gathered

@@ -20,7 +20,8 @@ named_same a b = (
       let bits : a.bits ≡ b.bits = (Decides-eqb a.bits b.bits).0 parts.1 in
       λ i. record { name = name i; bits = bits i }),
   (λ is. subst (λ (other : NamedType). (a.name == other.name && a.bits == other.bits) ≡ true) is
-      (subst (λ (t : Bool). (t && a.bits == a.bits) ≡ true) (sym ((Decides-eqb a.name a.name).1 refl)) ((Decides-eqb a.bits a.bits).1 refl))),
+      (subst (λ (t : Bool). (t && a.bits == a.bits) ≡ true) (sym ((Decides-eqb a.name a.name).1 refl))
+      ((Decides-eqb a.bits a.bits).1 refl))),
 )
 
 listed : Reply → List NamedType → List NamedType
@@ -32,7 +33,11 @@ unfolding listed
 returns-in-Names-Names c =
     let here = c.as_slice.result.now in
     let there = c.as_slice-in-Names-Names.result.now in
-    let same : Decides c.eq-in-Names-Names.result (here ≡ there) = slice_eq-Decides named_same here there c.eq-in-Names-Names.result c.eq-in-Names-Names.ensures in (
-      (λ is. c.in-Names-Names.is-0 ∙ ap reply.Names (sym c.as_slice.ensures ∙ same.0 is ∙ c.as_slice-in-Names-Names.ensures) ∙ sym c.in-Names-Names.is-1),
-      (λ is. same.1 (c.as_slice.ensures ∙ ap (λ (r : Reply). listed r here) (sym c.in-Names-Names.is-0 ∙ is ∙ c.in-Names-Names.is-1) ∙ sym c.as_slice-in-Names-Names.ensures)),
+    let same : Decides c.eq-in-Names-Names.result (here ≡ there) =
+    slice_eq-Decides named_same here there c.eq-in-Names-Names.result c.eq-in-Names-Names.ensures in (
+      (λ is. c.in-Names-Names.is-0 ∙ ap reply.Names
+          (sym c.as_slice.ensures ∙ same.0 is ∙ c.as_slice-in-Names-Names.ensures) ∙ sym c.in-Names-Names.is-1),
+      (λ is. same.1 (c.as_slice.ensures ∙ ap
+          (λ (r : Reply). listed r here) (sym c.in-Names-Names.is-0 ∙ is ∙ c.in-Names-Names.is-1)
+          ∙ sym c.as_slice-in-Names-Names.ensures)),
     )

@@ -17,11 +17,17 @@ pub returns-clause-answered : goal.returns-clause-answered
 returns-clause-answered c =
     let old = c.args.state.now.current in
     let none = sym c.has_record.ensures ∙ c.if-has_record.false in
-    let same = unrecorded_step old c.args.space c.args.call.now c.in_ok-reply.reply c.step.new.state.current c.in_ok-reply.ensures.step none in
-    (subst (λ (s : State). Step old c.args.space c.args.call.now c.in_ok-reply.reply s) same c.in_ok-reply.ensures.step, none)
+    let same =
+    unrecorded_step old c.args.space c.args.call.now c.in_ok-reply.reply c.step.new.state.current
+    c.in_ok-reply.ensures.step none in (
+      subst (λ (s : State). Step old c.args.space c.args.call.now c.in_ok-reply.reply s) same c.in_ok-reply.ensures.step,
+      none,
+    )
 
 pub returns-clause-fits : goal.returns-clause-fits
-returns-clause-fits c = (step_fitting c.args.state.now.current c.args.space c.args.call.now c.in_ok-reply.reply c.step.new.state.current c.requires.lawful c.in_ok-reply.ensures.step).bytes
+returns-clause-fits c =
+    (step_fitting c.args.state.now.current c.args.space c.args.call.now c.in_ok-reply.reply c.step.new.state.current
+    c.requires.lawful c.in_ok-reply.ensures.step).bytes
 
 pub returns-clause-none : goal.returns-clause-none
 returns-clause-none c = tt

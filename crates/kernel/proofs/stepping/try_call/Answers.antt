@@ -8,8 +8,11 @@ pub returns-in-Some-clause-shown : goal.returns-in-Some-clause-shown
 returns-in-Some-clause-shown c =
     let gives = of_some _ c.in_ok-reply.field-0 c.in-Some.reply c.in-Some.is c.in_ok-reply.ensures.gives in
     let tries = of_some _ c.in_ok-reply.field-0 c.in-Some.reply c.in-Some.is c.in_ok-reply.ensures.tries in
-    let did = acted c.args.state.now.current c.args.space c.args.call.now c.in-Some.reply c.give_rights_up.new.state.current c.give_rights_up.new.effects tries in
-    prefers_told c.args.state.now.current c.args.space c.args.call.now c.args.shown.now c.in-Some.reply did.0 did.1 (giving_told c.args.call.now gives) did.2
+    let did =
+    acted c.args.state.now.current c.args.space c.args.call.now c.in-Some.reply c.give_rights_up.new.state.current
+    c.give_rights_up.new.effects tries in
+    prefers_told c.args.state.now.current c.args.space c.args.call.now c.args.shown.now c.in-Some.reply did.0 did.1
+    (giving_told c.args.call.now gives) did.2
 
 pub returns-clause-tries : goal.returns-clause-tries
 returns-clause-tries c = search rules

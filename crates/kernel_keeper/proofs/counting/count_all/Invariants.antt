@@ -9,7 +9,8 @@ abbrev pub invariant-loop-session : goal.invariant-loop-session
 invariant-loop-session g l =
     let rest = into_iter_items l.session-iterator in let all = into_iter_items l.initial.session-iterator in
     (l.past ≡ l.initial.past)
-    × (AllBelong g.L.Founding.base l.initial.past.entries l.stored l.last rest → AllBelong g.L.Founding.base l.initial.past.entries l.stored 0 all)
+    × (AllBelong g.L.Founding.base l.initial.past.entries l.stored l.last rest
+    → AllBelong g.L.Founding.base l.initial.past.entries l.stored 0 all)
     × (l.initial.share.parts + length all ≤ l.share.parts + length rest)
     × (l.share.amount + length (places_of (tasks_of rest)) ≡ l.initial.share.amount + length (places_of (tasks_of all)))
     × (AllCanBelong l.initial.past l.stored 0 all → AllCanBelong l.initial.past l.stored l.last rest)

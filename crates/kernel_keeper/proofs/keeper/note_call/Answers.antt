@@ -5,10 +5,21 @@ use Rattle.kernel_keeper.proofs.keeper.note_call.Goals as goal
 
 pub returns-then-is_success-clause-answered : goal.returns-then-is_success-clause-answered
 returns-then-is_success-clause-answered g c none =
-    let done = sym (c.is_success.ensures c.args.call.now) ∙ c.if-is_success.true in
-    (c.attached_by-own_state.ensures ∙ ap (λ b. if b then attached_by c.args.own_state.now.space c.args.call.now else c.args.own_state.now.space) (sym done), refl, refl, refl)
+    let done = sym (c.is_success.ensures c.args.call.now) ∙ c.if-is_success.true in (
+      c.attached_by-own_state.ensures ∙ ap
+          (λ b. if b then attached_by c.args.own_state.now.space c.args.call.now else c.args.own_state.now.space)
+          (sym done),
+      refl,
+      refl,
+      refl,
+    )
 
 pub returns-else-is_success-clause-answered : goal.returns-else-is_success-clause-answered
 returns-else-is_success-clause-answered g c none =
-    let refused = sym (c.is_success.ensures c.args.call.now) ∙ c.if-is_success.false in
-    (ap (λ b. if b then attached_by c.args.own_state.now.space c.args.call.now else c.args.own_state.now.space) (sym refused), refl, refl, refl)
+    let refused = sym (c.is_success.ensures c.args.call.now) ∙ c.if-is_success.false in (
+      ap (λ b. if b then attached_by c.args.own_state.now.space c.args.call.now else c.args.own_state.now.space)
+          (sym refused),
+      refl,
+      refl,
+      refl,
+    )

@@ -4,4 +4,6 @@ use Rattle.listing.proofs.drawing.push_names.Given as goal
 
 -- what is drawn, with what is left, is all
 abbrev pub invariant-loop-named : goal.invariant-loop-named
-invariant-loop-named l = l.out.items ++ names_drawn l.space (drop l.named-index l.names) ≡ l.fn.out.items ++ names_drawn l.fn.space l.fn.names
+invariant-loop-named l =
+    l.out.items ++ names_drawn l.space (drop l.named-index l.names) ≡ l.fn.out.items
+    ++ names_drawn l.fn.space l.fn.names

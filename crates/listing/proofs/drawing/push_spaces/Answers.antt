@@ -5,4 +5,6 @@ use Rattle.listing.proofs.drawing.push_spaces.Goals as goal
 
 pub loop-space-preserved : goal.loop-space-preserved
 loop-space-preserved c =
-    one_added space_drawn _ c.args.spaces.now c.loop-space.space-index _ c.loop-space.out.items _ c.push_space.new.out.items (omega arith) c.loop-space.invariant (ap space_drawn c.space-item.is) c.in_ok-push_space.ensures
+    one_added space_drawn _ c.args.spaces.now c.loop-space.space-index _ c.loop-space.out.items _
+    c.push_space.new.out.items (omega arith) c.loop-space.invariant
+    (ap space_drawn c.space-item.is) c.in_ok-push_space.ensures

@@ -6,4 +6,6 @@ use Rattle.listing.proofs.listing.push_names.Goals as goal
 
 pub loop-named-preserved : goal.loop-named-preserved
 loop-named-preserved c =
-    one_added (λ (named : NamedEntry). name_line named.name named.entry) _ c.args.names.now c.loop-named.named-index _ c.loop-named.out.items _ c.push_encoding.new.out.items (omega arith) c.loop-named.invariant c.in_ok-line.ensures c.in_ok-push_encoding.ensures
+    one_added (λ (named : NamedEntry). name_line named.name named.entry) _ c.args.names.now c.loop-named.named-index _
+    c.loop-named.out.items _ c.push_encoding.new.out.items
+    (omega arith) c.loop-named.invariant c.in_ok-line.ensures c.in_ok-push_encoding.ensures

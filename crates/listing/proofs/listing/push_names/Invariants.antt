@@ -4,4 +4,5 @@ use Rattle.listing.proofs.listing.push_names.Given as goal
 
 -- what is written, with what is left, is all
 abbrev pub invariant-loop-named : goal.invariant-loop-named
-invariant-loop-named l = l.out.items ++ names_rows (drop l.named-index l.names) ≡ l.fn.out.items ++ names_rows l.fn.names
+invariant-loop-named l =
+    l.out.items ++ names_rows (drop l.named-index l.names) ≡ l.fn.out.items ++ names_rows l.fn.names

@@ -4,4 +4,6 @@ use Rattle.listing.proofs.listing.push_ports.Given as goal
 
 -- what is written, with what is left, is all
 abbrev pub invariant-loop-port : goal.invariant-loop-port
-invariant-loop-port l = l.out.items ++ ports_rows l.tallies.by_port (drop l.port-index l.ports) ≡ l.fn.out.items ++ ports_rows l.fn.tallies.by_port l.fn.ports
+invariant-loop-port l =
+    l.out.items ++ ports_rows l.tallies.by_port (drop l.port-index l.ports) ≡ l.fn.out.items
+    ++ ports_rows l.fn.tallies.by_port l.fn.ports

@@ -4,4 +4,5 @@ use Rattle.listing.proofs.listing.push_spaces.Given as goal
 
 -- what is written, with what is left, is all
 abbrev pub invariant-loop-space : goal.invariant-loop-space
-invariant-loop-space l = l.out.items ++ spaces_rows (drop l.space-index l.spaces) ≡ l.fn.out.items ++ spaces_rows l.fn.spaces
+invariant-loop-space l =
+    l.out.items ++ spaces_rows (drop l.space-index l.spaces) ≡ l.fn.out.items ++ spaces_rows l.fn.spaces

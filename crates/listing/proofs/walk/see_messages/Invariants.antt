@@ -4,4 +4,6 @@ use Rattle.listing.proofs.walk.see_messages.Given as goal
 
 -- what is kept, with what is left to see, is all
 abbrev pub invariant-loop-message : goal.invariant-loop-message
-invariant-loop-message g l = messages_seen g.V.Visitor.seen l.queue (drop l.message-index l.messages) (g.V.Visitor.view l.visitor) ≡ messages_seen g.V.Visitor.seen l.fn.queue l.fn.messages (g.V.Visitor.view l.fn.visitor)
+invariant-loop-message g l =
+    messages_seen g.V.Visitor.seen l.queue (drop l.message-index l.messages) (g.V.Visitor.view l.visitor)
+    ≡ messages_seen g.V.Visitor.seen l.fn.queue l.fn.messages (g.V.Visitor.view l.fn.visitor)

@@ -4,4 +4,6 @@ use Rattle.listing.proofs.walk.see_names.Given as goal
 
 -- what is kept, with what is left to see, is all
 abbrev pub invariant-loop-named : goal.invariant-loop-named
-invariant-loop-named g l = names_seen g.V.Visitor.seen l.space (drop l.named-index l.names) (g.V.Visitor.view l.visitor) ≡ names_seen g.V.Visitor.seen l.fn.space l.fn.names (g.V.Visitor.view l.fn.visitor)
+invariant-loop-named g l =
+    names_seen g.V.Visitor.seen l.space (drop l.named-index l.names) (g.V.Visitor.view l.visitor)
+    ≡ names_seen g.V.Visitor.seen l.fn.space l.fn.names (g.V.Visitor.view l.fn.visitor)

@@ -4,4 +4,6 @@ use Rattle.listing.proofs.walk.see_ports.Given as goal
 
 -- what is kept, with what is left to see, is all
 abbrev pub invariant-loop-port : goal.invariant-loop-port
-invariant-loop-port g l = ports_seen g.V.Visitor.seen (drop l.port-index l.ports) (g.V.Visitor.view l.visitor) ≡ ports_seen g.V.Visitor.seen l.fn.ports (g.V.Visitor.view l.fn.visitor)
+invariant-loop-port g l =
+    ports_seen g.V.Visitor.seen (drop l.port-index l.ports) (g.V.Visitor.view l.visitor)
+    ≡ ports_seen g.V.Visitor.seen l.fn.ports (g.V.Visitor.view l.fn.visitor)

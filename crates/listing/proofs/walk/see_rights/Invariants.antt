@@ -4,4 +4,6 @@ use Rattle.listing.proofs.walk.see_rights.Given as goal
 
 -- what is kept, with what is left to see, is all
 abbrev pub invariant-loop-carried : goal.invariant-loop-carried
-invariant-loop-carried g l = rights_seen g.V.Visitor.seen l.queue (drop l.carried-index l.rights) (g.V.Visitor.view l.visitor) ≡ rights_seen g.V.Visitor.seen l.fn.queue l.fn.rights (g.V.Visitor.view l.fn.visitor)
+invariant-loop-carried g l =
+    rights_seen g.V.Visitor.seen l.queue (drop l.carried-index l.rights) (g.V.Visitor.view l.visitor)
+    ≡ rights_seen g.V.Visitor.seen l.fn.queue l.fn.rights (g.V.Visitor.view l.fn.visitor)

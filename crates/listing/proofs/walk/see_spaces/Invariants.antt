@@ -4,4 +4,6 @@ use Rattle.listing.proofs.walk.see_spaces.Given as goal
 
 -- what is kept, with what is left to see, is all
 abbrev pub invariant-loop-space : goal.invariant-loop-space
-invariant-loop-space g l = spaces_seen g.V.Visitor.seen (drop l.space-index l.spaces) (g.V.Visitor.view l.visitor) ≡ spaces_seen g.V.Visitor.seen l.fn.spaces (g.V.Visitor.view l.fn.visitor)
+invariant-loop-space g l =
+    spaces_seen g.V.Visitor.seen (drop l.space-index l.spaces) (g.V.Visitor.view l.visitor)
+    ≡ spaces_seen g.V.Visitor.seen l.fn.spaces (g.V.Visitor.view l.fn.visitor)

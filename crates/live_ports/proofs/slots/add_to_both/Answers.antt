@@ -14,9 +14,12 @@ returns-clause-ok c =
     let more = c.insert_reserved.new.self in
     let kept = c.reserve.ensures.rest_kept in
     let keyed = same_values ports room keys (ap (λ (s : Slab PortSlot). s.slots) kept) c.requires.keyed in
-    let key : c.insert_reserved.result ≡ c.vacant_key.result = c.insert_reserved.ensures.key ∙ sym c.vacant_key.ensures.value in
+    let key : c.insert_reserved.result ≡ c.vacant_key.result =
+    c.insert_reserved.ensures.key ∙ sym c.vacant_key.ensures.value in
     let updates = subst (λ (k : ℕ). Updates room more k (Some c.args.port)) key c.insert_reserved.ensures.updates in
-    ap (by_serial more) c.in_ok-insert.ensures.ok ∙ added_is room more keys c.args.serial c.vacant_key.result c.args.port keyed c.requires.absent c.vacant_key.ensures.vacant updates
+    ap (by_serial more) c.in_ok-insert.ensures.ok
+    ∙ added_is room more keys c.args.serial c.vacant_key.result c.args.port keyed c.requires.absent
+    c.vacant_key.ensures.vacant updates
     ∙ ap (λ (s : Slab PortSlot). insert (by_serial s keys) c.args.serial c.args.port) kept
 
 pub returns-clause-keyed : goal.returns-clause-keyed
@@ -25,7 +28,12 @@ returns-clause-keyed c =
     let keys = c.args.keys.now in
     let room = c.reserve.new.self in
     let more = c.insert_reserved.new.self in
-    let keyed = same_values ports room keys (ap (λ (s : Slab PortSlot). s.slots) c.reserve.ensures.rest_kept) c.requires.keyed in
-    let key : c.insert_reserved.result ≡ c.vacant_key.result = c.insert_reserved.ensures.key ∙ sym c.vacant_key.ensures.value in
+    let keyed =
+    same_values ports room keys (ap (λ (s : Slab PortSlot). s.slots) c.reserve.ensures.rest_kept) c.requires.keyed
+    in
+    let key : c.insert_reserved.result ≡ c.vacant_key.result =
+    c.insert_reserved.ensures.key ∙ sym c.vacant_key.ensures.value in
     let updates = subst (λ (k : ℕ). Updates room more k (Some c.args.port)) key c.insert_reserved.ensures.updates in
-    subst (λ (k : Keys). AreKeyed more k) (sym c.in_ok-insert.ensures.ok) (added_keyed room more keys c.args.serial c.vacant_key.result c.args.port keyed c.requires.absent c.vacant_key.ensures.vacant updates)
+    subst (λ (k : Keys). AreKeyed more k) (sym c.in_ok-insert.ensures.ok)
+    (added_keyed room more keys c.args.serial c.vacant_key.result c.args.port keyed c.requires.absent
+    c.vacant_key.ensures.vacant updates)

@@ -5,4 +5,5 @@ use Rattle.number_map.proofs.NumberMap.contains_key.Goals as goal
 
 pub returns : goal.returns
 returns g c =
-    c.contains_key.ensures ∙ ap is_some (sym (get_viewed c.self.inside.entries.entries c.args.key) ∙ ap (λ m. map.get m c.args.key) c.self.view_is)
+    c.contains_key.ensures ∙ ap is_some
+    (sym (get_viewed c.self.inside.entries.entries c.args.key) ∙ ap (λ m. map.get m c.args.key) c.self.view_is)

@@ -12,11 +12,16 @@ use Rattle.number_map.proofs.NumberMap.get_mut.Goals as goal
 pub returns : goal.returns
 returns g c =
     let es = c.self.inside.entries.entries in (
-      same_loan c.get_mut.result (lookup (is_at (nat_cmp c.args.key)) es) (λ w. from_entries (c.get_mut.follows.lender w).entries) (map.insert c.args.self.now c.args.key) (from_entries c.get_mut.follows.lender-at-none.entries) c.args.self.now c.get_mut.ensures.value
-          (λ there w. inserted es (c.get_mut.follows.lender w).entries c.args.key w ((c.get_mut.follows.holds w).3 there).0 ∙ ap (λ m. map.insert m c.args.key w) c.self.view_is)
+      same_loan c.get_mut.result (lookup (is_at (nat_cmp c.args.key)) es)
+          (λ w. from_entries (c.get_mut.follows.lender w).entries) (map.insert c.args.self.now c.args.key)
+          (from_entries c.get_mut.follows.lender-at-none.entries) c.args.self.now c.get_mut.ensures.value
+          (λ there w. inserted es (c.get_mut.follows.lender w).entries c.args.key w
+          ((c.get_mut.follows.holds w).3 there).0 ∙ ap (λ m. map.insert m c.args.key w) c.self.view_is)
           (ap (λ m. from_entries m.entries) c.get_mut.follows.holds-at-none ∙ c.self.view_is),
       record {
         writes_back = tt;
-        value = got es c.args.key c.args.self.now (option_copied_mut c.get_mut.result) c.get_mut.ensures.value c.self.view_is;
+        value =
+            got es c.args.key c.args.self.now
+            (option_copied_mut c.get_mut.result) c.get_mut.ensures.value c.self.view_is;
       },
     )

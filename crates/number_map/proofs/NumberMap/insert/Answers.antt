@@ -9,12 +9,16 @@ for_err (Err e) p = p
 
 pub returns-in_err-insert-clause-absent : goal.returns-in_err-insert-clause-absent
 returns-in_err-insert-clause-absent g c =
-    for_err c.from_residual.result (sym (ap (λ m. map.get m c.args.key) c.self.view_is) ∙ get_viewed c.self.inside.entries.entries c.args.key ∙ c.in_err-insert.ensures.absent)
+    for_err c.from_residual.result
+    (sym (ap (λ m. map.get m c.args.key) c.self.view_is) ∙ get_viewed c.self.inside.entries.entries c.args.key
+    ∙ c.in_err-insert.ensures.absent)
 
 pub returns-clause-before : goal.returns-clause-before
 returns-clause-before g c =
-    c.in_ok-insert.ensures.old ∙ sym (get_viewed c.self.inside.entries.entries c.args.key) ∙ ap (λ m. map.get m c.args.key) c.self.view_is
+    c.in_ok-insert.ensures.old ∙ sym (get_viewed c.self.inside.entries.entries c.args.key) ∙ ap
+    (λ m. map.get m c.args.key) c.self.view_is
 
 pub returns-clause-ok : goal.returns-clause-ok
 returns-clause-ok g c =
-    inserted c.self.inside.entries.entries c.insert.new.self.entries c.args.key c.args.value c.in_ok-insert.ensures.updates.0 ∙ ap (λ m. map.insert m c.args.key c.args.value) c.self.view_is
+    inserted c.self.inside.entries.entries c.insert.new.self.entries c.args.key c.args.value
+    c.in_ok-insert.ensures.updates.0 ∙ ap (λ m. map.insert m c.args.key c.args.value) c.self.view_is

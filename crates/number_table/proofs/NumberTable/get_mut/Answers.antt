@@ -12,12 +12,17 @@ returns-in-Some g c =
     let rows = c.self.inside.rows.items in
     let row = c.in-Some.row.now in
     let item = c.in-Some.ensures.item in (
-      same_loan c.as_mut.result row (λ w. rows_from 0 (slice_set rows c.args.number (Some w))) (map.insert c.args.self.now c.args.number) (rows_from 0 (slice_set rows c.args.number row)) c.args.self.now c.as_mut.ensures.value
+      same_loan c.as_mut.result row (λ w. rows_from 0 (slice_set rows c.args.number (Some w)))
+          (map.insert c.args.self.now c.args.number)
+          (rows_from 0 (slice_set rows c.args.number row)) c.args.self.now c.as_mut.ensures.value
           (λ there w. inserted rows c.args.number w item.3.0 ∙ ap (λ m. map.insert m c.args.number w) c.self.view_is)
-          (ap (λ r. rows_from 0 (slice_set rows c.args.number r)) (item.4 (omega arith) row) ∙ ap (rows_from 0) (set-get_or rows c.args.number row) ∙ c.self.view_is),
+          (ap (λ r. rows_from 0 (slice_set rows c.args.number r)) (item.4 (omega arith) row)
+          ∙ ap (rows_from 0) (set-get_or rows c.args.number row) ∙ c.self.view_is),
       record {
         writes_back = tt;
-        value = got rows c.args.number c.args.self.now (option_copied_mut c.as_mut.result) (c.as_mut.ensures.value ∙ item.4 (omega arith) None) c.self.view_is;
+        value =
+            got rows c.args.number c.args.self.now (option_copied_mut c.as_mut.result)
+            (c.as_mut.ensures.value ∙ item.4 (omega arith) None) c.self.view_is;
       },
     )
 
@@ -26,6 +31,8 @@ returns-in-None g c = (
   ap inr c.self.view_is,
   record {
     writes_back = tt;
-    value = got_none c.self.inside.rows.items c.self.inside.rows.items c.args.number c.args.self.now refl c.in-None.ensures.item.3 c.self.view_is;
+    value =
+        got_none c.self.inside.rows.items c.self.inside.rows.items c.args.number c.args.self.now refl
+        c.in-None.ensures.item.3 c.self.view_is;
   },
 )

@@ -7,4 +7,6 @@ use Rattle.place_index.proofs.index.stay.Goals as goal
 pub returns-then-contains_key-clause-ok : goal.returns-then-contains_key-clause-ok
 returns-then-contains_key-clause-ok c =
     let places = c.args.places.now.current in
-    stands places c.key-key.result (sym c.contains_key.ensures ∙ c.if-contains_key.true) ∙ ap (λ (k : ℕ). map.insert places k tt) c.key-key.ensures.key ∙ ap (λ (n : Option ℕ). with_place places n c.args.place) (sym c.in-Some.is)
+    stands places c.key-key.result (sym c.contains_key.ensures ∙ c.if-contains_key.true) ∙ ap
+    (λ (k : ℕ). map.insert places k tt) c.key-key.ensures.key ∙ ap
+    (λ (n : Option ℕ). with_place places n c.args.place) (sym c.in-Some.is)

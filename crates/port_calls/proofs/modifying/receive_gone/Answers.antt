@@ -12,4 +12,6 @@ returns-clause-effects c =
     let left : Entry = Port (record c.args.rights { receive = false }) in
     let notices = notices_of_left c.args.name left in
     still_ok c.set_left.result
-    (c.in_ok-announce_left.ensures.ok ∙ (ap (λ (effects : List Effect). effects ++ notices) c.in_ok-release.ensures ∙ append_assoc c.args.effects.now (release kind.Receive c.args.rights.port ∷ []) notices))
+    (c.in_ok-announce_left.ensures.ok
+    ∙ (ap (λ (effects : List Effect). effects ++ notices) c.in_ok-release.ensures
+    ∙ append_assoc c.args.effects.now (release kind.Receive c.args.rights.port ∷ []) notices))

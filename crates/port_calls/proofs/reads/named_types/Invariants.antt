@@ -3,4 +3,5 @@ use Rattle.ipc_model.specs.state.State.{type_of}
 use Rattle.port_calls.proofs.reads.named_types.Given as goal
 
 abbrev pub invariant-loop-name : goal.invariant-loop-name
-invariant-loop-name l = l.types.items ≡ map (λ e. record { name = e.0; bits = type_of e.1 }) (take l.name-index l.name-items)
+invariant-loop-name l =
+    l.types.items ≡ map (λ e. record { name = e.0; bits = type_of e.1 }) (take l.name-index l.name-items)

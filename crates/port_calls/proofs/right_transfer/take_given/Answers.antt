@@ -13,6 +13,12 @@ returns-clause-there c =
     let new = c.take_right.new.state.current in
     let after = c.take_right.new.effects in
     let by = c.args.disposition in
-    let took = subst (λ (o : Option CarriedRight). Takes (copy_in old c.args.space c.args.name by) old c.args.effects.now o new after) c.in-Some.is c.in_ok-right.ensures.taken in
-    let is = taken_is (copy_in old c.args.space c.args.name by) old new c.args.effects.now after c.in-Some.right c.requires.none took in
-    copy_in_keeps old c.args.space c.args.name by (record { right = c.in-Some.right; state = new; notices = after }) c.requires.there is
+    let took =
+    subst (λ (o : Option CarriedRight). Takes
+    (copy_in old c.args.space c.args.name by) old c.args.effects.now o new after) c.in-Some.is
+    c.in_ok-right.ensures.taken in
+    let is =
+    taken_is (copy_in old c.args.space c.args.name by) old new c.args.effects.now after c.in-Some.right
+    c.requires.none took in
+    copy_in_keeps old c.args.space c.args.name by
+    (record { right = c.in-Some.right; state = new; notices = after }) c.requires.there is

@@ -5,4 +5,6 @@ use Rattle.port_set.proofs.member.member_ports.Given as goal
 
 -- the ports so far with those that are left
 abbrev pub invariant-loop-port : goal.invariant-loop-port
-invariant-loop-port l = l.ports.items ++ map (λ m. m.1) (drop l.port-index l.port-items) ≡ serials_of_members l.state.current (names_in l.state.current l.space) l.set
+invariant-loop-port l =
+    l.ports.items ++ map (λ m. m.1) (drop l.port-index l.port-items)
+    ≡ serials_of_members l.state.current (names_in l.state.current l.space) l.set

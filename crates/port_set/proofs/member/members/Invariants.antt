@@ -5,4 +5,6 @@ use Rattle.port_set.proofs.member.members.Given as goal
 
 -- the names so far with those that are left
 abbrev pub invariant-loop-name : goal.invariant-loop-name
-invariant-loop-name l = l.members.items ++ map (λ m. m.0) (drop l.name-index l.name-items) ≡ members_of l.state.current (names_in l.state.current l.space) l.set
+invariant-loop-name l =
+    l.members.items ++ map (λ m. m.0) (drop l.name-index l.name-items)
+    ≡ members_of l.state.current (names_in l.state.current l.space) l.set

@@ -7,4 +7,6 @@ use Rattle.port_set.proofs.member.received_ports.Given as goal
 
 -- the ports so far with those of the names that are left
 abbrev pub invariant-loop-entry : goal.invariant-loop-entry
-invariant-loop-entry l = l.ports.items ++ filter_map (λ e. received_port e.1) (drop l.entry-index l.entry-items) ≡ received_serials (names_in l.state.current l.space)
+invariant-loop-entry l =
+    l.ports.items ++ filter_map (λ e. received_port e.1) (drop l.entry-index l.entry-items)
+    ≡ received_serials (names_in l.state.current l.space)

@@ -5,7 +5,8 @@ use Rattle.ports.proofs.burials.clear_carriers.Given as goal
 
 abbrev pub invariant-loop-outer : goal.invariant-loop-outer
 invariant-loop-outer l = record {
-  others : (a b : ℕ) → b < 2 ^ 64 → (a == l.inner) ≡ false → count_at l.carriers.current a b ≡ count_at l.fn.carriers.current a b;
+  others : (a b : ℕ) → b < 2 ^ 64 → (a == l.inner) ≡ false
+      → count_at l.carriers.current a b ≡ count_at l.fn.carriers.current a b;
   before : l.carriers.before ≡ l.fn.carriers.before;
 }
 

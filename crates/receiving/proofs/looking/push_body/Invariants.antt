@@ -5,4 +5,5 @@ use Rattle.receiving.proofs.looking.push_body.Given as goal
 -- the rights before this one are added
 abbrev pub invariant-loop-right : goal.invariant-loop-right
 invariant-loop-right l =
-    l.rights.items ++ map (seen_right (lives_in l.state.current.ports)) (drop l.right-index l.body) ≡ l.fn.rights.items ++ map (seen_right (lives_in l.state.current.ports)) l.body
+    l.rights.items ++ map (seen_right (lives_in l.state.current.ports)) (drop l.right-index l.body) ≡ l.fn.rights.items
+    ++ map (seen_right (lives_in l.state.current.ports)) l.body

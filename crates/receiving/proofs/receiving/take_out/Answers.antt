@@ -13,48 +13,75 @@ use Rattle.receiving.proofs.receiving.take_out.Goals as goal
 pub returns-then-outline-asked-clause-acts : goal.returns-then-outline-asked-clause-acts
 returns-then-outline-asked-clause-acts c = λ port message later live first.
     let outline = c.in-Some.ensures.some port message later live first in
-    let large : nat_lt c.args.asked.limit (message_size message) ≡ true = lt-ltb c.args.asked.limit (message_size message) (subst (λ (n : ℕ). c.args.asked.limit < n) outline.0 c.if-outline-asked.true) in
-    was_large c.args.state.now.current c.args.space (names_in c.args.state.now.current c.args.space) (receipt_of c.args.asked) c.args.source.member c.args.source.port port message c.in_ok-reply.reply c.too_large.new.state.current c.too_large.new.effects
+    let large : nat_lt c.args.asked.limit (message_size message) ≡ true =
+    lt-ltb c.args.asked.limit (message_size message)
+    (subst (λ (n : ℕ). c.args.asked.limit < n) outline.0 c.if-outline-asked.true) in
+    was_large c.args.state.now.current c.args.space (names_in c.args.state.now.current c.args.space)
+    (receipt_of c.args.asked) c.args.source.member c.args.source.port port message c.in_ok-reply.reply
+    c.too_large.new.state.current c.too_large.new.effects
     large (c.in_ok-reply.ensures.large port message later live first outline.0 outline.1)
 
 pub returns-then-outline-asked-clause-shown : goal.returns-then-outline-asked-clause-shown
 returns-then-outline-asked-clause-shown c = λ port message later live first other last others _ may.
     let outline = c.in-Some.ensures.some port message later live first in
-    let large : nat_lt c.args.asked.limit (message_size message) ≡ true = lt-ltb c.args.asked.limit (message_size message) (subst (λ (n : ℕ). c.args.asked.limit < n) outline.0 c.if-outline-asked.true) in
-    large_told c.args.state.now.current c.args.space (names_in c.args.state.now.current c.args.space) (receipt_of c.args.asked) c.args.source.member c.args.source.port port message c.in_ok-reply.reply c.too_large.new.state.current c.too_large.new.effects other last others
+    let large : nat_lt c.args.asked.limit (message_size message) ≡ true =
+    lt-ltb c.args.asked.limit (message_size message)
+    (subst (λ (n : ℕ). c.args.asked.limit < n) outline.0 c.if-outline-asked.true) in
+    large_told c.args.state.now.current c.args.space (names_in c.args.state.now.current c.args.space)
+    (receipt_of c.args.asked) c.args.source.member c.args.source.port port message c.in_ok-reply.reply
+    c.too_large.new.state.current c.too_large.new.effects other last others
     large (c.in_ok-reply.ensures.large port message later live first outline.0 outline.1) may
 
 pub returns-then-lacks_room-clause-acts : goal.returns-then-lacks_room-clause-acts
 returns-then-lacks_room-clause-acts c = λ port message later live first.
     let names = names_in c.args.state.now.current c.args.space in
     let outline = c.in-Some.ensures.some port message later live first in
-    let small : nat_lt c.args.asked.limit (message_size message) ≡ false = le-ltb c.args.asked.limit (message_size message) (omega (arith, outline.0, c.if-outline-asked.false)) in
-    let rights : c.as_slice.result.now ≡ arriving message = c.as_slice.ensures.value ∙ c.in_ok-rights.ensures port message later live first in
-    let lacks = ap (λ (l : List CarriedRight). nat_lt MAX_NAMES (finmap.len names + names_needed names [] l)) (sym rights) ∙ sym c.lacks_room.ensures ∙ c.if-lacks_room.true in
-    was_lacking c.args.state.now.current c.args.space names (receipt_of c.args.asked) c.args.source.member c.args.source.port port message c.without_message-then-lacks_room.result c.args.state.now.current c.args.effects.now
+    let small : nat_lt c.args.asked.limit (message_size message) ≡ false =
+    le-ltb c.args.asked.limit (message_size message) (omega (arith, outline.0, c.if-outline-asked.false)) in
+    let rights : c.as_slice.result.now ≡ arriving message =
+    c.as_slice.ensures.value ∙ c.in_ok-rights.ensures port message later live first in
+    let lacks =
+    ap (λ (l : List CarriedRight). nat_lt MAX_NAMES (finmap.len names + names_needed names [] l)) (sym rights)
+    ∙ sym c.lacks_room.ensures ∙ c.if-lacks_room.true in
+    was_lacking c.args.state.now.current c.args.space names
+    (receipt_of c.args.asked) c.args.source.member c.args.source.port port message
+    c.without_message-then-lacks_room.result c.args.state.now.current c.args.effects.now
     small lacks c.without_message-then-lacks_room.ensures refl c.requires.none
 
 pub returns-then-lacks_room-clause-shown : goal.returns-then-lacks_room-clause-shown
 returns-then-lacks_room-clause-shown c = λ port message later live first other last others _ may.
     let names = names_in c.args.state.now.current c.args.space in
     let outline = c.in-Some.ensures.some port message later live first in
-    let small : nat_lt c.args.asked.limit (message_size message) ≡ false = le-ltb c.args.asked.limit (message_size message) (omega (arith, outline.0, c.if-outline-asked.false)) in
-    let rights : c.as_slice.result.now ≡ arriving message = c.as_slice.ensures.value ∙ c.in_ok-rights.ensures port message later live first in
-    let lacks = ap (λ (l : List CarriedRight). nat_lt MAX_NAMES (finmap.len names + names_needed names [] l)) (sym rights) ∙ sym c.lacks_room.ensures ∙ c.if-lacks_room.true in
-    lacking_told c.args.state.now.current c.args.space names (receipt_of c.args.asked) c.args.source.member c.args.source.port port message c.without_message-then-lacks_room.result other last others
+    let small : nat_lt c.args.asked.limit (message_size message) ≡ false =
+    le-ltb c.args.asked.limit (message_size message) (omega (arith, outline.0, c.if-outline-asked.false)) in
+    let rights : c.as_slice.result.now ≡ arriving message =
+    c.as_slice.ensures.value ∙ c.in_ok-rights.ensures port message later live first in
+    let lacks =
+    ap (λ (l : List CarriedRight). nat_lt MAX_NAMES (finmap.len names + names_needed names [] l)) (sym rights)
+    ∙ sym c.lacks_room.ensures ∙ c.if-lacks_room.true in
+    lacking_told c.args.state.now.current c.args.space names
+    (receipt_of c.args.asked) c.args.source.member c.args.source.port port message
+    c.without_message-then-lacks_room.result other last others
     small lacks c.without_message-then-lacks_room.ensures may
 
 pub take_whole-requires-clause-rights : goal.take_whole-requires-clause-rights
-take_whole-requires-clause-rights c = λ port message later live first. c.as_slice-2.ensures.value ∙ c.in_ok-rights.ensures port message later live first
+take_whole-requires-clause-rights c =
+    λ port message later live first. c.as_slice-2.ensures.value ∙ c.in_ok-rights.ensures port message later live first
 
 pub returns-clause-acts : goal.returns-clause-acts
 returns-clause-acts c = λ port message later live first.
     let names = names_in c.args.state.now.current c.args.space in
     let outline = c.in-Some.ensures.some port message later live first in
-    let small : nat_lt c.args.asked.limit (message_size message) ≡ false = le-ltb c.args.asked.limit (message_size message) (omega (arith, outline.0, c.if-outline-asked.false)) in
-    let rights : c.as_slice.result.now ≡ arriving message = c.as_slice.ensures.value ∙ c.in_ok-rights.ensures port message later live first in
-    let fits = ap (λ (l : List CarriedRight). nat_lt MAX_NAMES (finmap.len names + names_needed names [] l)) (sym rights) ∙ sym c.lacks_room.ensures ∙ c.if-lacks_room.false in
-    was_received c.args.state.now.current c.args.space names (receipt_of c.args.asked) c.args.source.member c.args.source.port port message c.in_ok-reply-2.reply c.take_whole.new.state.current c.take_whole.new.effects
+    let small : nat_lt c.args.asked.limit (message_size message) ≡ false =
+    le-ltb c.args.asked.limit (message_size message) (omega (arith, outline.0, c.if-outline-asked.false)) in
+    let rights : c.as_slice.result.now ≡ arriving message =
+    c.as_slice.ensures.value ∙ c.in_ok-rights.ensures port message later live first in
+    let fits =
+    ap (λ (l : List CarriedRight). nat_lt MAX_NAMES (finmap.len names + names_needed names [] l)) (sym rights)
+    ∙ sym c.lacks_room.ensures ∙ c.if-lacks_room.false in
+    was_received c.args.state.now.current c.args.space names
+    (receipt_of c.args.asked) c.args.source.member c.args.source.port port message c.in_ok-reply-2.reply
+    c.take_whole.new.state.current c.take_whole.new.effects
     small fits (c.in_ok-reply-2.ensures.received port message later live first)
 
 pub returns-clause-shown : goal.returns-clause-shown
@@ -62,9 +89,16 @@ returns-clause-shown c = λ port message later live first other last others show
     let old = c.args.state.now.current in
     let names = names_in old c.args.space in
     let outline = c.in-Some.ensures.some port message later live first in
-    let small : nat_lt c.args.asked.limit (message_size message) ≡ false = le-ltb c.args.asked.limit (message_size message) (omega (arith, outline.0, c.if-outline-asked.false)) in
-    let rights : c.as_slice.result.now ≡ arriving message = c.as_slice.ensures.value ∙ c.in_ok-rights.ensures port message later live first in
-    let fits = ap (λ (l : List CarriedRight). nat_lt MAX_NAMES (finmap.len names + names_needed names [] l)) (sym rights) ∙ sym c.lacks_room.ensures ∙ c.if-lacks_room.false in
-    whole_told old c.args.space names (receipt_of c.args.asked) c.args.source.member c.args.source.port port message c.in_ok-reply-2.reply c.args.names.now other last others
-    small fits (oldest_lawful old c.args.source.port port message later c.requires.lawful live first) (names_lawful old c.args.space c.requires.lawful c.requires.there)
+    let small : nat_lt c.args.asked.limit (message_size message) ≡ false =
+    le-ltb c.args.asked.limit (message_size message) (omega (arith, outline.0, c.if-outline-asked.false)) in
+    let rights : c.as_slice.result.now ≡ arriving message =
+    c.as_slice.ensures.value ∙ c.in_ok-rights.ensures port message later live first in
+    let fits =
+    ap (λ (l : List CarriedRight). nat_lt MAX_NAMES (finmap.len names + names_needed names [] l)) (sym rights)
+    ∙ sym c.lacks_room.ensures ∙ c.if-lacks_room.false in
+    whole_told old c.args.space names
+    (receipt_of c.args.asked) c.args.source.member c.args.source.port port message c.in_ok-reply-2.reply
+    c.args.names.now other last others
+    small fits (oldest_lawful old c.args.source.port port message later c.requires.lawful live first)
+    (names_lawful old c.args.space c.requires.lawful c.requires.there)
     (c.in_ok-reply-2.ensures.wanted port message later live first) shows may

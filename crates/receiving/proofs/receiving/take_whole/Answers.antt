@@ -25,11 +25,20 @@ returns-clause-received c = λ port message later live first.
     let serial = c.args.source.port in
     let same = ap (λ (s : State). finmap.get s.ports serial) c.in_ok-arrive.ensures.ok in
     let outline = c.requires.outline port message later live first in
-    let encoding = c.in_ok-encoding.ensures port message later (same ∙ live) first ∙ ap (λ (given : List ℕ). received_encoding message c.args.source.member port.sequence_number given) c.as_slice.ensures.value in
-    whole_received old c.args.space (names_in old c.args.space) c.args.source.member serial port message _ c.arrive.new.state.current c.take_message.new.self.current c.consume.new.effects c.args.effects.now
-    c.args.rights.now c.arrive.new.given.items c.in_ok-encoding.encoding.items (names_in c.arrive.new.state.current c.args.space) c.args.outline.size (c.requires.rights port message later live first) c.in_ok-arrive.ensures.arrives outline.0 encoding
-    (ap (reply.Message Success c.args.outline.size c.args.source.member) c.new.ensures) c.in_ok-arrive.ensures.ok (ap (λ (r : Running). r.current) c.in_ok-take_message.ensures.ok) c.requires.none
-    (c.in_ok-consume.ensures ∙ ap (λ (right : RightKind). c.args.effects.now ++ destination_consumed right serial) outline.1)
+    let encoding =
+    c.in_ok-encoding.ensures port message later (same ∙ live) first ∙ ap
+    (λ (given : List ℕ). received_encoding message c.args.source.member port.sequence_number given)
+    c.as_slice.ensures.value in
+    whole_received old c.args.space
+    (names_in old c.args.space) c.args.source.member serial port message _ c.arrive.new.state.current
+    c.take_message.new.self.current c.consume.new.effects c.args.effects.now
+    c.args.rights.now c.arrive.new.given.items c.in_ok-encoding.encoding.items
+    (names_in c.arrive.new.state.current c.args.space) c.args.outline.size
+    (c.requires.rights port message later live first) c.in_ok-arrive.ensures.arrives outline.0 encoding
+    (ap (reply.Message Success c.args.outline.size c.args.source.member) c.new.ensures) c.in_ok-arrive.ensures.ok
+    (ap (λ (r : Running). r.current) c.in_ok-take_message.ensures.ok) c.requires.none
+    (c.in_ok-consume.ensures ∙ ap (λ (right : RightKind). c.args.effects.now ++ destination_consumed right serial)
+    outline.1)
 
 pub returns-clause-wanted : goal.returns-clause-wanted
 returns-clause-wanted c = λ port message later live first last arrives.
@@ -38,7 +47,15 @@ returns-clause-wanted c = λ port message later live first last arrives.
     let serial = c.args.source.port in
     let same = ap (λ (s : State). finmap.get s.ports serial) c.in_ok-arrive.ensures.ok in
     let outline = c.requires.outline port message later live first in
-    let encoding = c.in_ok-encoding.ensures port message later (same ∙ live) first ∙ ap (λ (given : List ℕ). received_encoding message c.args.source.member port.sequence_number given) c.as_slice.ensures.value in
-    let given = c.in_ok-arrive.ensures.wanted last (subst (λ (l : List CarriedRight). Arrives names l c.args.names.now last) (sym (c.requires.rights port message later live first)) arrives) in
+    let encoding =
+    c.in_ok-encoding.ensures port message later (same ∙ live) first ∙ ap
+    (λ (given : List ℕ). received_encoding message c.args.source.member port.sequence_number given)
+    c.as_slice.ensures.value in
+    let given =
+    c.in_ok-arrive.ensures.wanted last
+    (subst (λ (l : List CarriedRight). Arrives names l c.args.names.now last)
+    (sym (c.requires.rights port message later live first)) arrives) in
     ap (λ (n : ℕ). reply.Message Success n c.args.source.member c.new.result) outline.0
-    ∙ ap (reply.Message Success (message_size message) c.args.source.member) (c.new.ensures ∙ encoding ∙ ap (λ (l : List ℕ). received_encoding message c.args.source.member port.sequence_number l) given)
+    ∙ ap (reply.Message Success (message_size message) c.args.source.member)
+    (c.new.ensures ∙ encoding ∙ ap
+    (λ (l : List ℕ). received_encoding message c.args.source.member port.sequence_number l) given)

@@ -5,4 +5,6 @@ use Rattle.receiving.proofs.shown.add_names.Given as goal
 
 -- what was added, with what is left from here, is what is to be added
 abbrev pub invariant-loop-index : goal.invariant-loop-index
-invariant-loop-index l = l.names.items ++ drop l.index (names_of_item (item_value l.item)) ≡ l.fn.names.items ++ names_of_item (item_value l.item)
+invariant-loop-index l =
+    l.names.items ++ drop l.index (names_of_item (item_value l.item)) ≡ l.fn.names.items
+    ++ names_of_item (item_value l.item)

@@ -6,4 +6,5 @@ use Rattle.receiving.proofs.shown.add_names_in_items.Given as goal
 -- what was added, with what is left from here, is what is to be added
 abbrev pub invariant-loop-item : goal.invariant-loop-item
 invariant-loop-item l =
-    l.names.items ++ flat_map names_of_item (map item_value (drop l.item-index l.items)) ≡ l.fn.names.items ++ flat_map names_of_item (map item_value l.items)
+    l.names.items ++ flat_map names_of_item (map item_value (drop l.item-index l.items)) ≡ l.fn.names.items
+    ++ flat_map names_of_item (map item_value l.items)

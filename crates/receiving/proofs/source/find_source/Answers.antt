@@ -10,4 +10,6 @@ pub returns-in-Port-clause-refused : goal.returns-in-Port-clause-refused
 returns-in-Port-clause-refused c =
     let state = c.args.state.now.current in
     let gives = ap giver_of (sym c.entry.ensures.named) ∙ sym c.giver_by.ensures ∙ c.in-Port.is in
-    subst (λ (o : Option KernReturn). IfErr c.from_port.result (λ code. o ≡ Some code)) (sym (port_refused state (names_in state c.args.space) (receipt_of c.args.asked) c.in-Port.port gives)) c.from_port.ensures.refused
+    subst (λ (o : Option KernReturn). IfErr c.from_port.result (λ code. o ≡ Some code))
+    (sym (port_refused state (names_in state c.args.space) (receipt_of c.args.asked) c.in-Port.port gives))
+    c.from_port.ensures.refused

@@ -8,4 +8,5 @@ use Rattle.receiving.proofs.source.first.Given as goal
 abbrev pub invariant-loop-member : goal.invariant-loop-member
 invariant-loop-member l =
     find (gives l.state.current (names_in l.state.current l.space) (receipt_of l.asked) l.preference) l.members
-    ≡ find (gives l.state.current (names_in l.state.current l.space) (receipt_of l.asked) l.preference) (drop l.member-index l.members)
+    ≡ find (gives l.state.current (names_in l.state.current l.space) (receipt_of l.asked) l.preference)
+    (drop l.member-index l.members)

@@ -12,9 +12,13 @@ returns-in-Some-clause-found c =
     let names = names_in state c.args.space in
     let receipt = receipt_of c.args.asked in
     let members = c.as_slice-members.ensures.value ∙ c.in_ok-members.ensures in
-    let found : find (gives state names receipt c.args.preference) (member_pairs state names c.args.asked.name) ≡ Some (c.in-Some.source.member, c.in-Some.source.port) =
-    sym (ap (find (gives state names receipt c.args.preference)) members) ∙ sym c.in_ok-source.ensures ∙ ap (option_map source_value) c.in-Some.is in
-    set_source state names receipt (gives state names receipt c.args.preference) c.in-Some.source.member c.in-Some.source.port c.requires.set found (gives_has state names receipt c.args.preference c.in-Some.source.member c.in-Some.source.port)
+    let found : find (gives state names receipt c.args.preference) (member_pairs state names c.args.asked.name)
+    ≡ Some (c.in-Some.source.member, c.in-Some.source.port) =
+    sym (ap (find (gives state names receipt c.args.preference)) members) ∙ sym c.in_ok-source.ensures
+    ∙ ap (option_map source_value) c.in-Some.is in
+    set_source state names receipt
+    (gives state names receipt c.args.preference) c.in-Some.source.member c.in-Some.source.port c.requires.set found
+    (gives_has state names receipt c.args.preference c.in-Some.source.member c.in-Some.source.port)
 
 pub returns-in-Some-clause-preferred : goal.returns-in-Some-clause-preferred
 returns-in-Some-clause-preferred c = λ _ _ _ _ _ _.
@@ -22,10 +26,13 @@ returns-in-Some-clause-preferred c = λ _ _ _ _ _ _.
     let names = names_in state c.args.space in
     let receipt = receipt_of c.args.asked in
     let members = c.as_slice-members.ensures.value ∙ c.in_ok-members.ensures in
-    let found : find (gives state names receipt c.args.preference) (member_pairs state names c.args.asked.name) ≡ Some (c.in-Some.source.member, c.in-Some.source.port) =
-    sym (ap (find (gives state names receipt c.args.preference)) members) ∙ sym c.in_ok-source.ensures ∙ ap (option_map source_value) c.in-Some.is in
+    let found : find (gives state names receipt c.args.preference) (member_pairs state names c.args.asked.name)
+    ≡ Some (c.in-Some.source.member, c.in-Some.source.port) =
+    sym (ap (find (gives state names receipt c.args.preference)) members) ∙ sym c.in_ok-source.ensures
+    ∙ ap (option_map source_value) c.in-Some.is in
     gives_preferred state names receipt c.args.preference c.in-Some.source.member c.in-Some.source.port
-    (find_there (gives state names receipt c.args.preference) (member_pairs state names c.args.asked.name) (c.in-Some.source.member, c.in-Some.source.port) found).1
+    (find_there (gives state names receipt c.args.preference) (member_pairs state names c.args.asked.name)
+    (c.in-Some.source.member, c.in-Some.source.port) found).1
 
 pub returns-in-Some-2-clause-found : goal.returns-in-Some-2-clause-found
 returns-in-Some-2-clause-found c =
@@ -33,9 +40,13 @@ returns-in-Some-2-clause-found c =
     let names = names_in state c.args.space in
     let receipt = receipt_of c.args.asked in
     let members = c.as_slice-members.ensures.value ∙ c.in_ok-members.ensures in
-    let found : find (gives state names receipt preference.Least) (member_pairs state names c.args.asked.name) ≡ Some (c.in-Some-2.source.member, c.in-Some-2.source.port) =
-    sym (ap (find (gives state names receipt preference.Least)) members) ∙ sym c.in_ok-source-2.ensures ∙ ap (option_map source_value) c.in-Some-2.is in
-    set_source state names receipt (gives state names receipt preference.Least) c.in-Some-2.source.member c.in-Some-2.source.port c.requires.set found (gives_has state names receipt preference.Least c.in-Some-2.source.member c.in-Some-2.source.port)
+    let found : find (gives state names receipt preference.Least) (member_pairs state names c.args.asked.name)
+    ≡ Some (c.in-Some-2.source.member, c.in-Some-2.source.port) =
+    sym (ap (find (gives state names receipt preference.Least)) members) ∙ sym c.in_ok-source-2.ensures
+    ∙ ap (option_map source_value) c.in-Some-2.is in
+    set_source state names receipt
+    (gives state names receipt preference.Least) c.in-Some-2.source.member c.in-Some-2.source.port c.requires.set
+    found (gives_has state names receipt preference.Least c.in-Some-2.source.member c.in-Some-2.source.port)
 
 pub returns-in-Some-2-clause-preferred : goal.returns-in-Some-2-clause-preferred
 returns-in-Some-2-clause-preferred c =
@@ -44,8 +55,10 @@ returns-in-Some-2-clause-preferred c =
     let receipt = receipt_of c.args.asked in
     let members = c.as_slice-members.ensures.value ∙ c.in_ok-members.ensures in
     let none : find (gives state names receipt c.args.preference) (member_pairs state names c.args.asked.name) ≡ None =
-    sym (ap (find (gives state names receipt c.args.preference)) members) ∙ sym c.in_ok-source.ensures ∙ ap (option_map source_value) c.in_default.is in
-    none_preferred state names receipt c.args.preference c.in-Some-2.source.member c.in-Some-2.source.port c.requires.set none
+    sym (ap (find (gives state names receipt c.args.preference)) members) ∙ sym c.in_ok-source.ensures
+    ∙ ap (option_map source_value) c.in_default.is in
+    none_preferred state names receipt c.args.preference c.in-Some-2.source.member c.in-Some-2.source.port
+    c.requires.set none
 
 pub returns-clause-refused : goal.returns-clause-refused
 returns-clause-refused c =
@@ -54,5 +67,6 @@ returns-clause-refused c =
     let receipt = receipt_of c.args.asked in
     let members = c.as_slice-members.ensures.value ∙ c.in_ok-members.ensures in
     let none : find (gives state names receipt preference.Least) (member_pairs state names c.args.asked.name) ≡ None =
-    sym (ap (find (gives state names receipt preference.Least)) members) ∙ sym c.in_ok-source-2.ensures ∙ ap (option_map source_value) c.in-None.is in
+    sym (ap (find (gives state names receipt preference.Least)) members) ∙ sym c.in_ok-source-2.ensures
+    ∙ ap (option_map source_value) c.in-None.is in
     set_empty state names receipt c.requires.set none

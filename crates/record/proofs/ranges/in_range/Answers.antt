@@ -6,4 +6,9 @@ pub returns : goal.returns
 returns c = λ whole number results recorded calls replies.
     let entry : Record = record { space = c.args.space; call = c.args.call.now; reply = c.args.reply.now } in
     canonical_is_record entry c.ranges.space.fits c.call_in_range.ensures whole
-    (record { fits = c.reply_in_range.ensures number recorded; of_one_call = number; results = results; recorded = recorded }) calls replies
+    (record {
+      fits = c.reply_in_range.ensures number recorded;
+      of_one_call = number;
+      results = results;
+      recorded = recorded;
+    }) calls replies

@@ -16,36 +16,51 @@ pub returns-in_err-base-clause-damaged : goal.returns-in_err-base-clause-damaged
 returns-in_err-base-clause-damaged g c = λ honest told base state records image segment run.
     let p = err_from_is_err_and c.from_residual.result c.from_residual.ensures.1 in
     c.in_err-base.ensures.damaged honest (cc (p.1, p.2, told)) c.args.epoch base
-    (subst (λ slot. HoldsImage c.args.epoch (slot_of (g.D.Disk.view c.args.disk.now).seen slot) base) (sym c.image_slot.ensures) image)
+    (subst (λ slot. HoldsImage c.args.epoch (slot_of (g.D.Disk.view c.args.disk.now).seen slot) base)
+    (sym c.image_slot.ensures) image)
 
 pub returns-clause-damaged : goal.returns-clause-damaged
 returns-clause-damaged g c = λ honest told base state records image segment run.
     let e = c.args.epoch in
     let first = (g.D.Disk.view c.args.disk.now).seen in
-    let header = subst (λ slot. IsOfEpoch (e % 2) e (slot_of first slot)) (sym c.image_slot.ensures) (c.requires honest).image in
-    let own = subst (λ slot. HoldsImage e (slot_of first slot) c.in_ok-base.base) c.image_slot.ensures (c.in_ok-base.ensures.image honest (e % 2) e header) in
-    no_run e (slot_of first (image_slot e)) (slot_of first (segment_slot e)) c.in_ok-base.base base state records own image segment run
+    let header =
+    subst (λ slot. IsOfEpoch (e % 2) e (slot_of first slot)) (sym c.image_slot.ensures) (c.requires honest).image in
+    let own =
+    subst (λ slot. HoldsImage e (slot_of first slot) c.in_ok-base.base) c.image_slot.ensures
+    (c.in_ok-base.ensures.image honest (e % 2) e header) in
+    no_run e (slot_of first (image_slot e))
+    (slot_of first (segment_slot e)) c.in_ok-base.base base state records own image segment run
     (λ rs s encoded. c.replay_segment.ensures.damaged honest told rs s
-    (subst (λ slot. EncodesBatches (drop 16 (slot_of (g.D.Disk.view c.load_image.new.disk).seen slot)) rs) (sym c.segment_slot.ensures)
-    (subst (λ (d : Slots). EncodesBatches (drop 16 (slot_of d (segment_slot e))) rs) (sym (c.in_ok-base.ensures.seen honest)) encoded)))
+    (subst (λ slot. EncodesBatches (drop 16 (slot_of (g.D.Disk.view c.load_image.new.disk).seen slot)) rs)
+    (sym c.segment_slot.ensures)
+    (subst (λ (d : Slots). EncodesBatches (drop 16 (slot_of d (segment_slot e))) rs)
+    (sym (c.in_ok-base.ensures.seen honest)) encoded)))
 
 pub returns-clause-read : goal.returns-clause-read
 returns-clause-read g c = λ honest.
     let e = c.args.epoch in
     let first = (g.D.Disk.view c.args.disk.now).seen in
-    let header = subst (λ slot. IsOfEpoch (e % 2) e (slot_of first slot)) (sym c.image_slot.ensures) (c.requires honest).image in
-    let own = subst (λ slot. HoldsImage e (slot_of first slot) c.in_ok-base.base) c.image_slot.ensures (c.in_ok-base.ensures.image honest (e % 2) e header) in
+    let header =
+    subst (λ slot. IsOfEpoch (e % 2) e (slot_of first slot)) (sym c.image_slot.ensures) (c.requires honest).image in
+    let own =
+    subst (λ slot. HoldsImage e (slot_of first slot) c.in_ok-base.base) c.image_slot.ensures
+    (c.in_ok-base.ensures.image honest (e % 2) e header) in
     IfOk-weaker c.replay_segment.result _ _
     (λ read replays. reads_one first e c.in_ok-base.base read.0 read.1 read.2 own
     (subst (λ slot. ReplaysAll (slot_of first slot) c.in_ok-base.base read.0 read.1 read.2) c.segment_slot.ensures
-    (subst (λ (d : Slots). ReplaysAll (slot_of d c.segment_slot.result) c.in_ok-base.base read.0 read.1 read.2) (c.in_ok-base.ensures.seen honest) replays)))
+    (subst (λ (d : Slots). ReplaysAll (slot_of d c.segment_slot.result) c.in_ok-base.base read.0 read.1 read.2)
+    (c.in_ok-base.ensures.seen honest) replays)))
     (c.replay_segment.ensures.state honest)
 
 pub returns-in_err-base-clause-read : goal.returns-in_err-base-clause-read
-returns-in_err-base-clause-read g c = λ honest. let p = err_from_is_err_and c.from_residual.result c.from_residual.ensures.1 in none_in_error _ c.from_residual.result _ p.1
+returns-in_err-base-clause-read g c =
+    λ honest. let p = err_from_is_err_and c.from_residual.result c.from_residual.ensures.1 in
+    none_in_error _ c.from_residual.result _ p.1
 
 pub returns-in_err-base-clause-quiet : goal.returns-in_err-base-clause-quiet
-returns-in_err-base-clause-quiet g c = let p = err_from_is_err_and c.from_residual.result c.from_residual.ensures.1 in none_at_error _ c.from_residual.result _ p.1
+returns-in_err-base-clause-quiet g c =
+    let p = err_from_is_err_and c.from_residual.result c.from_residual.ensures.1 in
+    none_at_error _ c.from_residual.result _ p.1
 
 pub returns-in_err-base-clause-seen : goal.returns-in_err-base-clause-seen
 returns-in_err-base-clause-seen g c = λ honest. c.load_image.ensures.seen honest
@@ -57,16 +72,25 @@ pub returns-clause-seen : goal.returns-clause-seen
 returns-clause-seen g c = λ honest. c.replay_segment.ensures.seen honest ∙ c.in_ok-base.ensures.seen honest
 
 pub returns-clause-time : goal.returns-clause-time
-returns-clause-time g c = λ honest. unchanged_then _ _ _ (c.load_image.ensures.time honest) (c.replay_segment.ensures.time honest)
+returns-clause-time g c =
+    λ honest. unchanged_then _ _ _ (c.load_image.ensures.time honest) (c.replay_segment.ensures.time honest)
 
 pub returns-clause-quiet : goal.returns-clause-quiet
-returns-clause-quiet g c = subst (λ (n : ℕ). OnOk c.replay_segment.result (g.D.Disk.failed_calls c.replay_segment.new.disk ≡ n)) c.in_ok-base.ensures.quiet c.replay_segment.ensures.quiet
+returns-clause-quiet g c =
+    subst (λ (n : ℕ). OnOk c.replay_segment.result (g.D.Disk.failed_calls c.replay_segment.new.disk ≡ n))
+    c.in_ok-base.ensures.quiet c.replay_segment.ensures.quiet
 
 pub returns-clause-still : goal.returns-clause-still
-returns-clause-still g c = subst (λ (n : ℕ). OnErr c.replay_segment.result ((c.replay_segment.result ≡ Err fault.Device) ⊎ (g.D.Disk.failed_calls c.replay_segment.new.disk ≡ n))) c.in_ok-base.ensures.quiet c.replay_segment.ensures.still
+returns-clause-still g c =
+    subst (λ (n : ℕ). OnErr c.replay_segment.result
+    ((c.replay_segment.result ≡ Err fault.Device) ⊎ (g.D.Disk.failed_calls c.replay_segment.new.disk ≡ n)))
+    c.in_ok-base.ensures.quiet c.replay_segment.ensures.still
 
 pub returns-clause-device : goal.returns-clause-device
-returns-clause-device g c = subst (λ (n : ℕ). IsErrOf c.replay_segment.result fault.Device → g.D.Disk.failed_calls c.replay_segment.new.disk ≡ one_more n) c.in_ok-base.ensures.quiet c.replay_segment.ensures.device
+returns-clause-device g c =
+    subst (λ (n : ℕ). IsErrOf c.replay_segment.result fault.Device
+    → g.D.Disk.failed_calls c.replay_segment.new.disk ≡ one_more n) c.in_ok-base.ensures.quiet
+    c.replay_segment.ensures.device
 
 pub returns-clause-faults : goal.returns-clause-faults
 returns-clause-faults g c = c.replay_segment.ensures.faults

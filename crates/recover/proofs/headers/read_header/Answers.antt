@@ -8,4 +8,6 @@ pub returns-clause-said : goal.returns-clause-said
 returns-clause-said g c = λ honest.
     let slot : List ℕ = slot_of (g.D.Disk.view c.args.disk.now).seen c.args.slot in
     says_of_front c.args.size 24 slot c.header_in.result c.requires.most (omega arith)
-    (subst (λ l. Says c.args.size l c.header_in.result) (front_read slot c.read.new.buffer _ c.in_ok-count.count (c.in_ok-count.ensures.count honest) (c.in_ok-count.ensures.bytes honest)) c.header_in.ensures)
+    (subst (λ l. Says c.args.size l c.header_in.result)
+    (front_read slot c.read.new.buffer _ c.in_ok-count.count (c.in_ok-count.ensures.count honest)
+    (c.in_ok-count.ensures.bytes honest)) c.header_in.ensures)

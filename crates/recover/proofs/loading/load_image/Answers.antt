@@ -9,15 +9,20 @@ use Rattle.recover.proofs.loading.load_image.Goals as goal
 pub returns-in_err-encoding-clause-damaged : goal.returns-in_err-encoding-clause-damaged
 returns-in_err-encoding-clause-damaged g c = λ honest told epoch state image.
     let p = err_from_is_err_and c.from_residual.result c.from_residual.ensures.1 in
-    c.in_err-encoding.ensures.damaged honest (cc (p.1, p.2, told)) (image_encoding state) (image_after epoch (slot_of (g.D.Disk.view c.args.disk.now).seen c.args.slot) state image)
+    c.in_err-encoding.ensures.damaged honest (cc (p.1, p.2, told)) (image_encoding state)
+    (image_after epoch (slot_of (g.D.Disk.view c.args.disk.now).seen c.args.slot) state image)
 
 pub returns-in_err-kernel-clause-damaged : goal.returns-in_err-kernel-clause-damaged
 returns-in_err-kernel-clause-damaged g c = λ honest told epoch state image.
     let p = err_from_is_err_and c.from_residual-in_err-kernel.result c.from_residual-in_err-kernel.ensures.1 in
     c.in_err-kernel.ensures.damaged (cc (p.1, p.2, told)) state
-    (subst (λ (l : List ℕ). IsImageOf l state) (sym c.deref.ensures.value) (encoding_of_image epoch (slot_of (g.D.Disk.view c.args.disk.now).seen c.args.slot) c.in_ok-encoding.encoding.items state (c.in_ok-encoding.ensures.encoding honest) image))
+    (subst (λ (l : List ℕ). IsImageOf l state) (sym c.deref.ensures.value)
+    (encoding_of_image epoch (slot_of (g.D.Disk.view c.args.disk.now).seen c.args.slot)
+    c.in_ok-encoding.encoding.items state (c.in_ok-encoding.ensures.encoding honest) image))
 
 pub returns-clause-image : goal.returns-clause-image
 returns-clause-image g c = λ honest number epoch is.
-    encoding_is_image number epoch (slot_of (g.D.Disk.view c.args.disk.now).seen c.args.slot) c.in_ok-encoding.encoding.items c.in_ok-kernel.kernel is (c.in_ok-encoding.ensures.encoding honest)
+    encoding_is_image number epoch
+    (slot_of (g.D.Disk.view c.args.disk.now).seen c.args.slot) c.in_ok-encoding.encoding.items c.in_ok-kernel.kernel
+    is (c.in_ok-encoding.ensures.encoding honest)
     (subst (λ (l : List ℕ). IsImageOf l c.in_ok-kernel.kernel) c.deref.ensures.value c.in_ok-kernel.ensures.image)

@@ -13,8 +13,16 @@ returns-clause-encoding g c = λ honest.
     let old : List ℕ = c.deref_mut.result.now in
     let made : length old ≡ c.in_ok-size.size = c.deref_mut.ensures.len ∙ c.in_ok-encoding.ensures.len in
     let word = c.in_ok-size.ensures.length honest in
-    let whole = read_length later c.read.new.buffer old c.in_ok-read.field-0 (c.in_ok-read.ensures.count honest) (c.in_ok-read.ensures.bytes honest) in
-    subst (HoldsEncoding slot) (sym (filled c.read.new.buffer c.in_ok-encoding.encoding.items c.in_ok-encoding.encoding.len (omega (arith, whole, made, c.in_ok-encoding.ensures.len))))
-    (encoding_read slot c.read.new.buffer old word.0 c.in_ok-read.field-0 c.in_ok-size.size word.1 c.in_ok-size.ensures.fits
-    (omega (arith, c.if-room-size.false, c.saturating_sub-room.ensures, c.length.ensures honest, ap length same)) (c.requires honest).0 made
-    (c.in_ok-read.ensures.count honest ∙ ap (λ (l : List ℕ). min (length old) (length l - 24)) same) (subst (λ (l : List ℕ). c.read.new.buffer ≡ take c.in_ok-read.field-0 (drop 24 l) ++ drop c.in_ok-read.field-0 old) same (c.in_ok-read.ensures.bytes honest)))
+    let whole =
+    read_length later c.read.new.buffer old c.in_ok-read.field-0 (c.in_ok-read.ensures.count honest)
+    (c.in_ok-read.ensures.bytes honest) in
+    subst (HoldsEncoding slot) (sym
+    (filled c.read.new.buffer c.in_ok-encoding.encoding.items c.in_ok-encoding.encoding.len
+    (omega (arith, whole, made, c.in_ok-encoding.ensures.len))))
+    (encoding_read slot c.read.new.buffer old word.0 c.in_ok-read.field-0 c.in_ok-size.size word.1
+    c.in_ok-size.ensures.fits
+    (omega (arith, c.if-room-size.false, c.saturating_sub-room.ensures, c.length.ensures honest, ap length same))
+    (c.requires honest).0 made
+    (c.in_ok-read.ensures.count honest ∙ ap (λ (l : List ℕ). min (length old) (length l - 24)) same)
+    (subst (λ (l : List ℕ). c.read.new.buffer ≡ take c.in_ok-read.field-0 (drop 24 l)
+    ++ drop c.in_ok-read.field-0 old) same (c.in_ok-read.ensures.bytes honest)))

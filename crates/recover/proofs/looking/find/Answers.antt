@@ -11,88 +11,129 @@ use Rattle.recover.proofs.looking.find.Goals as goal
 
 pub returns-in_err-survey_store-clause-damaged : goal.returns-in_err-survey_store-clause-damaged
 returns-in_err-survey_store-clause-damaged g c = λ honest told.
-    let p = err_from_is_err_and c.from_residual-in_err-survey_store.result c.from_residual-in_err-survey_store.ensures.1 in
+    let p =
+    err_from_is_err_and c.from_residual-in_err-survey_store.result c.from_residual-in_err-survey_store.ensures.1 in
     let seen = (g.D.Disk.view c.args.disk.now).seen in
-    let said = c.in_ok-headers.ensures.said honest in
-    (c.in_err-survey_store.ensures.no_other seen said (cc (p.1, p.2, told)), λ state found. c.in_err-survey_store.ensures.damaged seen said (cc (p.1, p.2, told)) found.base found.records found.encoded)
+    let said = c.in_ok-headers.ensures.said honest in (
+      c.in_err-survey_store.ensures.no_other seen said (cc (p.1, p.2, told)),
+      λ state found. c.in_err-survey_store.ensures.damaged seen said
+          (cc (p.1, p.2, told)) found.base found.records found.encoded,
+    )
 
 pub look_new-requires-clause-unused : goal.look_new-requires-clause-unused
 look_new-requires-clause-unused g c = λ honest.
     let seen = (g.D.Disk.view c.args.disk.now).seen in
-    subst IsUnused (sym (c.in_ok-headers.ensures.seen honest)) (subst (Surveys seen) c.in-New.is (c.in_ok-survey_store.ensures.surveyed seen (c.in_ok-headers.ensures.said honest)))
+    subst IsUnused (sym (c.in_ok-headers.ensures.seen honest))
+    (subst (Surveys seen) c.in-New.is
+    (c.in_ok-survey_store.ensures.surveyed seen (c.in_ok-headers.ensures.said honest)))
 
 pub look_new-requires-clause-says : goal.look_new-requires-clause-says
 look_new-requires-clause-says g c = λ honest.
-    subst (λ (s : Slots). Says 16 s.segment0 c.in_ok-headers.headers.segment0) (sym (c.in_ok-headers.ensures.seen honest)) (c.in_ok-headers.ensures.said honest).segment0
+    subst (λ (s : Slots). Says 16 s.segment0 c.in_ok-headers.headers.segment0)
+    (sym (c.in_ok-headers.ensures.seen honest)) (c.in_ok-headers.ensures.said honest).segment0
 
 pub returns-in_err-kernel-in-New-clause-damaged : goal.returns-in_err-kernel-in-New-clause-damaged
 returns-in_err-kernel-in-New-clause-damaged g c = λ honest told.
-    let p = err_from_is_err_and c.from_residual-in_err-kernel-in-New.result c.from_residual-in_err-kernel-in-New.ensures.1 in
+    let p =
+    err_from_is_err_and c.from_residual-in_err-kernel-in-New.result c.from_residual-in_err-kernel-in-New.ensures.1
+    in
     let seen = (g.D.Disk.view c.args.disk.now).seen in (
       c.in_ok-survey_store.ensures.one_version seen (c.in_ok-headers.ensures.said honest),
-      λ state found. c.in_err-kernel-in-New.ensures.damaged honest (cc (p.1, p.2, told)) state (subst (λ (s : Slots). Recovered (as_written s) state) (sym (c.in_ok-headers.ensures.seen honest)) found),
+      λ state found. c.in_err-kernel-in-New.ensures.damaged honest (cc (p.1, p.2, told)) state
+          (subst (λ (s : Slots). Recovered (as_written s) state) (sym (c.in_ok-headers.ensures.seen honest)) found),
     )
 
 pub look_in_use-requires-clause-used : goal.look_in_use-requires-clause-used
 look_in_use-requires-clause-used g c = λ honest.
     let seen = (g.D.Disk.view c.args.disk.now).seen in
     subst (λ (s : Slots). Uses s c.in-InUse.epoch c.in-InUse.follows) (sym (c.in_ok-headers.ensures.seen honest))
-    (subst (Surveys seen) c.in-InUse.is (c.in_ok-survey_store.ensures.surveyed seen (c.in_ok-headers.ensures.said honest)))
+    (subst (Surveys seen) c.in-InUse.is
+    (c.in_ok-survey_store.ensures.surveyed seen (c.in_ok-headers.ensures.said honest)))
 
 pub returns-in_err-kernel-in-InUse-clause-damaged : goal.returns-in_err-kernel-in-InUse-clause-damaged
 returns-in_err-kernel-in-InUse-clause-damaged g c = λ honest told.
-    let p = err_from_is_err_and c.from_residual-in_err-kernel-in-InUse.result c.from_residual-in_err-kernel-in-InUse.ensures.1 in
+    let p =
+    err_from_is_err_and c.from_residual-in_err-kernel-in-InUse.result
+    c.from_residual-in_err-kernel-in-InUse.ensures.1 in
     let seen = (g.D.Disk.view c.args.disk.now).seen in (
       c.in_ok-survey_store.ensures.one_version seen (c.in_ok-headers.ensures.said honest),
-      λ state found. c.in_err-kernel-in-InUse.ensures.damaged honest (cc (p.1, p.2, told)) state (subst (λ (s : Slots). Recovered (as_written s) state) (sym (c.in_ok-headers.ensures.seen honest)) found),
+      λ state found. c.in_err-kernel-in-InUse.ensures.damaged honest (cc (p.1, p.2, told)) state
+          (subst (λ (s : Slots). Recovered (as_written s) state) (sym (c.in_ok-headers.ensures.seen honest)) found),
     )
 
 pub returns-in_ok-kernel-in-New-clause-reads : goal.returns-in_ok-kernel-in-New-clause-reads
 returns-in_ok-kernel-in-New-clause-reads g c = λ honest.
-    subst (λ (s : Slots). Reads s 0 0 c.in_ok-kernel-in-New.kernel) (c.in_ok-headers.ensures.seen honest) (c.in_ok-kernel-in-New.ensures.reads honest)
+    subst (λ (s : Slots). Reads s 0 0 c.in_ok-kernel-in-New.kernel) (c.in_ok-headers.ensures.seen honest)
+    (c.in_ok-kernel-in-New.ensures.reads honest)
 
 pub returns-in_ok-kernel-in-InUse-clause-reads : goal.returns-in_ok-kernel-in-InUse-clause-reads
 returns-in_ok-kernel-in-InUse-clause-reads g c = λ honest.
-    subst (λ (s : Slots). Reads s c.in-InUse.epoch c.in_ok-kernel-in-InUse.records c.in_ok-kernel-in-InUse.kernel) (c.in_ok-headers.ensures.seen honest) (c.in_ok-kernel-in-InUse.ensures.reads honest)
+    subst (λ (s : Slots). Reads s c.in-InUse.epoch c.in_ok-kernel-in-InUse.records c.in_ok-kernel-in-InUse.kernel)
+    (c.in_ok-headers.ensures.seen honest) (c.in_ok-kernel-in-InUse.ensures.reads honest)
 
 pub returns-in_err-headers-clause-reads : goal.returns-in_err-headers-clause-reads
-returns-in_err-headers-clause-reads g c = λ honest. let p = err_from_is_err_and c.from_residual.result c.from_residual.ensures.1 in none_in_error _ c.from_residual.result _ p.1
+returns-in_err-headers-clause-reads g c =
+    λ honest. let p = err_from_is_err_and c.from_residual.result c.from_residual.ensures.1 in
+    none_in_error _ c.from_residual.result _ p.1
 
 pub returns-in_err-headers-clause-quiet : goal.returns-in_err-headers-clause-quiet
-returns-in_err-headers-clause-quiet g c = let p = err_from_is_err_and c.from_residual.result c.from_residual.ensures.1 in none_at_error _ c.from_residual.result _ p.1
+returns-in_err-headers-clause-quiet g c =
+    let p = err_from_is_err_and c.from_residual.result c.from_residual.ensures.1 in
+    none_at_error _ c.from_residual.result _ p.1
 
 pub returns-in_err-headers-clause-seen : goal.returns-in_err-headers-clause-seen
 returns-in_err-headers-clause-seen g c = λ honest. c.read_headers.ensures.seen honest
 
 pub returns-in_err-survey_store-clause-reads : goal.returns-in_err-survey_store-clause-reads
-returns-in_err-survey_store-clause-reads g c = λ honest. let p = err_from_is_err_and c.from_residual-in_err-survey_store.result c.from_residual-in_err-survey_store.ensures.1 in none_in_error _ c.from_residual-in_err-survey_store.result _ p.1
+returns-in_err-survey_store-clause-reads g c =
+    λ honest. let p = err_from_is_err_and c.from_residual-in_err-survey_store.result
+    c.from_residual-in_err-survey_store.ensures.1 in
+    none_in_error _ c.from_residual-in_err-survey_store.result _ p.1
 
 pub returns-in_err-survey_store-clause-quiet : goal.returns-in_err-survey_store-clause-quiet
-returns-in_err-survey_store-clause-quiet g c = let p = err_from_is_err_and c.from_residual-in_err-survey_store.result c.from_residual-in_err-survey_store.ensures.1 in none_at_error _ c.from_residual-in_err-survey_store.result _ p.1
+returns-in_err-survey_store-clause-quiet g c =
+    let p = err_from_is_err_and c.from_residual-in_err-survey_store.result c.from_residual-in_err-survey_store.ensures.1
+    in none_at_error _ c.from_residual-in_err-survey_store.result _ p.1
 
 pub returns-in_err-survey_store-clause-seen : goal.returns-in_err-survey_store-clause-seen
 returns-in_err-survey_store-clause-seen g c = λ honest. c.in_ok-headers.ensures.seen honest
 
 pub returns-in_err-kernel-in-New-clause-reads : goal.returns-in_err-kernel-in-New-clause-reads
-returns-in_err-kernel-in-New-clause-reads g c = λ honest. let p = err_from_is_err_and c.from_residual-in_err-kernel-in-New.result c.from_residual-in_err-kernel-in-New.ensures.1 in none_in_error _ c.from_residual-in_err-kernel-in-New.result _ p.1
+returns-in_err-kernel-in-New-clause-reads g c =
+    λ honest. let p = err_from_is_err_and c.from_residual-in_err-kernel-in-New.result
+    c.from_residual-in_err-kernel-in-New.ensures.1 in
+    none_in_error _ c.from_residual-in_err-kernel-in-New.result _ p.1
 
 pub returns-in_err-kernel-in-New-clause-quiet : goal.returns-in_err-kernel-in-New-clause-quiet
-returns-in_err-kernel-in-New-clause-quiet g c = let p = err_from_is_err_and c.from_residual-in_err-kernel-in-New.result c.from_residual-in_err-kernel-in-New.ensures.1 in none_at_error _ c.from_residual-in_err-kernel-in-New.result _ p.1
+returns-in_err-kernel-in-New-clause-quiet g c =
+    let p = err_from_is_err_and c.from_residual-in_err-kernel-in-New.result
+    c.from_residual-in_err-kernel-in-New.ensures.1 in
+    none_at_error _ c.from_residual-in_err-kernel-in-New.result _ p.1
 
 pub returns-in_err-kernel-in-New-clause-seen : goal.returns-in_err-kernel-in-New-clause-seen
-returns-in_err-kernel-in-New-clause-seen g c = λ honest. c.look_new.ensures.seen honest ∙ c.in_ok-headers.ensures.seen honest
+returns-in_err-kernel-in-New-clause-seen g c =
+    λ honest. c.look_new.ensures.seen honest ∙ c.in_ok-headers.ensures.seen honest
 
 pub returns-in_err-kernel-in-InUse-clause-reads : goal.returns-in_err-kernel-in-InUse-clause-reads
-returns-in_err-kernel-in-InUse-clause-reads g c = λ honest. let p = err_from_is_err_and c.from_residual-in_err-kernel-in-InUse.result c.from_residual-in_err-kernel-in-InUse.ensures.1 in none_in_error _ c.from_residual-in_err-kernel-in-InUse.result _ p.1
+returns-in_err-kernel-in-InUse-clause-reads g c =
+    λ honest. let p = err_from_is_err_and c.from_residual-in_err-kernel-in-InUse.result
+    c.from_residual-in_err-kernel-in-InUse.ensures.1 in
+    none_in_error _ c.from_residual-in_err-kernel-in-InUse.result _ p.1
 
 pub returns-in_err-kernel-in-InUse-clause-quiet : goal.returns-in_err-kernel-in-InUse-clause-quiet
-returns-in_err-kernel-in-InUse-clause-quiet g c = let p = err_from_is_err_and c.from_residual-in_err-kernel-in-InUse.result c.from_residual-in_err-kernel-in-InUse.ensures.1 in none_at_error _ c.from_residual-in_err-kernel-in-InUse.result _ p.1
+returns-in_err-kernel-in-InUse-clause-quiet g c =
+    let p = err_from_is_err_and c.from_residual-in_err-kernel-in-InUse.result
+    c.from_residual-in_err-kernel-in-InUse.ensures.1 in
+    none_at_error _ c.from_residual-in_err-kernel-in-InUse.result _ p.1
 
 pub returns-in_err-kernel-in-InUse-clause-seen : goal.returns-in_err-kernel-in-InUse-clause-seen
-returns-in_err-kernel-in-InUse-clause-seen g c = λ honest. c.look_in_use.ensures.seen honest ∙ c.in_ok-headers.ensures.seen honest
+returns-in_err-kernel-in-InUse-clause-seen g c =
+    λ honest. c.look_in_use.ensures.seen honest ∙ c.in_ok-headers.ensures.seen honest
 
 pub returns-in_ok-kernel-in-New-clause-seen : goal.returns-in_ok-kernel-in-New-clause-seen
-returns-in_ok-kernel-in-New-clause-seen g c = λ honest. c.look_new.ensures.seen honest ∙ c.in_ok-headers.ensures.seen honest
+returns-in_ok-kernel-in-New-clause-seen g c =
+    λ honest. c.look_new.ensures.seen honest ∙ c.in_ok-headers.ensures.seen honest
 
 pub returns-in_ok-kernel-in-InUse-clause-seen : goal.returns-in_ok-kernel-in-InUse-clause-seen
-returns-in_ok-kernel-in-InUse-clause-seen g c = λ honest. c.look_in_use.ensures.seen honest ∙ c.in_ok-headers.ensures.seen honest
+returns-in_ok-kernel-in-InUse-clause-seen g c =
+    λ honest. c.look_in_use.ensures.seen honest ∙ c.in_ok-headers.ensures.seen honest

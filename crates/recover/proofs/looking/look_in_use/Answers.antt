@@ -13,22 +13,28 @@ use Rattle.recover.proofs.looking.look_in_use.Goals as goal
 pub returns-in_err-kernel-clause-damaged : goal.returns-in_err-kernel-clause-damaged
 returns-in_err-kernel-clause-damaged g c = λ honest told.
     let p = err_from_is_err_and c.from_residual.result c.from_residual.ensures.1 in
-    read_damaged (g.D.Disk.view c.args.disk.now).seen c.args.epoch c.args.follows (c.requires.used honest) (c.in_err-kernel.ensures.damaged honest (cc (p.1, p.2, told)))
+    read_damaged (g.D.Disk.view c.args.disk.now).seen c.args.epoch c.args.follows (c.requires.used honest)
+    (c.in_err-kernel.ensures.damaged honest (cc (p.1, p.2, told)))
 
 pub returns-then-not-follows-clause-reads : goal.returns-then-not-follows-clause-reads
 returns-then-not-follows-clause-reads g c = λ honest.
     let seen = (g.D.Disk.view c.args.disk.now).seen in
-    one_reads seen c.args.epoch c.in_ok-kernel.kernel c.in_ok-kernel.first c.in_ok-kernel.field-0-2 (subst (Uses seen c.args.epoch) (cc c.if-not-follows.true) (c.requires.used honest)) (c.in_ok-kernel.ensures.read honest)
+    one_reads seen c.args.epoch c.in_ok-kernel.kernel c.in_ok-kernel.first c.in_ok-kernel.field-0-2
+    (subst (Uses seen c.args.epoch) (cc c.if-not-follows.true) (c.requires.used honest))
+    (c.in_ok-kernel.ensures.read honest)
 
 pub returns-in_err-kernel-2-clause-damaged : goal.returns-in_err-kernel-2-clause-damaged
 returns-in_err-kernel-2-clause-damaged g c = λ honest told.
     let p = err_from_is_err_and c.from_residual-in_err-kernel-2.result c.from_residual-in_err-kernel-2.ensures.1 in
     let e = c.args.epoch in
     let seen = (g.D.Disk.view c.args.disk.now).seen in
-    next_damaged seen e c.in_ok-kernel.kernel c.in_ok-kernel.first c.in_ok-kernel.field-0-2 (subst (Uses seen e) c.if-not-follows.false (c.requires.used honest)) (c.in_ok-kernel.ensures.read honest)
+    next_damaged seen e c.in_ok-kernel.kernel c.in_ok-kernel.first c.in_ok-kernel.field-0-2
+    (subst (Uses seen e) c.if-not-follows.false (c.requires.used honest)) (c.in_ok-kernel.ensures.read honest)
     (λ rs s encoded. c.in_err-kernel-2.ensures.damaged honest (cc (p.1, p.2, told)) rs s
-    (subst (λ slot. EncodesBatches (drop 16 (slot_of (g.D.Disk.view c.read_epoch.new.disk).seen slot)) rs) (sym c.segment_slot.ensures)
-    (subst (λ (d : Slots). EncodesBatches (drop 16 (slot_of d (segment_slot (e + 1)))) rs) (sym (c.in_ok-kernel.ensures.seen honest)) encoded)))
+    (subst (λ slot. EncodesBatches (drop 16 (slot_of (g.D.Disk.view c.read_epoch.new.disk).seen slot)) rs)
+    (sym c.segment_slot.ensures)
+    (subst (λ (d : Slots). EncodesBatches (drop 16 (slot_of d (segment_slot (e + 1)))) rs)
+    (sym (c.in_ok-kernel.ensures.seen honest)) encoded)))
 
 pub returns-clause-reads : goal.returns-clause-reads
 returns-clause-reads g c = λ honest.
@@ -37,29 +43,43 @@ returns-clause-reads g c = λ honest.
     let mid = c.in_ok-kernel.kernel in
     let next = c.in_ok-kernel-2 in
     let used = subst (Uses seen e) c.if-not-follows.false (c.requires.used honest) in
-    let replays = subst (λ slot. ReplaysAll (slot_of seen slot) mid next.kernel next.next next.field-0-2) c.segment_slot.ensures
-    (subst (λ (d : Slots). ReplaysAll (slot_of d c.segment_slot.result) mid next.kernel next.next next.field-0-2) (c.in_ok-kernel.ensures.seen honest) (next.ensures.state honest)) in
-    let few = two_few seen e mid next.kernel c.in_ok-kernel.first c.in_ok-kernel.field-0-2 next.next next.field-0-2 (c.in_ok-kernel.ensures.read honest) replays in
+    let replays =
+    subst (λ slot. ReplaysAll (slot_of seen slot) mid next.kernel next.next next.field-0-2) c.segment_slot.ensures
+    (subst (λ (d : Slots). ReplaysAll (slot_of d c.segment_slot.result) mid next.kernel next.next next.field-0-2)
+    (c.in_ok-kernel.ensures.seen honest) (next.ensures.state honest)) in
+    let few =
+    two_few seen e mid next.kernel c.in_ok-kernel.first c.in_ok-kernel.field-0-2 next.next next.field-0-2
+    (c.in_ok-kernel.ensures.read honest) replays in
     subst (λ (n : ℕ). Reads seen e n next.kernel) (omega (arith, few, c.saturating_add.ensures))
-    (two_reads seen e mid next.kernel c.in_ok-kernel.first c.in_ok-kernel.field-0-2 next.next next.field-0-2 used (c.in_ok-kernel.ensures.read honest) replays)
+    (two_reads seen e mid next.kernel c.in_ok-kernel.first c.in_ok-kernel.field-0-2 next.next next.field-0-2 used
+    (c.in_ok-kernel.ensures.read honest) replays)
 
 pub returns-in_err-kernel-clause-reads : goal.returns-in_err-kernel-clause-reads
-returns-in_err-kernel-clause-reads g c = λ honest. let p = err_from_is_err_and c.from_residual.result c.from_residual.ensures.1 in none_in_error _ c.from_residual.result _ p.1
+returns-in_err-kernel-clause-reads g c =
+    λ honest. let p = err_from_is_err_and c.from_residual.result c.from_residual.ensures.1 in
+    none_in_error _ c.from_residual.result _ p.1
 
 pub returns-in_err-kernel-clause-quiet : goal.returns-in_err-kernel-clause-quiet
-returns-in_err-kernel-clause-quiet g c = let p = err_from_is_err_and c.from_residual.result c.from_residual.ensures.1 in none_at_error _ c.from_residual.result _ p.1
+returns-in_err-kernel-clause-quiet g c =
+    let p = err_from_is_err_and c.from_residual.result c.from_residual.ensures.1 in
+    none_at_error _ c.from_residual.result _ p.1
 
 pub returns-in_err-kernel-clause-seen : goal.returns-in_err-kernel-clause-seen
 returns-in_err-kernel-clause-seen g c = λ honest. c.read_epoch.ensures.seen honest
 
 pub returns-in_err-kernel-2-clause-reads : goal.returns-in_err-kernel-2-clause-reads
-returns-in_err-kernel-2-clause-reads g c = λ honest. let p = err_from_is_err_and c.from_residual-in_err-kernel-2.result c.from_residual-in_err-kernel-2.ensures.1 in none_in_error _ c.from_residual-in_err-kernel-2.result _ p.1
+returns-in_err-kernel-2-clause-reads g c =
+    λ honest. let p = err_from_is_err_and c.from_residual-in_err-kernel-2.result
+    c.from_residual-in_err-kernel-2.ensures.1 in none_in_error _ c.from_residual-in_err-kernel-2.result _ p.1
 
 pub returns-in_err-kernel-2-clause-quiet : goal.returns-in_err-kernel-2-clause-quiet
-returns-in_err-kernel-2-clause-quiet g c = let p = err_from_is_err_and c.from_residual-in_err-kernel-2.result c.from_residual-in_err-kernel-2.ensures.1 in none_at_error _ c.from_residual-in_err-kernel-2.result _ p.1
+returns-in_err-kernel-2-clause-quiet g c =
+    let p = err_from_is_err_and c.from_residual-in_err-kernel-2.result c.from_residual-in_err-kernel-2.ensures.1 in
+    none_at_error _ c.from_residual-in_err-kernel-2.result _ p.1
 
 pub returns-in_err-kernel-2-clause-seen : goal.returns-in_err-kernel-2-clause-seen
-returns-in_err-kernel-2-clause-seen g c = λ honest. c.replay_segment.ensures.seen honest ∙ c.in_ok-kernel.ensures.seen honest
+returns-in_err-kernel-2-clause-seen g c =
+    λ honest. c.replay_segment.ensures.seen honest ∙ c.in_ok-kernel.ensures.seen honest
 
 pub returns-clause-seen : goal.returns-clause-seen
 returns-clause-seen g c = λ honest. c.replay_segment.ensures.seen honest ∙ c.in_ok-kernel.ensures.seen honest

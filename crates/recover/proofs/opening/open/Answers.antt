@@ -6,10 +6,14 @@ use Rattle.recover.proofs.Joined.{kept_recovered}
 use Rattle.recover.proofs.opening.open.Goals as goal
 
 pub returns-in-Ok-clause-stands : goal.returns-in-Ok-clause-stands
-returns-in-Ok-clause-stands g c = λ honest left may. kept_recovered (g.D.Disk.view c.load.new.disk) c.in-Ok.segment c.in-Ok.kernel (c.in-Ok.ensures.kept honest) left may
+returns-in-Ok-clause-stands g c =
+    λ honest left may. kept_recovered (g.D.Disk.view c.load.new.disk) c.in-Ok.segment c.in-Ok.kernel
+    (c.in-Ok.ensures.kept honest) left may
 
 pub returns-in-Ok-clause-same : goal.returns-in-Ok-clause-same
-returns-in-Ok-clause-same g c = λ honest state found. recovers_once (as_written (g.D.Disk.view c.args.disk).seen) c.in-Ok.kernel state (c.in-Ok.ensures.state honest) found
+returns-in-Ok-clause-same g c =
+    λ honest state found. recovers_once (as_written (g.D.Disk.view c.args.disk).seen) c.in-Ok.kernel state
+    (c.in-Ok.ensures.state honest) found
 
 pub returns-in-Err-clause-damaged : goal.returns-in-Err-clause-damaged
 returns-in-Err-clause-damaged g c = λ honest is. c.in-Err.ensures.damaged honest (ap Err is)
@@ -17,7 +21,8 @@ returns-in-Err-clause-damaged g c = λ honest is. c.in-Err.ensures.damaged hones
 pub returns-in-Err-clause-opens : goal.returns-in-Err-clause-opens
 returns-in-Err-clause-opens g c = λ honest state found. (
   λ is. (c.in-Err.ensures.damaged honest (ap Err is)).1 state found,
-  λ is. recovers_version_one (as_written (g.D.Disk.view c.args.disk).seen) state found (c.in-Err.ensures.version honest (ap Err is)),
+  λ is. recovers_version_one (as_written (g.D.Disk.view c.args.disk).seen) state found
+      (c.in-Err.ensures.version honest (ap Err is)),
 )
 
 pub returns-in-Err-clause-version : goal.returns-in-Err-clause-version
@@ -30,7 +35,9 @@ pub returns-in-Err-clause-still : goal.returns-in-Err-clause-still
 returns-in-Err-clause-still g c = λ no. other_fault c.load.result c.in-Err.fault c.in-Err.is c.load.ensures.still no
 
 pub returns-in-Err-clause-unchanged : goal.returns-in-Err-clause-unchanged
-returns-in-Err-clause-unchanged g c = λ honest no. other_fault c.load.result c.in-Err.fault c.in-Err.is (c.load.ensures.unchanged honest) no
+returns-in-Err-clause-unchanged g c =
+    λ honest no. other_fault c.load.result c.in-Err.fault c.in-Err.is (c.load.ensures.unchanged honest) no
 
 pub returns-in-Err-clause-untouched : goal.returns-in-Err-clause-untouched
-returns-in-Err-clause-untouched g c = λ honest no. other_fault c.load.result c.in-Err.fault c.in-Err.is (c.load.ensures.untouched honest) no
+returns-in-Err-clause-untouched g c =
+    λ honest no. other_fault c.load.result c.in-Err.fault c.in-Err.is (c.load.ensures.untouched honest) no

@@ -18,9 +18,12 @@ returns-in_err-now-clause-damaged g c = λ honest told.
     let inv = c.loop-now.invariant in
     let p = err_from_is_err_and c.from_residual.result c.from_residual.ensures.1 in
     let segment = slot_of (g.D.Disk.view c.args.disk.now).seen c.args.slot in
-    let same : slot_of (g.D.Disk.view c.loop-now.disk).seen c.loop-now.reader.window.slot ≡ segment = λ i. slot_of (inv.seen honest i) (inv.slot i) in
-    unread segment (place_of c.args.reader.now) (place_of c.loop-now.reader) c.args.kernel c.loop-now.state (inv.left honest)
-    (subst (λ l. IsNothing l (place_of c.loop-now.reader)) same (c.next-next.ensures.damaged honest (cc (p.1, p.2, told, c.in_err-now.ensures.err))))
+    let same : slot_of (g.D.Disk.view c.loop-now.disk).seen c.loop-now.reader.window.slot ≡ segment =
+    λ i. slot_of (inv.seen honest i) (inv.slot i) in
+    unread segment (place_of c.args.reader.now) (place_of c.loop-now.reader) c.args.kernel c.loop-now.state
+    (inv.left honest)
+    (subst (λ l. IsNothing l (place_of c.loop-now.reader)) same
+    (c.next-next.ensures.damaged honest (cc (p.1, p.2, told, c.in_err-now.ensures.err))))
 
 -- all was replayed
 pub returns-in_default-clause-state : goal.returns-in_default-clause-state
@@ -29,11 +32,14 @@ returns-in_default-clause-state g c = λ honest.
     let first = place_of c.args.reader.now in
     let here = place_of c.next-next.new.self in
     let segment = slot_of (g.D.Disk.view c.args.disk.now).seen c.args.slot in
-    let same : slot_of (g.D.Disk.view c.loop-now.disk).seen c.loop-now.reader.window.slot ≡ segment = λ i. slot_of (inv.seen honest i) (inv.slot i) in
+    let same : slot_of (g.D.Disk.view c.loop-now.disk).seen c.loop-now.reader.window.slot ≡ segment =
+    λ i. slot_of (inv.seen honest i) (inv.slot i) in
     let last = rw c.in_default.is at (rw c.in_ok-now.ensures.ok.1 at c.next-next.ensures.last honest) in
     let stays = rw c.in_default.is at (rw c.in_ok-now.ensures.ok.1 at c.next-next.ensures.stays) in
-    let left = subst (λ (at : Place). IsLeft segment first at c.args.kernel c.loop-now.state) (sym stays) (inv.left honest) in
-    subst (λ (s : State). Replays segment first c.args.kernel s here.number here.at) (sym c.in_ok-now.ensures.ok.0) (all_replayed segment first here c.args.kernel c.loop-now.state left (subst (λ l. IsLast l here) same last))
+    let left =
+    subst (λ (at : Place). IsLeft segment first at c.args.kernel c.loop-now.state) (sym stays) (inv.left honest) in
+    subst (λ (s : State). Replays segment first c.args.kernel s here.number here.at) (sym c.in_ok-now.ensures.ok.0)
+    (all_replayed segment first here c.args.kernel c.loop-now.state left (subst (λ l. IsLast l here) same last))
 
 -- the record isn't a step
 pub returns-in_err-state-clause-damaged : goal.returns-in_err-state-clause-damaged
@@ -42,11 +48,18 @@ returns-in_err-state-clause-damaged g c = λ honest told.
     let p = err_from_is_err_and c.from_residual-in_err-state.result c.from_residual-in_err-state.ensures.1 in
     let first = place_of c.args.reader.now in
     let segment = slot_of (g.D.Disk.view c.args.disk.now).seen c.args.slot in
-    let same : slot_of (g.D.Disk.view c.loop-now.disk).seen c.loop-now.reader.window.slot ≡ segment = λ i. slot_of (inv.seen honest i) (inv.slot i) in
-    let left = subst (λ (s : State). IsLeft segment first (place_of c.loop-now.reader) c.args.kernel s) (sym c.in_ok-now.ensures.ok.0) (inv.left honest) in
-    let leads = some_is _ c.in_ok-now.next c.in-Some.entry c.in-Some.is (rw c.in_ok-now.ensures.ok.1 at c.next-next.ensures.leads honest) in
-    none_left segment first (place_of c.loop-now.reader) (place_of c.next-next.new.self) c.in-Some.entry c.args.kernel c.in_ok-now.now left
-    (subst (λ l. Leads l (place_of c.loop-now.reader) c.in-Some.entry (place_of c.next-next.new.self)) same leads) (c.in_err-state.ensures.damaged (cc (p.1, p.2, told)))
+    let same : slot_of (g.D.Disk.view c.loop-now.disk).seen c.loop-now.reader.window.slot ≡ segment =
+    λ i. slot_of (inv.seen honest i) (inv.slot i) in
+    let left =
+    subst (λ (s : State). IsLeft segment first (place_of c.loop-now.reader) c.args.kernel s)
+    (sym c.in_ok-now.ensures.ok.0) (inv.left honest) in
+    let leads =
+    some_is _ c.in_ok-now.next c.in-Some.entry c.in-Some.is
+    (rw c.in_ok-now.ensures.ok.1 at c.next-next.ensures.leads honest) in
+    none_left segment first (place_of c.loop-now.reader)
+    (place_of c.next-next.new.self) c.in-Some.entry c.args.kernel c.in_ok-now.now left
+    (subst (λ l. Leads l (place_of c.loop-now.reader) c.in-Some.entry (place_of c.next-next.new.self)) same leads)
+    (c.in_err-state.ensures.damaged (cc (p.1, p.2, told)))
 
 pub loop-now-preserved : goal.loop-now-preserved
 loop-now-preserved g c =
@@ -55,38 +68,65 @@ loop-now-preserved g c =
     let segment = slot_of (g.D.Disk.view c.args.disk.now).seen c.args.slot in
     record {
       left = λ honest.
-          let same : slot_of (g.D.Disk.view c.loop-now.disk).seen c.loop-now.reader.window.slot ≡ segment = λ i. slot_of (inv.seen honest i) (inv.slot i) in
-          let left = subst (λ (s : State). IsLeft segment first (place_of c.loop-now.reader) c.args.kernel s) (sym c.in_ok-now.ensures.ok.0) (inv.left honest) in
-          let leads = some_is _ c.in_ok-now.next c.in-Some.entry c.in-Some.is (rw c.in_ok-now.ensures.ok.1 at c.next-next.ensures.leads honest) in
-          let counted = some_is _ c.in_ok-now.next c.in-Some.entry c.in-Some.is (rw c.in_ok-now.ensures.ok.1 at c.next-next.ensures.counted) in
-          left_on segment first (place_of c.loop-now.reader) (place_of c.next-next.new.self) c.in-Some.entry c.args.kernel c.in_ok-now.now c.in_ok-state.state left
-          (subst (λ l. Leads l (place_of c.loop-now.reader) c.in-Some.entry (place_of c.next-next.new.self)) same leads) counted.0 c.in_ok-state.ensures.step c.in_ok-state.ensures.only;
+          let same : slot_of (g.D.Disk.view c.loop-now.disk).seen c.loop-now.reader.window.slot ≡ segment =
+          λ i. slot_of (inv.seen honest i) (inv.slot i) in
+          let left =
+          subst (λ (s : State). IsLeft segment first (place_of c.loop-now.reader) c.args.kernel s)
+          (sym c.in_ok-now.ensures.ok.0) (inv.left honest) in
+          let leads =
+          some_is _ c.in_ok-now.next c.in-Some.entry c.in-Some.is
+          (rw c.in_ok-now.ensures.ok.1 at c.next-next.ensures.leads honest) in
+          let counted =
+          some_is _ c.in_ok-now.next c.in-Some.entry c.in-Some.is
+          (rw c.in_ok-now.ensures.ok.1 at c.next-next.ensures.counted) in
+          left_on segment first (place_of c.loop-now.reader)
+          (place_of c.next-next.new.self) c.in-Some.entry c.args.kernel c.in_ok-now.now c.in_ok-state.state left
+          (subst (λ l. Leads l (place_of c.loop-now.reader) c.in-Some.entry (place_of c.next-next.new.self)) same leads)
+          counted.0 c.in_ok-state.ensures.step c.in_ok-state.ensures.only;
       over = λ honest.
-          let same : slot_of (g.D.Disk.view c.loop-now.disk).seen c.loop-now.reader.window.slot ≡ segment = λ i. slot_of (inv.seen honest i) (inv.slot i) in
-          subst (λ l. IsOver l c.next-next.new.self.window) same (rw c.in_ok-now.ensures.ok.1 at c.next-next.ensures.over honest);
+          let same : slot_of (g.D.Disk.view c.loop-now.disk).seen c.loop-now.reader.window.slot ≡ segment =
+          λ i. slot_of (inv.seen honest i) (inv.slot i) in
+          subst (λ l. IsOver l c.next-next.new.self.window) same
+          (rw c.in_ok-now.ensures.ok.1 at c.next-next.ensures.over honest);
       slot = c.next-next.ensures.slot ∙ inv.slot;
       seen = λ honest. c.next-next.ensures.seen honest ∙ inv.seen honest;
-      time = λ honest. unchanged_then (g.D.Disk.view c.args.disk.now) (g.D.Disk.view c.loop-now.disk) (g.D.Disk.view c.next-next.new.disk) (inv.time honest) (c.next-next.ensures.time honest);
+      time =
+          λ honest. unchanged_then (g.D.Disk.view c.args.disk.now) (g.D.Disk.view c.loop-now.disk)
+          (g.D.Disk.view c.next-next.new.disk) (inv.time honest) (c.next-next.ensures.time honest);
       quiet = (rw c.in_ok-now.ensures.ok.1 at c.next-next.ensures.quiet) ∙ inv.quiet;
     }
 
 pub returns-in_default-clause-time : goal.returns-in_default-clause-time
-returns-in_default-clause-time g c = λ honest. unchanged_then (g.D.Disk.view c.args.disk.now) (g.D.Disk.view c.loop-now.disk) (g.D.Disk.view c.next-next.new.disk) (c.loop-now.invariant.time honest) (c.next-next.ensures.time honest)
+returns-in_default-clause-time g c =
+    λ honest. unchanged_then (g.D.Disk.view c.args.disk.now) (g.D.Disk.view c.loop-now.disk)
+    (g.D.Disk.view c.next-next.new.disk) (c.loop-now.invariant.time honest) (c.next-next.ensures.time honest)
 
 pub returns-in_err-now-clause-time : goal.returns-in_err-now-clause-time
-returns-in_err-now-clause-time g c = λ honest. unchanged_then (g.D.Disk.view c.args.disk.now) (g.D.Disk.view c.loop-now.disk) (g.D.Disk.view c.next-next.new.disk) (c.loop-now.invariant.time honest) (c.next-next.ensures.time honest)
+returns-in_err-now-clause-time g c =
+    λ honest. unchanged_then (g.D.Disk.view c.args.disk.now) (g.D.Disk.view c.loop-now.disk)
+    (g.D.Disk.view c.next-next.new.disk) (c.loop-now.invariant.time honest) (c.next-next.ensures.time honest)
 
 pub returns-in_err-state-clause-time : goal.returns-in_err-state-clause-time
-returns-in_err-state-clause-time g c = λ honest. unchanged_then (g.D.Disk.view c.args.disk.now) (g.D.Disk.view c.loop-now.disk) (g.D.Disk.view c.next-next.new.disk) (c.loop-now.invariant.time honest) (c.next-next.ensures.time honest)
+returns-in_err-state-clause-time g c =
+    λ honest. unchanged_then (g.D.Disk.view c.args.disk.now) (g.D.Disk.view c.loop-now.disk)
+    (g.D.Disk.view c.next-next.new.disk) (c.loop-now.invariant.time honest) (c.next-next.ensures.time honest)
 
 pub returns-in_err-now-clause-state : goal.returns-in_err-now-clause-state
-returns-in_err-now-clause-state g c = λ honest. let p = err_from_is_err_and c.from_residual.result c.from_residual.ensures.1 in none_in_error _ c.from_residual.result _ p.1
+returns-in_err-now-clause-state g c =
+    λ honest. let p = err_from_is_err_and c.from_residual.result c.from_residual.ensures.1 in
+    none_in_error _ c.from_residual.result _ p.1
 
 pub returns-in_err-now-clause-quiet : goal.returns-in_err-now-clause-quiet
-returns-in_err-now-clause-quiet g c = let p = err_from_is_err_and c.from_residual.result c.from_residual.ensures.1 in none_at_error _ c.from_residual.result _ p.1
+returns-in_err-now-clause-quiet g c =
+    let p = err_from_is_err_and c.from_residual.result c.from_residual.ensures.1 in
+    none_at_error _ c.from_residual.result _ p.1
 
 pub returns-in_err-state-clause-state : goal.returns-in_err-state-clause-state
-returns-in_err-state-clause-state g c = λ honest. let p = err_from_is_err_and c.from_residual-in_err-state.result c.from_residual-in_err-state.ensures.1 in none_in_error _ c.from_residual-in_err-state.result _ p.1
+returns-in_err-state-clause-state g c =
+    λ honest. let p = err_from_is_err_and c.from_residual-in_err-state.result c.from_residual-in_err-state.ensures.1 in
+    none_in_error _ c.from_residual-in_err-state.result _ p.1
 
 pub returns-in_err-state-clause-quiet : goal.returns-in_err-state-clause-quiet
-returns-in_err-state-clause-quiet g c = let p = err_from_is_err_and c.from_residual-in_err-state.result c.from_residual-in_err-state.ensures.1 in none_at_error _ c.from_residual-in_err-state.result _ p.1
+returns-in_err-state-clause-quiet g c =
+    let p = err_from_is_err_and c.from_residual-in_err-state.result c.from_residual-in_err-state.ensures.1 in
+    none_at_error _ c.from_residual-in_err-state.result _ p.1

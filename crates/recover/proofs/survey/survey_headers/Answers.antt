@@ -3,16 +3,24 @@ use Rattle.recover.proofs.Surveys.{always_err, foreign_damaged, tells_of}
 use Rattle.recover.proofs.survey.survey_headers.Goals as goal
 
 pub returns-in_err-image0-clause-damaged : goal.returns-in_err-image0-clause-damaged
-returns-in_err-image0-clause-damaged c = λ slots says. always_err c.from_residual.result (foreign_damaged slots _ _ _ _ says (inl c.in_err-image0.ensures.foreign))
+returns-in_err-image0-clause-damaged c =
+    λ slots says. always_err c.from_residual.result
+    (foreign_damaged slots _ _ _ _ says (inl c.in_err-image0.ensures.foreign))
 
 pub returns-in_err-image1-clause-damaged : goal.returns-in_err-image1-clause-damaged
-returns-in_err-image1-clause-damaged c = λ slots says. always_err c.from_residual-in_err-image1.result (foreign_damaged slots _ _ _ _ says (inr (inl c.in_err-image1.ensures.foreign)))
+returns-in_err-image1-clause-damaged c =
+    λ slots says. always_err c.from_residual-in_err-image1.result
+    (foreign_damaged slots _ _ _ _ says (inr (inl c.in_err-image1.ensures.foreign)))
 
 pub returns-in_err-segment0-clause-damaged : goal.returns-in_err-segment0-clause-damaged
-returns-in_err-segment0-clause-damaged c = λ slots says. always_err c.from_residual-in_err-segment0.result (foreign_damaged slots _ _ _ _ says (inr (inr (inl c.in_err-segment0.ensures.foreign))))
+returns-in_err-segment0-clause-damaged c =
+    λ slots says. always_err c.from_residual-in_err-segment0.result
+    (foreign_damaged slots _ _ _ _ says (inr (inr (inl c.in_err-segment0.ensures.foreign))))
 
 pub returns-in_err-segment1-clause-damaged : goal.returns-in_err-segment1-clause-damaged
-returns-in_err-segment1-clause-damaged c = λ slots says. always_err c.from_residual-in_err-segment1.result (foreign_damaged slots _ _ _ _ says (inr (inr (inr c.in_err-segment1.ensures.foreign))))
+returns-in_err-segment1-clause-damaged c =
+    λ slots says. always_err c.from_residual-in_err-segment1.result
+    (foreign_damaged slots _ _ _ _ says (inr (inr (inr c.in_err-segment1.ensures.foreign))))
 
 pub returns-clause-surveyed : goal.returns-clause-surveyed
 returns-clause-surveyed c = λ slots says. c.survey_open.ensures.surveyed slots (record {

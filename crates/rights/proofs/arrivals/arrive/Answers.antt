@@ -7,7 +7,8 @@ use Rattle.rights.proofs.arrivals.arrive.Goals as goal
 
 pub loop-right-init : goal.loop-right-init
 loop-right-init c = (
-  way_first (names_in c.args.state.now.current c.args.space) c.args.rights.now c.args.wanted.now c.args.given.now.items c.requires.none c.requires.room,
+  way_first (names_in c.args.state.now.current c.args.space) c.args.rights.now c.args.wanted.now c.args.given.now.items
+      c.requires.none c.requires.room,
   got_first c.args.state.now.current c.args.space c.requires.there,
   c.requires.there,
   refl,
@@ -15,7 +16,9 @@ loop-right-init c = (
 
 pub arrive_one-requires-clause-room : goal.arrive_one-requires-clause-room
 arrive_one-requires-clause-room c =
-    way_room (names_in c.args.state.now.current c.args.space) (names_in c.loop-right.state.current c.args.space) c.args.rights.now c.loop-right.rest.now c.in-Some.behind.now c.args.wanted.now c.loop-right.left.now c.loop-right.given.items c.in-Some.right.now
+    way_room (names_in c.args.state.now.current c.args.space)
+    (names_in c.loop-right.state.current c.args.space) c.args.rights.now c.loop-right.rest.now c.in-Some.behind.now
+    c.args.wanted.now c.loop-right.left.now c.loop-right.given.items c.in-Some.right.now
     c.loop-right.invariant.0 c.in-Some.ensures.cases.0
 
 pub loop-right-preserved : goal.loop-right-preserved
@@ -27,8 +30,13 @@ loop-right-preserved c =
     let name = c.in_ok-name.name in
     let next = names_after (names_in now space) right.kind right.port name in
     let is = c.in_ok-name.ensures.ok in (
-      way_more (names_in start space) (names_in now space) (names_in c.arrive_one.new.state.current space) c.args.rights.now c.loop-right.rest.now c.in-Some.behind.now c.args.wanted.now c.loop-right.left.now c.front-shown.result.1.now c.loop-right.given.items c.push.new.self.items right name c.front-shown.result.0
-          c.loop-right.invariant.0 c.in-Some.ensures.cases.0 c.in_ok-name.ensures.may (names_got now c.arrive_one.new.state.current space next is) c.in_ok-push.ensures.items c.front-shown.ensures c.in_ok-name.ensures.wanted,
+      way_more (names_in start space) (names_in now space)
+          (names_in c.arrive_one.new.state.current space) c.args.rights.now c.loop-right.rest.now c.in-Some.behind.now
+          c.args.wanted.now c.loop-right.left.now c.front-shown.result.1.now c.loop-right.given.items
+          c.push.new.self.items right name c.front-shown.result.0
+          c.loop-right.invariant.0 c.in-Some.ensures.cases.0 c.in_ok-name.ensures.may
+          (names_got now c.arrive_one.new.state.current space next is) c.in_ok-push.ensures.items
+          c.front-shown.ensures c.in_ok-name.ensures.wanted,
       got_later start now c.arrive_one.new.state.current space next c.loop-right.invariant.1 is,
       there_too now c.arrive_one.new.state.current space next is,
       c.in_ok-name.ensures.before ∙ c.loop-right.invariant.3,
@@ -36,10 +44,14 @@ loop-right-preserved c =
 
 pub returns-clause-arrives : goal.returns-clause-arrives
 returns-clause-arrives c =
-    way_last (names_in c.args.state.now.current c.args.space) (names_in c.loop-right.state.current c.args.space) c.args.rights.now c.loop-right.rest.now c.args.wanted.now c.loop-right.left.now c.loop-right.given.items c.loop-right.invariant.0
+    way_last (names_in c.args.state.now.current c.args.space)
+    (names_in c.loop-right.state.current c.args.space) c.args.rights.now c.loop-right.rest.now c.args.wanted.now
+    c.loop-right.left.now c.loop-right.given.items c.loop-right.invariant.0
     (nil_from_length c.loop-right.rest.now c.in_default.ensures.cases)
 
 pub returns-clause-wanted : goal.returns-clause-wanted
 returns-clause-wanted c =
-    way_wanted (names_in c.args.state.now.current c.args.space) (names_in c.loop-right.state.current c.args.space) c.args.rights.now c.loop-right.rest.now c.args.wanted.now c.loop-right.left.now c.loop-right.given.items c.loop-right.invariant.0
+    way_wanted (names_in c.args.state.now.current c.args.space)
+    (names_in c.loop-right.state.current c.args.space) c.args.rights.now c.loop-right.rest.now c.args.wanted.now
+    c.loop-right.left.now c.loop-right.given.items c.loop-right.invariant.0
     (nil_from_length c.loop-right.rest.now c.in_default.ensures.cases)

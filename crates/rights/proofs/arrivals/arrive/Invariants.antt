@@ -11,7 +11,8 @@ decreases-loop-right l = length l.rest
 -- some have arrived, and the rest is still to arrive
 abbrev pub invariant-loop-right : goal.invariant-loop-right
 invariant-loop-right l =
-    OnTheWay (names_in l.fn.state.current l.space) (names_in l.state.current l.space) l.rights l.rest l.wanted l.left l.given.items
+    OnTheWay (names_in l.fn.state.current l.space)
+    (names_in l.state.current l.space) l.rights l.rest l.wanted l.left l.given.items
     × (l.state.current ≡ with_names l.fn.state.current l.space (names_in l.state.current l.space))
     × (is_some (finmap.get l.state.current.spaces l.space) ≡ true)
     × (l.state.before ≡ l.fn.state.before)

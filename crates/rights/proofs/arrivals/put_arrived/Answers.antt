@@ -7,12 +7,18 @@ use Rattle.rights.proofs.arrivals.put_arrived.Goals as goal
 
 pub returns-in-Null : goal.returns-in-Null
 returns-in-Null c = record {
-  ok = unchanged c.args.state.now.current c.args.space c.args.right c.args.name c.requires.there (ap (λ (p : PortInMessage). names_after (names_in c.args.state.now.current c.args.space) c.args.right.kind p c.args.name) c.in-Null.is);
+  ok =
+      unchanged c.args.state.now.current c.args.space c.args.right c.args.name c.requires.there
+      (ap (λ (p : PortInMessage). names_after
+      (names_in c.args.state.now.current c.args.space) c.args.right.kind p c.args.name) c.in-Null.is);
   before = refl;
 }
 
 pub returns-in-Dead : goal.returns-in-Dead
 returns-in-Dead c = record {
-  ok = unchanged c.args.state.now.current c.args.space c.args.right c.args.name c.requires.there (ap (λ (p : PortInMessage). names_after (names_in c.args.state.now.current c.args.space) c.args.right.kind p c.args.name) c.in-Dead.is);
+  ok =
+      unchanged c.args.state.now.current c.args.space c.args.right c.args.name c.requires.there
+      (ap (λ (p : PortInMessage). names_after
+      (names_in c.args.state.now.current c.args.space) c.args.right.kind p c.args.name) c.in-Dead.is);
   before = refl;
 }

@@ -15,9 +15,13 @@ loop-index-preserved c =
     let before = c.loop-index.invariant.rest in
     elim c.if-wants_name.branch [
       | then-wants_name w ↦
-          let one : cond {A = ℕ} (wants_name names (named_after [] (take i rights)) (get_or rights i blank).kind (get_or rights i blank).port) 1 0 ≡ 1 = ap (λ (b : Bool). cond {A = ℕ} b 1 0) (sym c.wants_name.ensures ∙ w.if-wants_name.true) in
+          let one : cond {A = ℕ} (wants_name names (named_after [] (take i rights)) (get_or rights i blank).kind
+          (get_or rights i blank).port) 1 0 ≡ 1 = ap
+          (λ (b : Bool). cond {A = ℕ} b 1 0) (sym c.wants_name.ensures ∙ w.if-wants_name.true) in
           record { few = omega (arith, c.loop-index.invariant.few); rest = omega (arith, one, more, before) }
       | else-wants_name w ↦
-          let none : cond {A = ℕ} (wants_name names (named_after [] (take i rights)) (get_or rights i blank).kind (get_or rights i blank).port) 1 0 ≡ 0 = ap (λ (b : Bool). cond {A = ℕ} b 1 0) (sym c.wants_name.ensures ∙ w.if-wants_name.false) in
+          let none : cond {A = ℕ} (wants_name names (named_after [] (take i rights)) (get_or rights i blank).kind
+          (get_or rights i blank).port) 1 0 ≡ 0 = ap
+          (λ (b : Bool). cond {A = ℕ} b 1 0) (sym c.wants_name.ensures ∙ w.if-wants_name.false) in
           record { few = omega (arith, c.loop-index.invariant.few); rest = omega (arith, none, more, before) }
     ]

@@ -7,5 +7,6 @@ use Rattle.rights.proofs.wanted.names_needed.Given as goal
 abbrev pub invariant-loop-index : goal.invariant-loop-index
 invariant-loop-index l = record {
   few : l.wanted ≤ l.index;
-  rest : l.wanted + names_needed (names_in l.state.current l.space) (named_after [] (take l.index l.rights)) (drop l.index l.rights) ≡ names_needed (names_in l.state.current l.space) [] l.rights;
+  rest : l.wanted + names_needed (names_in l.state.current l.space) (named_after [] (take l.index l.rights))
+      (drop l.index l.rights) ≡ names_needed (names_in l.state.current l.space) [] l.rights;
 }

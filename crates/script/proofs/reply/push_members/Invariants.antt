@@ -4,7 +4,8 @@ use Rattle.script.specs.Spaced.{spaced}
 use Rattle.script.proofs.reply.push_members.Given as goal
 
 abbrev pub invariant-loop-member : goal.invariant-loop-member
-invariant-loop-member l = l.line.items ++ spaced (members_words l.rest) ≡ l.fn.line.items ++ spaced (members_words l.fn.members)
+invariant-loop-member l =
+    l.line.items ++ spaced (members_words l.rest) ≡ l.fn.line.items ++ spaced (members_words l.fn.members)
 
 abbrev pub decreases-loop-member : goal.decreases-loop-member
 decreases-loop-member l = length l.rest

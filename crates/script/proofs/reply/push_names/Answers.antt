@@ -4,4 +4,6 @@ use Rattle.script.proofs.WordsOf.{rest_none}
 use Rattle.script.proofs.reply.push_names.Goals as goal
 
 pub returns : goal.returns
-returns c = rest_none _ _ (names_words c.loop-named.rest.now) _ (names_gone c.loop-named.rest.now c.in_default.ensures.cases) c.loop-named.invariant
+returns c =
+    rest_none _ _ (names_words c.loop-named.rest.now) _
+    (names_gone c.loop-named.rest.now c.in_default.ensures.cases) c.loop-named.invariant

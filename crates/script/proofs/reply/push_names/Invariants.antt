@@ -4,7 +4,8 @@ use Rattle.script.specs.Spaced.{spaced}
 use Rattle.script.proofs.reply.push_names.Given as goal
 
 abbrev pub invariant-loop-named : goal.invariant-loop-named
-invariant-loop-named l = l.line.items ++ spaced (names_words l.rest) ≡ l.fn.line.items ++ spaced (names_words l.fn.names)
+invariant-loop-named l =
+    l.line.items ++ spaced (names_words l.rest) ≡ l.fn.line.items ++ spaced (names_words l.fn.names)
 
 abbrev pub decreases-loop-named : goal.decreases-loop-named
 decreases-loop-named l = length l.rest

@@ -13,25 +13,36 @@ pub loop-rest-preserved : goal.loop-rest-preserved
 loop-rest-preserved c =
     let some : 0 < length c.loop-rest.rest.now = grind (arith, common_steps) in
     let next : lines_of c.loop-rest.rest.now ≡ c.first_line.result.0.now ∷ lines_of c.first_line.result.1.now =
-    lines_next _ _ _ (λ e. absurd (omega (arith, some, ap length e))) c.first_line.ensures.line c.first_line.ensures.rest in
+    lines_next _ _ _ (λ e. absurd (omega (arith, some, ap length e))) c.first_line.ensures.line
+    c.first_line.ensures.rest in
     record {
       is = next_read _ _ _ _ _ _ next c.in-Ok.ensures ∙ c.loop-rest.invariant.is;
-      in_range = omega (arith, some, c.loop-rest.invariant.in_range, simp length-drop at (ap length c.first_line.ensures.rest));
+      in_range =
+          omega (
+            arith,
+            some,
+            c.loop-rest.invariant.in_range,
+            simp length-drop at (ap length c.first_line.ensures.rest),
+          );
     }
 
 pub returns-in-Err-clause-read : goal.returns-in-Err-clause-read
 returns-in-Err-clause-read c =
     let some : 0 < length c.loop-rest.rest.now = grind (arith, common_steps) in
     let next : lines_of c.loop-rest.rest.now ≡ c.first_line.result.0.now ∷ lines_of c.first_line.result.1.now =
-    lines_next _ _ _ (λ e. absurd (omega (arith, some, ap length e))) c.first_line.ensures.line c.first_line.ensures.rest in
+    lines_next _ _ _ (λ e. absurd (omega (arith, some, ap length e))) c.first_line.ensures.line
+    c.first_line.ensures.rest in
     next_fault c.in-Err.fault _ _ _ _ _ _ next c.in-Err.ensures c.loop-rest.invariant.is
 
 pub returns-in-Err-clause-printed : goal.returns-in-Err-clause-printed
 returns-in-Err-clause-printed c = λ xs are is.
     let some : 0 < length c.loop-rest.rest.now = grind (arith, common_steps) in
     let next : lines_of c.loop-rest.rest.now ≡ c.first_line.result.0.now ∷ lines_of c.first_line.result.1.now =
-    lines_next _ _ _ (λ e. absurd (omega (arith, some, ap length e))) c.first_line.ensures.line c.first_line.ensures.rest in
-    printed_fault c.in-Err.fault _ xs c.args.text.now are is (next_fault c.in-Err.fault _ _ _ _ _ (script_read c.args.text.now) next c.in-Err.ensures c.loop-rest.invariant.is)
+    lines_next _ _ _ (λ e. absurd (omega (arith, some, ap length e))) c.first_line.ensures.line
+    c.first_line.ensures.rest in
+    printed_fault c.in-Err.fault _ xs c.args.text.now are is
+    (next_fault c.in-Err.fault _ _ _ _ _
+    (script_read c.args.text.now) next c.in-Err.ensures c.loop-rest.invariant.is)
 
 pub returns-clause-read : goal.returns-clause-read
 returns-clause-read c =

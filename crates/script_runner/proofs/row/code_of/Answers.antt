@@ -9,5 +9,6 @@ returns-clause-found c = record {
   results = c.in_ok-code.field-0-1.now;
   is = c.in_ok-content.ensures.found
       ∙ ap (λ xs. word c.in_ok-content.field-0-0 ++ xs)
-      (c.in_ok-after_number.ensures.found ∙ ap (λ xs. word c.in_ok-after_number.field-0-0 ++ xs) c.in_ok-code.ensures.found);
+      (c.in_ok-after_number.ensures.found ∙ ap
+      (λ xs. word c.in_ok-after_number.field-0-0 ++ xs) c.in_ok-code.ensures.found);
 }

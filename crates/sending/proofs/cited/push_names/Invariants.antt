@@ -5,4 +5,6 @@ use Rattle.sending.proofs.cited.push_names.Given as goal
 
 -- what was added, and what is left to add from here, is all that is to be added
 abbrev pub invariant-loop-item : goal.invariant-loop-item
-invariant-loop-item l = l.names.items ++ flat_map names_of_item (map item_value (drop l.item-index l.items)) ≡ l.fn.names.items ++ flat_map names_of_item (map item_value l.items)
+invariant-loop-item l =
+    l.names.items ++ flat_map names_of_item (map item_value (drop l.item-index l.items)) ≡ l.fn.names.items
+    ++ flat_map names_of_item (map item_value l.items)

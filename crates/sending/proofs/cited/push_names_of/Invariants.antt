@@ -5,4 +5,6 @@ use Rattle.sending.proofs.cited.push_names_of.Given as goal
 
 -- what was added, and what is left to add from here, is all that is to be added
 abbrev pub invariant-loop-index : goal.invariant-loop-index
-invariant-loop-index l = l.names.items ++ drop l.index (names_of_item (item_value l.item)) ≡ l.fn.names.items ++ names_of_item (item_value l.item)
+invariant-loop-index l =
+    l.names.items ++ drop l.index (names_of_item (item_value l.item)) ≡ l.fn.names.items
+    ++ names_of_item (item_value l.item)

@@ -12,4 +12,6 @@ returns-in_err-take_item-clause-taken c =
     let p = err_from_is_err_and c.from_residual.result c.from_residual.ensures.1 in
     let now = so_far c.loop-item.rights.items c.loop-item.state.current c.loop-item.effects in
     let start = so_far c.args.rights.now.items c.args.state.now.current c.args.effects.now in
-    rw (p.1, p.2) (failed_item SendInvalidRight c.args.space c.args.items.now c.loop-item.item-index c.item-item.result now (take_items c.args.space (map item_value c.args.items.now) start) _ _ _ c.loop-item.invariant.0 c.loop-item-test.true c.item-item.is c.in_err-take_item.ensures.taken)
+    rw (p.1, p.2) (failed_item SendInvalidRight c.args.space c.args.items.now c.loop-item.item-index c.item-item.result
+    now (take_items c.args.space (map item_value c.args.items.now) start) _ _ _ c.loop-item.invariant.0
+    c.loop-item-test.true c.item-item.is c.in_err-take_item.ensures.taken)

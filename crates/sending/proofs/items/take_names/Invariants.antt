@@ -8,6 +8,8 @@ use Rattle.sending.proofs.items.take_names.Given as goal
 -- what is left to take from here is what was to be taken
 abbrev pub invariant-loop-index : goal.invariant-loop-index
 invariant-loop-index l =
-    (take_rights l.space l.disposition (names_of_item (item_value l.item)) (so_far l.fn.rights.items l.fn.state.current l.fn.effects)
-    ≡ take_rights l.space l.disposition (drop l.index (names_of_item (item_value l.item))) (so_far l.rights.items l.state.current l.effects))
+    (take_rights l.space l.disposition (names_of_item (item_value l.item))
+    (so_far l.fn.rights.items l.fn.state.current l.fn.effects)
+    ≡ take_rights l.space l.disposition (drop l.index (names_of_item (item_value l.item)))
+    (so_far l.rights.items l.state.current l.effects))
     × (l.state.before ≡ l.fn.state.before)

@@ -6,4 +6,5 @@ use Rattle.sending.proofs.ready.has_ports.Given as goal
 
 -- none of those before
 abbrev pub invariant-loop-item : goal.invariant-loop-item
-invariant-loop-item l = list_any is_port_item (map item_value l.items) ≡ list_any is_port_item (map item_value (drop l.item-index l.items))
+invariant-loop-item l =
+    list_any is_port_item (map item_value l.items) ≡ list_any is_port_item (map item_value (drop l.item-index l.items))

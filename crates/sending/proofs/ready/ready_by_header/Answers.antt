@@ -13,19 +13,26 @@ by found = map item_value found.items
 pub returns-in_err-destination-clause-ready : goal.returns-in_err-destination-clause-ready
 returns-in_err-destination-clause-ready c =
     let p = err_from_is_err_and c.from_residual.result c.from_residual.ensures.1 in
-    rw (p.1, p.2) (first_failed c.args.state.now.current c.args.space (parts_by c.args.header c.args.body.now) _ _ c.in_err-destination.ensures)
+    rw (p.1, p.2) (first_failed c.args.state.now.current c.args.space
+    (parts_by c.args.header c.args.body.now) _ _ c.in_err-destination.ensures)
 
 pub returns-in_err-reply-clause-ready : goal.returns-in_err-reply-clause-ready
 returns-in_err-reply-clause-ready c =
     let p = err_from_is_err_and c.from_residual-in_err-reply.result c.from_residual-in_err-reply.ensures.1 in
-    rw (p.1, p.2) (second_failed c.args.state.now.current c.args.space (parts_by c.args.header c.args.body.now) _ c.in_ok-destination.destination _ c.in_ok-destination.ensures c.in_err-reply.ensures)
+    rw (p.1, p.2) (second_failed c.args.state.now.current c.args.space
+    (parts_by c.args.header c.args.body.now) _ c.in_ok-destination.destination _ c.in_ok-destination.ensures
+    c.in_err-reply.ensures)
 
 pub returns-in_err-items-clause-ready : goal.returns-in_err-items-clause-ready
 returns-in_err-items-clause-ready c =
     let p = err_from_is_err_and c.from_residual-in_err-items.result c.from_residual-in_err-items.ensures.1 in
-    rw (p.1, p.2) (third_failed c.args.state.now.current c.args.space (parts_by c.args.header c.args.body.now) _ c.in_ok-destination.destination c.in_ok-reply.reply by _ c.in_ok-destination.ensures c.in_ok-reply.ensures c.in_err-items.ensures)
+    rw (p.1, p.2) (third_failed c.args.state.now.current c.args.space
+    (parts_by c.args.header c.args.body.now) _ c.in_ok-destination.destination c.in_ok-reply.reply by _
+    c.in_ok-destination.ensures c.in_ok-reply.ensures c.in_err-items.ensures)
 
 pub returns-clause-ready : goal.returns-clause-ready
 returns-clause-ready c =
-    all_given c.args.state.now.current c.args.space (parts_by c.args.header c.args.body.now) _ c.in_ok-destination.destination c.in_ok-reply.reply by c.in_ok-items.items _ c.in_ok-destination.ensures c.in_ok-reply.ensures c.in_ok-items.ensures
+    all_given c.args.state.now.current c.args.space
+    (parts_by c.args.header c.args.body.now) _ c.in_ok-destination.destination c.in_ok-reply.reply by
+    c.in_ok-items.items _ c.in_ok-destination.ensures c.in_ok-reply.ensures c.in_ok-items.ensures
     (rw c.as_slice.ensures.value at c.ready_of_items.ensures.ready)

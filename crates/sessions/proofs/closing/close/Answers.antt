@@ -13,33 +13,48 @@ returns-in_default-clause-unmatched g c honest =
     record {
       entries = store_keeper.entries;
       history = record { state = parts.recorded.end; run = parts.recorded.run };
-      stands = λ slots may. subst (λ (n : ℕ). StandsFor g.L.Founding.base n (records_of store_keeper.entries) slots) (sym c.stored-stored.ensures.stored) (parts.left honest slots may);
+      stands =
+          λ slots may. subst (λ (n : ℕ). StandsFor g.L.Founding.base n (records_of store_keeper.entries) slots)
+          (sym c.stored-stored.ensures.stored) (parts.left honest slots may);
     }
 
 pub returns-clause-seen : goal.returns-clause-seen
 returns-clause-seen g c =
-    all_of g.L.Founding.base c.in-Some.past.entries c.stored-stored.result (λ (s : SessionValue). Begins s.past.entries c.in-Some.past.entries) (λ last s belongs. belongs.begins) 0 c.args.sessions.items c.in-Some.ensures.matched.belong
+    all_of g.L.Founding.base c.in-Some.past.entries c.stored-stored.result
+    (λ (s : SessionValue). Begins s.past.entries c.in-Some.past.entries)
+    (λ last s belongs. belongs.begins) 0 c.args.sessions.items c.in-Some.ensures.matched.belong
 
 pub returns-clause-ascend : goal.returns-clause-ascend
-returns-clause-ascend g c = all_ascend g.L.Founding.base c.in-Some.past.entries c.stored-stored.result 0 c.args.sessions.items c.in-Some.ensures.matched.belong
+returns-clause-ascend g c =
+    all_ascend g.L.Founding.base c.in-Some.past.entries c.stored-stored.result 0 c.args.sessions.items
+    c.in-Some.ensures.matched.belong
 
 pub returns-clause-apart : goal.returns-clause-apart
-returns-clause-apart g c = all_apart g.L.Founding.base c.in-Some.past.entries c.stored-stored.result 0 c.args.sessions.items c.in-Some.ensures.matched.belong
+returns-clause-apart g c =
+    all_apart g.L.Founding.base c.in-Some.past.entries c.stored-stored.result 0 c.args.sessions.items
+    c.in-Some.ensures.matched.belong
 
 pub returns-clause-legal : goal.returns-clause-legal
-returns-clause-legal g c = all_legal g.L.Founding.base c.in-Some.past.entries c.stored-stored.result c.in-Some.ensures.matched.history 0 c.args.sessions.items c.in-Some.ensures.matched.belong
+returns-clause-legal g c =
+    all_legal g.L.Founding.base c.in-Some.past.entries c.stored-stored.result c.in-Some.ensures.matched.history 0
+    c.args.sessions.items c.in-Some.ensures.matched.belong
 
 pub returns-clause-all : goal.returns-clause-all
 returns-clause-all g c same = are_all c.in-Some.past.entries c.args.sessions.items (c.in-Some.ensures.matched.all same)
 
 pub returns-clause-acknowledged : goal.returns-clause-acknowledged
 returns-clause-acknowledged g c =
-    all_of g.L.Founding.base c.in-Some.past.entries c.stored-stored.result (λ (s : SessionValue). s.task.acknowledged ≤ c.stored-stored.result) (λ last s belongs. belongs.acknowledged) 0 c.args.sessions.items c.in-Some.ensures.matched.belong
+    all_of g.L.Founding.base c.in-Some.past.entries c.stored-stored.result
+    (λ (s : SessionValue). s.task.acknowledged ≤ c.stored-stored.result)
+    (λ last s belongs. belongs.acknowledged) 0 c.args.sessions.items c.in-Some.ensures.matched.belong
 
 pub returns-clause-left : goal.returns-clause-left
 returns-clause-left g c honest slots may =
     let store_keeper = c.into_halves-keeper.result.1 in
     let parts = c.into_parts-disk.ensures in
-    stands_in g.L.Founding.base c.into_parts-disk.result.1.entries c.in-Some.past.entries c.stored-stored.result slots c.in-Some.ensures.matched.begins
-    (subst (λ (l : List Entry). StandsFor g.L.Founding.base c.stored-stored.result (records_of l) slots) (sym parts.past)
-    (subst (λ (n : ℕ). StandsFor g.L.Founding.base n (records_of store_keeper.entries) slots) (sym c.stored-stored.ensures.stored) (parts.left honest slots may)))
+    stands_in g.L.Founding.base c.into_parts-disk.result.1.entries c.in-Some.past.entries c.stored-stored.result slots
+    c.in-Some.ensures.matched.begins
+    (subst (λ (l : List Entry). StandsFor g.L.Founding.base c.stored-stored.result (records_of l) slots)
+    (sym parts.past)
+    (subst (λ (n : ℕ). StandsFor g.L.Founding.base n (records_of store_keeper.entries) slots)
+    (sym c.stored-stored.ensures.stored) (parts.left honest slots may)))

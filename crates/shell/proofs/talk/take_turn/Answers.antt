@@ -5,11 +5,17 @@ use Rattle.shell.proofs.talk.take_turn.Goals as goal
 
 pub returns-in_err-told-clause-part : goal.returns-in_err-told-clause-part
 returns-in_err-told-clause-part g c =
-    none_done c.from_residual.result c.args.place.number (side (g.P.Read.remaining c.args.replies.now) (writer_contents g.S.Write.contents c.args.requests.now) (writer_buffer c.args.requests.now)) (writer_contents g.O.Write.contents c.args.output.now)
+    none_done c.from_residual.result c.args.place.number
+    (side (g.P.Read.remaining c.args.replies.now) (writer_contents g.S.Write.contents c.args.requests.now)
+    (writer_buffer c.args.requests.now)) (writer_contents g.O.Write.contents c.args.output.now)
 
 pub returns-in_err-say-clause-part : goal.returns-in_err-say-clause-part
 returns-in_err-say-clause-part g c =
     let part = rw c.as_slice.ensures.value at c.in_err-say.ensures.part in
-    part_said c.from_residual-in_err-say.result c.args.place.number c.args.line.now (side (g.P.Read.remaining c.args.replies.now) (writer_contents g.S.Write.contents c.args.requests.now) (writer_buffer c.args.requests.now))
-    (side (g.P.Read.remaining c.hear.new.replies) (writer_contents g.S.Write.contents c.hear.new.requests) (writer_buffer c.hear.new.requests)) (writer_contents g.O.Write.contents c.args.output.now) (writer_contents g.O.Write.contents c.say.new.output)
+    part_said c.from_residual-in_err-say.result c.args.place.number c.args.line.now
+    (side (g.P.Read.remaining c.args.replies.now) (writer_contents g.S.Write.contents c.args.requests.now)
+    (writer_buffer c.args.requests.now))
+    (side (g.P.Read.remaining c.hear.new.replies) (writer_contents g.S.Write.contents c.hear.new.requests)
+    (writer_buffer c.hear.new.requests)) (writer_contents g.O.Write.contents c.args.output.now)
+    (writer_contents g.O.Write.contents c.say.new.output)
     c.in_ok-told.told.text.items c.in_ok-told.told.is_well c.in_ok-told.ensures part

@@ -16,6 +16,8 @@ returns-then-branch-clause-any_moment g c = λ honest synced.
     let same = c.needs_closing.ensures.seen honest in
     let needs = (c.in_ok-needs_closing.ensures.needs honest).0 c.if-branch.true in
     still_then slot old mid (g.D.Disk.view c.write_gate.new.disk) (IsClosing c.args.header) (λ x. inl refl) time
-    (follows_as slot mid (g.D.Disk.view c.write_gate.new.disk) HasSomeGate (IsClosing c.args.header) (c.write_gate.ensures.any_moment honest)
+    (follows_as slot mid (g.D.Disk.view c.write_gate.new.disk) HasSomeGate (IsClosing c.args.header)
+    (c.write_gate.ensures.any_moment honest)
     (λ d after left gate. gate_closing c.args.header (slot_of d slot) after c.requires
-    (subst (λ (l : List ℕ). (length l < c.args.header) ⊎ (take 1 l ≡ open_gate ∷ [])) (sym (synced_kept slot old mid time same synced d left ∙ ap (λ (s : Slots). slot_of s slot) same)) needs) gate))
+    (subst (λ (l : List ℕ). (length l < c.args.header) ⊎ (take 1 l ≡ open_gate ∷ []))
+    (sym (synced_kept slot old mid time same synced d left ∙ ap (λ (s : Slots). slot_of s slot) same)) needs) gate))

@@ -10,5 +10,6 @@ returns-clause-any_moment g c = λ honest.
     let old = g.D.Disk.view c.args.disk.now in
     let written = g.D.Disk.view c.write_at.new.self in
     follows_still slot old written (g.D.Disk.view c.sync.new.self) HasSomeGate same_gate
-    (follows_as slot old written (TornWrite 0 1) HasSomeGate (c.write_at.ensures.time honest) (λ d after left torn. torn_gate (slot_of d slot) after torn))
+    (follows_as slot old written (TornWrite 0 1) HasSomeGate (c.write_at.ensures.time honest)
+    (λ d after left torn. torn_gate (slot_of d slot) after torn))
     (c.sync.ensures.time honest)

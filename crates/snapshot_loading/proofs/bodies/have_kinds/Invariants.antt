@@ -5,4 +5,6 @@ use Rattle.snapshot_loading.proofs.bodies.have_kinds.Given as goal
 
 -- the rest is right exactly where all is
 abbrev pub invariant-loop-item : goal.invariant-loop-item
-invariant-loop-item l = HasKinds (map item_value l.fn.items) (map carried_kind l.fn.rights) ↔ HasKinds (map item_value (drop l.item-index l.fn.items)) (map carried_kind l.rest)
+invariant-loop-item l =
+    HasKinds (map item_value l.fn.items) (map carried_kind l.fn.rights) ↔ HasKinds
+    (map item_value (drop l.item-index l.fn.items)) (map carried_kind l.rest)

@@ -5,4 +5,5 @@ use Rattle.type_desc.specs.Values.{item_value}
 use Rattle.snapshot_loading.proofs.bodies.have_port.Given as goal
 
 abbrev pub invariant-loop-item : goal.invariant-loop-item
-invariant-loop-item l = list_any is_port_item (map item_value (drop l.item-index l.items)) ≡ list_any is_port_item (map item_value l.items)
+invariant-loop-item l =
+    list_any is_port_item (map item_value (drop l.item-index l.items)) ≡ list_any is_port_item (map item_value l.items)

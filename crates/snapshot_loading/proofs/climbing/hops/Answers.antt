@@ -11,5 +11,8 @@ pub loop-serial-preserved : goal.loop-serial-preserved
 loop-serial-preserved c =
     let state = c.args.state.now.current in
     let serial = c.in-Some.serial in
-    one_more state (up_of state) (up_only state) c.loop-serial.up c.add_hop.new.up c.loop-serial.at serial c.in-Some.ensures.next
-    (c.in_ok-add_hop.ensures ∙ ap (with_hop c.loop-serial.up serial) (c.carrier.ensures ∙ sym (ap (λ (b : Bool). cond b (carrier_of state serial) None) c.in-Some.ensures.next.1))) c.loop-serial.invariant
+    one_more state (up_of state) (up_only state) c.loop-serial.up c.add_hop.new.up c.loop-serial.at serial
+    c.in-Some.ensures.next
+    (c.in_ok-add_hop.ensures ∙ ap (with_hop c.loop-serial.up serial)
+    (c.carrier.ensures ∙ sym (ap (λ (b : Bool). cond b (carrier_of state serial) None) c.in-Some.ensures.next.1)))
+    c.loop-serial.invariant

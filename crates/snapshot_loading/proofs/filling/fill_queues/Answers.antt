@@ -11,11 +11,15 @@ use Rattle.snapshot_loading.proofs.filling.fill_queues.Goals as goal
 pub queue_messages-requires : goal.queue_messages-requires
 queue_messages-requires c =
     let first = c.args.state.now.current in
-    let all = subst (All (λ (r : LivePort). is_linked_row (looks_of first) r ≡ true)) c.in-Some.ensures.cases.0 c.loop-row.invariant.linked in (
+    let all =
+    subst (All (λ (r : LivePort). is_linked_row (looks_of first) r ≡ true)) c.in-Some.ensures.cases.0
+    c.loop-row.invariant.linked in (
       first,
       c.loop-row.invariant.alike,
       subst (All (λ (m : Message). is_linked_message (looks_of first) m ≡ true)) (sym c.as_slice.ensures)
-          (linked_messages (looks_of first) c.in-Some.row.now (All-head (λ (r : LivePort). is_linked_row (looks_of first) r ≡ true) c.in-Some.row.now c.in-Some.behind.now all)),
+          (linked_messages (looks_of first) c.in-Some.row.now
+          (All-head (λ (r : LivePort). is_linked_row (looks_of first) r ≡ true) c.in-Some.row.now
+          c.in-Some.behind.now all)),
     )
 
 pub loop-row-preserved : goal.loop-row-preserved
@@ -31,6 +35,10 @@ loop-row-preserved c =
           ∙ ap (λ (messages : List Message). filled_all behind (queued_all row.serial messages now)) c.as_slice.ensures
           ∙ ap (λ (rows : List LivePort). filled_all rows now) (sym is)
           ∙ c.loop-row.invariant.left;
-      alike = λ s. ap (λ (state : State). lives state s) c.in_ok-queue_messages.ensures ∙ all_queued_alike row.serial c.as_slice.result.now now s ∙ c.loop-row.invariant.alike s;
-      linked = All-tail (λ (r : LivePort). is_linked_row (looks_of first) r ≡ true) row behind (subst (All (λ (r : LivePort). is_linked_row (looks_of first) r ≡ true)) is c.loop-row.invariant.linked);
+      alike =
+          λ s. ap (λ (state : State). lives state s) c.in_ok-queue_messages.ensures
+          ∙ all_queued_alike row.serial c.as_slice.result.now now s ∙ c.loop-row.invariant.alike s;
+      linked =
+          All-tail (λ (r : LivePort). is_linked_row (looks_of first) r ≡ true) row behind
+          (subst (All (λ (r : LivePort). is_linked_row (looks_of first) r ≡ true)) is c.loop-row.invariant.linked);
     }

@@ -13,4 +13,5 @@ put_names-requires c =
     let row = c.args.row.now in
     let old = c.args.state.now.current in
     subst (λ (r : Running). MayName row.number c.as_slice.result.now r.current) (sym c.in_ok-add_space.ensures.ok)
-    (subst (λ (rows : List NamedEntry). MayName row.number rows (with_names old row.number empty)) (sym c.as_slice.ensures) (may_name_first row old (All-head IsShapedSpace row [] c.requires.each)))
+    (subst (λ (rows : List NamedEntry). MayName row.number rows (with_names old row.number empty))
+    (sym c.as_slice.ensures) (may_name_first row old (All-head IsShapedSpace row [] c.requires.each)))

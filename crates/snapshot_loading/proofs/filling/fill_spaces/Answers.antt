@@ -10,6 +10,11 @@ loop-row-preserved c =
     let is = c.in-Some.ensures.cases.0 in
     let behind = c.in-Some.behind.now in
     record {
-      left = ap (spaced_all behind) c.in_ok-fill_space.ensures ∙ ap (λ (rows : List Space). spaced_all rows now) (sym is) ∙ c.loop-row.invariant.left;
-      may = subst (MaySpace behind) (sym c.in_ok-fill_space.ensures) (may_space_next c.in-Some.row.now behind now (subst (λ (rows : List Space). MaySpace rows now) is c.loop-row.invariant.may));
+      left =
+          ap (spaced_all behind) c.in_ok-fill_space.ensures ∙ ap (λ (rows : List Space). spaced_all rows now) (sym is)
+          ∙ c.loop-row.invariant.left;
+      may =
+          subst (MaySpace behind) (sym c.in_ok-fill_space.ensures)
+          (may_space_next c.in-Some.row.now behind now
+          (subst (λ (rows : List Space). MaySpace rows now) is c.loop-row.invariant.may));
     }

@@ -5,7 +5,11 @@ use Rattle.snapshot_loading.proofs.filling.fill_spaces.Given as goal
 
 -- what is left to be done from here is what was to be done
 abbrev pub invariant-loop-row : goal.invariant-loop-row
-invariant-loop-row l = record { left : spaced_all l.rest l.state.current ≡ spaced_all l.fn.rows l.fn.state.current; may : MaySpace l.rest l.state.current }
+invariant-loop-row l =
+    record {
+      left : spaced_all l.rest l.state.current ≡ spaced_all l.fn.rows l.fn.state.current;
+      may : MaySpace l.rest l.state.current;
+    }
 
 abbrev pub decreases-loop-row : goal.decreases-loop-row
 decreases-loop-row l = length l.rest

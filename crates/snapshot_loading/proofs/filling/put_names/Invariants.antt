@@ -5,7 +5,11 @@ use Rattle.snapshot_loading.proofs.filling.put_names.Given as goal
 
 -- what is left to be done from here is what was to be done
 abbrev pub invariant-loop-row : goal.invariant-loop-row
-invariant-loop-row l = record { left : named_all l.space l.rest l.state.current ≡ named_all l.space l.fn.rows l.fn.state.current; may : MayName l.space l.rest l.state.current }
+invariant-loop-row l =
+    record {
+      left : named_all l.space l.rest l.state.current ≡ named_all l.space l.fn.rows l.fn.state.current;
+      may : MayName l.space l.rest l.state.current;
+    }
 
 abbrev pub decreases-loop-row : goal.decreases-loop-row
 decreases-loop-row l = length l.rest

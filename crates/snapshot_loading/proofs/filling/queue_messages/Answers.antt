@@ -14,8 +14,15 @@ pub queue_message-requires : goal.queue_message-requires
 queue_message-requires c =
     let now = c.loop-message.state.current in
     let linked = c.loop-message.invariant.linked in
-    let all = subst (All (λ (m : Message). is_linked_message (looks_of linked.0) m ≡ true)) c.in-Some.ensures.cases.0 linked.2 in
-    record { live = ap (carries_live now) c.in_ok-copy_of.ensures ∙ live_message linked.0 now linked.1 c.in-Some.message.now (All-head (λ (m : Message). is_linked_message (looks_of linked.0) m ≡ true) c.in-Some.message.now c.in-Some.behind.now all) }
+    let all =
+    subst (All (λ (m : Message). is_linked_message (looks_of linked.0) m ≡ true)) c.in-Some.ensures.cases.0 linked.2
+    in
+    record {
+      live = ap (carries_live now) c.in_ok-copy_of.ensures
+          ∙ live_message linked.0 now linked.1 c.in-Some.message.now
+          (All-head (λ (m : Message). is_linked_message (looks_of linked.0) m ≡ true) c.in-Some.message.now
+          c.in-Some.behind.now all);
+    }
 
 pub loop-message-preserved : goal.loop-message-preserved
 loop-message-preserved c =
@@ -32,7 +39,9 @@ loop-message-preserved c =
           ∙ c.loop-message.invariant.left;
       linked = (
         linked.0,
-        λ s. ap (λ (r : Running). lives r.current s) c.in_ok-queue_message.ensures.ok ∙ queued_alike serial c.in_ok-copy_of.field-0 now s ∙ linked.1 s,
-        All-tail (λ (m : Message). is_linked_message (looks_of linked.0) m ≡ true) c.in-Some.message.now behind (subst (All (λ (m : Message). is_linked_message (looks_of linked.0) m ≡ true)) is linked.2),
+        λ s. ap (λ (r : Running). lives r.current s) c.in_ok-queue_message.ensures.ok
+            ∙ queued_alike serial c.in_ok-copy_of.field-0 now s ∙ linked.1 s,
+        All-tail (λ (m : Message). is_linked_message (looks_of linked.0) m ≡ true) c.in-Some.message.now behind
+            (subst (All (λ (m : Message). is_linked_message (looks_of linked.0) m ≡ true)) is linked.2),
       );
     }

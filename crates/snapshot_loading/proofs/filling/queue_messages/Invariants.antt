@@ -9,7 +9,8 @@ use Rattle.snapshot_loading.proofs.filling.queue_messages.Given as goal
 abbrev pub invariant-loop-message : goal.invariant-loop-message
 invariant-loop-message l = record {
   left : queued_all l.serial l.rest l.state.current ≡ queued_all l.serial l.fn.messages l.fn.state.current;
-  linked : (first : State) × (AreAlike first l.state.current) × All (λ message. is_linked_message (looks_of first) message ≡ true) l.rest;
+  linked : (first : State) × (AreAlike first l.state.current)
+      × All (λ message. is_linked_message (looks_of first) message ≡ true) l.rest;
 }
 
 abbrev pub decreases-loop-message : goal.decreases-loop-message

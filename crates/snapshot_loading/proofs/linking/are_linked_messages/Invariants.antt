@@ -5,7 +5,9 @@ use Rattle.snapshot_loading.proofs.linking.are_linked_messages.Given as goal
 
 -- what is left passes exactly where all does
 abbrev pub invariant-loop-message : goal.invariant-loop-message
-invariant-loop-message l = list_all (is_linked_message (looks_of l.state.current)) l.rest ≡ list_all (is_linked_message (looks_of l.state.current)) l.fn.messages
+invariant-loop-message l =
+    list_all (is_linked_message (looks_of l.state.current)) l.rest
+    ≡ list_all (is_linked_message (looks_of l.state.current)) l.fn.messages
 
 abbrev pub decreases-loop-message : goal.decreases-loop-message
 decreases-loop-message l = length l.rest

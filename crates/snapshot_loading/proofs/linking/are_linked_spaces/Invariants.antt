@@ -5,7 +5,9 @@ use Rattle.snapshot_loading.proofs.linking.are_linked_spaces.Given as goal
 
 -- what is left passes exactly where all does
 abbrev pub invariant-loop-row : goal.invariant-loop-row
-invariant-loop-row l = list_all (is_linked_space (looks_of l.state.current)) l.rest ≡ list_all (is_linked_space (looks_of l.state.current)) l.fn.rows
+invariant-loop-row l =
+    list_all (is_linked_space (looks_of l.state.current)) l.rest
+    ≡ list_all (is_linked_space (looks_of l.state.current)) l.fn.rows
 
 abbrev pub decreases-loop-row : goal.decreases-loop-row
 decreases-loop-row l = length l.rest

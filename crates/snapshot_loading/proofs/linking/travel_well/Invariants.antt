@@ -5,7 +5,9 @@ use Rattle.snapshot_loading.proofs.linking.travel_well.Given as goal
 
 -- what is left passes exactly where all does
 abbrev pub invariant-loop-right : goal.invariant-loop-right
-invariant-loop-right l = list_all (travels_well (looks_of l.state.current)) l.rest ≡ list_all (travels_well (looks_of l.state.current)) l.fn.rights
+invariant-loop-right l =
+    list_all (travels_well (looks_of l.state.current)) l.rest
+    ≡ list_all (travels_well (looks_of l.state.current)) l.fn.rights
 
 abbrev pub decreases-loop-right : goal.decreases-loop-right
 decreases-loop-right l = length l.rest

@@ -6,4 +6,5 @@ pub returns : goal.returns
 returns c =
     let snapshot = c.args.snapshot.now in
     told c.verdict.result c.fill-filled.result (IsLawfulSnapshot snapshot) c.verdict.ensures.yes c.verdict.ensures.no
-    (all_told c.fill-filled.result snapshot c.fill-filled.new.state.current c.fill-filled.ensures.filled) c.fill-filled.ensures.unlawful
+    (all_told c.fill-filled.result snapshot c.fill-filled.new.state.current c.fill-filled.ensures.filled)
+    c.fill-filled.ensures.unlawful

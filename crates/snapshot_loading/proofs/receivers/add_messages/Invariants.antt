@@ -4,7 +4,8 @@ use Rattle.snapshot_loading.proofs.receivers.add_messages.Given as goal
 
 -- what was added, with what is left, is the whole
 abbrev pub invariant-loop-message : goal.invariant-loop-message
-invariant-loop-message l = l.found.items ++ flat_map received_with l.rest ≡ l.fn.found.items ++ flat_map received_with l.fn.messages
+invariant-loop-message l =
+    l.found.items ++ flat_map received_with l.rest ≡ l.fn.found.items ++ flat_map received_with l.fn.messages
 
 abbrev pub decreases-loop-message : goal.decreases-loop-message
 decreases-loop-message l = length l.rest

@@ -4,7 +4,8 @@ use Rattle.snapshot_loading.proofs.receivers.add_names.Given as goal
 
 -- what was added, with what is left, is the whole
 abbrev pub invariant-loop-row : goal.invariant-loop-row
-invariant-loop-row l = l.found.items ++ flat_map received_under l.rest ≡ l.fn.found.items ++ flat_map received_under l.fn.rows
+invariant-loop-row l =
+    l.found.items ++ flat_map received_under l.rest ≡ l.fn.found.items ++ flat_map received_under l.fn.rows
 
 abbrev pub decreases-loop-row : goal.decreases-loop-row
 decreases-loop-row l = length l.rest

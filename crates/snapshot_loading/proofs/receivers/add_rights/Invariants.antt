@@ -4,7 +4,8 @@ use Rattle.snapshot_loading.proofs.receivers.add_rights.Given as goal
 
 -- what was added, with what is left, is the whole
 abbrev pub invariant-loop-right : goal.invariant-loop-right
-invariant-loop-right l = l.found.items ++ flat_map received_by l.rest ≡ l.fn.found.items ++ flat_map received_by l.fn.rights
+invariant-loop-right l =
+    l.found.items ++ flat_map received_by l.rest ≡ l.fn.found.items ++ flat_map received_by l.fn.rights
 
 abbrev pub decreases-loop-right : goal.decreases-loop-right
 decreases-loop-right l = length l.rest

@@ -19,7 +19,9 @@ loop-number-preserved c =
     let next = c.in-Some.ensures.slot in
     let passed = passed_on slots c.args.from c.loop-number.at c.loop-number.invariant.passed c.in-Some.number next.2 in
     record {
-      passed = subst (λ (n : ℕ). ArePassed (picked is slots) c.args.from (n + 1)) (sym c.from-at.ensures) (passed_slot slots c.args.from c.in-Some.number passed (sym next.1 ∙ c.if-is_there.false));
+      passed =
+          subst (λ (n : ℕ). ArePassed (picked is slots) c.args.from (n + 1)) (sym c.from-at.ensures)
+          (passed_slot slots c.args.from c.in-Some.number passed (sym next.1 ∙ c.if-is_there.false));
       from_on = omega (arith, c.loop-number.invariant.from_on, next.0, c.from-at.ensures);
     }
 

@@ -7,6 +7,8 @@ use Rattle.still_disk.proofs.copying.copy_by.Given as goal
 abbrev pub invariant-loop : goal.invariant-loop
 invariant-loop g l = record {
   later : g.S.LiveSlots.honest → g.S.LiveSlots.later (g.S.LiveSlots.now l.fn.live) (g.S.LiveSlots.now l.live);
-  changed : g.S.LiveSlots.honest → (l.counter ≡ 0) ⊎ ((begun ended : g.S.LiveSlots.Moment) × g.S.LiveSlots.later (g.S.LiveSlots.now l.fn.live) begun × HasChanged g.S.LiveSlots.later g.S.LiveSlots.slots begun ended);
+  changed : g.S.LiveSlots.honest → (l.counter ≡ 0)
+      ⊎ ((begun ended : g.S.LiveSlots.Moment) × g.S.LiveSlots.later (g.S.LiveSlots.now l.fn.live) begun
+      × HasChanged g.S.LiveSlots.later g.S.LiveSlots.slots begun ended);
   quiet : g.S.LiveSlots.failed l.live ≡ g.S.LiveSlots.failed l.fn.live;
 }

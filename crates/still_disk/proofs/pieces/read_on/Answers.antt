@@ -14,6 +14,9 @@ returns-clause-more g c = λ honest begun copied.
     let n : ℕ = c.in_ok-count.count in
     let at : c.len.result ≡ length bytes = search rules in
     let longer : c.extend_from_slice.new.self.items ≡ bytes ++ take n piece = search rules in
-    let count : n ≡ min (length c.args.piece.now) (length slot - length bytes) = c.in_ok-count.ensures.count honest ∙ ap (λ k. min (length c.args.piece.now) (length slot - k)) at in
-    let is : piece ≡ take n (drop (length bytes) slot) ++ drop n c.args.piece.now = c.in_ok-count.ensures.bytes honest ∙ ap (λ k. take n (drop k slot) ++ drop n c.args.piece.now) at in
-    one_piece_more now n c.extend_from_slice.new.self.items copied (c.in_ok-count.ensures.later honest) (longer ∙ ap (λ l. bytes ++ l) (came slot c.args.piece.now piece (length bytes) n count is))
+    let count : n ≡ min (length c.args.piece.now) (length slot - length bytes) =
+    c.in_ok-count.ensures.count honest ∙ ap (λ k. min (length c.args.piece.now) (length slot - k)) at in
+    let is : piece ≡ take n (drop (length bytes) slot) ++ drop n c.args.piece.now =
+    c.in_ok-count.ensures.bytes honest ∙ ap (λ k. take n (drop k slot) ++ drop n c.args.piece.now) at in
+    one_piece_more now n c.extend_from_slice.new.self.items copied (c.in_ok-count.ensures.later honest)
+    (longer ∙ ap (λ l. bytes ++ l) (came slot c.args.piece.now piece (length bytes) n count is))

@@ -5,7 +5,10 @@ use Rattle.still_disk.proofs.pieces.read_slot.Goals as goal
 
 pub loop-bytes-init : goal.loop-bytes-init
 loop-bytes-init g c = record {
-  copied = λ honest. subst (λ l. Copied g.S.LiveSlots.later (λ m. slot_of (g.S.LiveSlots.slots m) c.args.slot) (g.S.LiveSlots.now c.args.live.now) (g.S.LiveSlots.now c.args.live.now) l) (sym c.new-bytes.ensures.items) nothing_yet;
+  copied =
+      λ honest. subst (λ l. Copied g.S.LiveSlots.later
+      (λ m. slot_of (g.S.LiveSlots.slots m) c.args.slot) (g.S.LiveSlots.now c.args.live.now)
+      (g.S.LiveSlots.now c.args.live.now) l) (sym c.new-bytes.ensures.items) nothing_yet;
   later = λ honest. g.S.LiveSlots.stays _;
   quiet = search rules;
 }
@@ -21,6 +24,7 @@ returns-then-count-eq0-clause-copied g c = λ honest. record {
 pub loop-bytes-preserved : goal.loop-bytes-preserved
 loop-bytes-preserved g c = record {
   copied = λ honest. c.in_ok-count.ensures.more honest _ (c.loop-bytes.invariant.copied honest);
-  later = λ honest. g.S.LiveSlots.joins _ _ _ (c.loop-bytes.invariant.later honest) (c.in_ok-count.ensures.later honest);
+  later =
+      λ honest. g.S.LiveSlots.joins _ _ _ (c.loop-bytes.invariant.later honest) (c.in_ok-count.ensures.later honest);
   quiet = search rules;
 }

@@ -7,7 +7,9 @@ use Rattle.still_disk.proofs.pieces.read_slot.Given as goal
 -- what was read is a copy so far
 abbrev pub invariant-loop-bytes : goal.invariant-loop-bytes
 invariant-loop-bytes g l = record {
-  copied : g.S.LiveSlots.honest → Copied g.S.LiveSlots.later (λ m. slot_of (g.S.LiveSlots.slots m) l.slot) (g.S.LiveSlots.now l.fn.live) (g.S.LiveSlots.now l.live) l.bytes.items;
+  copied : g.S.LiveSlots.honest → Copied g.S.LiveSlots.later
+      (λ m. slot_of (g.S.LiveSlots.slots m) l.slot) (g.S.LiveSlots.now l.fn.live)
+      (g.S.LiveSlots.now l.live) l.bytes.items;
   later : g.S.LiveSlots.honest → g.S.LiveSlots.later (g.S.LiveSlots.now l.fn.live) (g.S.LiveSlots.now l.live);
   quiet : g.S.LiveSlots.failed l.live ≡ g.S.LiveSlots.failed l.fn.live;
 }

@@ -6,7 +6,8 @@ use Rattle.store_tests.proofs.streams.read_all.Given as goal
 
 -- the reader looks at the disk's slot
 abbrev pub invariant-loop-records : goal.invariant-loop-records
-invariant-loop-records g l = g.D.Disk.honest → IsOver (slot_of (g.D.Disk.view l.disk).seen l.reader.window.slot) l.reader.window
+invariant-loop-records g l =
+    g.D.Disk.honest → IsOver (slot_of (g.D.Disk.view l.disk).seen l.reader.window.slot) l.reader.window
 
 abbrev pub decreases-loop-records : goal.decreases-loop-records
 decreases-loop-records g l = MAX_RECORDS - l.reader.number

@@ -6,8 +6,13 @@ use Rattle.tracked_map.proofs.TrackedMap.new.Goals as goal
 
 pub invariant_of-result : goal.invariant_of-result
 invariant_of-result g c =
-    let sound = nothing_sound c.new.result c.new-2.result.items c.new.ensures c.new-2.ensures.items in
-    (sound, λ _. none_removed_yet c.new.result c.new-3.result.items c.new-3.ensures.items (λ key is. absurd (cc (sym (ap (λ m. get m key) c.new.ensures ∙ get-empty nat_cmp key) ∙ is))))
+    let sound = nothing_sound c.new.result c.new-2.result.items c.new.ensures c.new-2.ensures.items in (
+      sound,
+      λ _. none_removed_yet c.new.result c.new-3.result.items c.new-3.ensures.items
+          (λ key is. absurd (cc (sym (ap (λ m. get m key) c.new.ensures ∙ get-empty nat_cmp key) ∙ is))),
+    )
 
 pub returns : goal.returns
-returns g c = let seen = nothing_seen c.new.result c.new-2.result.items c.new.ensures c.new-2.ensures.items in both _ _ _ _ seen.0 seen.1
+returns g c =
+    let seen = nothing_seen c.new.result c.new-2.result.items c.new.ensures c.new-2.ensures.items in
+    both _ _ _ _ seen.0 seen.1

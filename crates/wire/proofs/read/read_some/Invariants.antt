@@ -4,4 +4,6 @@ use Rattle.std.specs.Io.KnownBytes.{Keeps}
 use Rattle.wire.proofs.read.read_some.Given as goal
 
 abbrev pub invariant-loop : goal.invariant-loop
-invariant-loop g l = (length l.buffer ≡ length l.initial.buffer) × Keeps (g.R.Read.remaining l.initial.reader) (g.R.Read.remaining l.reader)
+invariant-loop g l =
+    (length l.buffer ≡ length l.initial.buffer)
+    × Keeps (g.R.Read.remaining l.initial.reader) (g.R.Read.remaining l.reader)

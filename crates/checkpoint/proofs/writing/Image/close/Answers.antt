@@ -16,7 +16,8 @@ returns-clause-cleared g c = λ honest.
 pub returns-clause-others : goal.returns-clause-others
 returns-clause-others g c = λ honest.
     let new = g.D.Disk.view c.clear.new.disk in
-    subst (λ (s : Slot). OnOk c.clear.result (new.seen ≡ with_slot (g.D.Disk.view c.args.disk.now).seen s (slot_of new.seen s)))
+    subst (λ (s : Slot). OnOk c.clear.result
+    (new.seen ≡ with_slot (g.D.Disk.view c.args.disk.now).seen s (slot_of new.seen s)))
     (c.image_slot.ensures ∙ ap (λ (v : ImageValue). image_slot v.epoch) c.self.view_is) (c.clear.ensures.others honest)
 
 pub returns-clause-shut : goal.returns-clause-shut
@@ -28,4 +29,5 @@ pub returns-clause-any_moment : goal.returns-clause-any_moment
 returns-clause-any_moment g c = λ honest.
     let old = g.D.Disk.view c.args.disk.now in
     subst (λ (s : Slot). IsSynced old s → Passes old (g.D.Disk.view c.clear.new.disk) (Follows old s (IsClosing 24)))
-    (c.image_slot.ensures ∙ ap (λ (v : ImageValue). image_slot v.epoch) c.self.view_is) (c.clear.ensures.any_moment honest)
+    (c.image_slot.ensures ∙ ap (λ (v : ImageValue). image_slot v.epoch) c.self.view_is)
+    (c.clear.ensures.any_moment honest)

@@ -13,21 +13,29 @@ pub returns-clause-made : goal.returns-clause-made
 returns-clause-made g c = λ honest.
     let old = g.D.Disk.view c.args.disk.now in
     let new = g.D.Disk.view c.finish.new.disk in
-    along (λ (s : Slot) (e : ℕ) (t : List ℕ). OnOk c.finish.result (new.seen ≡ with_slot old.seen s (open_image e t))) _ _ _ _ _ _
-    (c.image_slot.ensures ∙ ap (λ (v : ImageValue). image_slot v.epoch) c.self.view_is) (ap (λ (v : ImageValue). v.epoch) c.self.view_is) (c.deref.ensures.value ∙ ap (λ (v : ImageValue). v.encoding) c.self.view_is)
+    along (λ (s : Slot) (e : ℕ) (t : List ℕ). OnOk c.finish.result (new.seen ≡ with_slot old.seen s (open_image e t))) _
+    _ _ _ _ _
+    (c.image_slot.ensures ∙ ap (λ (v : ImageValue). image_slot v.epoch) c.self.view_is)
+    (ap (λ (v : ImageValue). v.epoch) c.self.view_is)
+    (c.deref.ensures.value ∙ ap (λ (v : ImageValue). v.encoding) c.self.view_is)
     (c.finish.ensures.made honest)
 
 pub returns-clause-synced : goal.returns-clause-synced
 returns-clause-synced g c = λ honest.
     let new = g.D.Disk.view c.finish.new.disk in
     along (λ (s : Slot) (e : ℕ) (t : List ℕ). OnOk c.finish.result (IsSynced new s)) _ _ _ _ _ _
-    (c.image_slot.ensures ∙ ap (λ (v : ImageValue). image_slot v.epoch) c.self.view_is) (ap (λ (v : ImageValue). v.epoch) c.self.view_is) (c.deref.ensures.value ∙ ap (λ (v : ImageValue). v.encoding) c.self.view_is)
+    (c.image_slot.ensures ∙ ap (λ (v : ImageValue). image_slot v.epoch) c.self.view_is)
+    (ap (λ (v : ImageValue). v.epoch) c.self.view_is)
+    (c.deref.ensures.value ∙ ap (λ (v : ImageValue). v.encoding) c.self.view_is)
     (c.finish.ensures.synced honest)
 
 pub returns-clause-any_moment : goal.returns-clause-any_moment
 returns-clause-any_moment g c = λ honest.
     let old = g.D.Disk.view c.args.disk.now in
     let new = g.D.Disk.view c.finish.new.disk in
-    along (λ (s : Slot) (e : ℕ) (t : List ℕ). IsShut old s → Passes old new (Follows old s (IsFinishing e t))) _ _ _ _ _ _
-    (c.image_slot.ensures ∙ ap (λ (v : ImageValue). image_slot v.epoch) c.self.view_is) (ap (λ (v : ImageValue). v.epoch) c.self.view_is) (c.deref.ensures.value ∙ ap (λ (v : ImageValue). v.encoding) c.self.view_is)
+    along (λ (s : Slot) (e : ℕ) (t : List ℕ). IsShut old s → Passes old new (Follows old s (IsFinishing e t))) _ _ _ _ _
+    _
+    (c.image_slot.ensures ∙ ap (λ (v : ImageValue). image_slot v.epoch) c.self.view_is)
+    (ap (λ (v : ImageValue). v.epoch) c.self.view_is)
+    (c.deref.ensures.value ∙ ap (λ (v : ImageValue). v.encoding) c.self.view_is)
     (c.finish.ensures.any_moment honest)

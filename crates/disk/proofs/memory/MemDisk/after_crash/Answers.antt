@@ -10,4 +10,5 @@ if_ok (Err e) P Q p f = p
 
 pub returns-clause-left : goal.returns-clause-left
 returns-clause-left c =
-    if_ok c.holding.result _ _ c.holding.ensures (λ disk rest. subst (MayLeave (memory_view c.args.self)) (sym rest.seen) c.in_ok-left.ensures)
+    if_ok c.holding.result _ _ c.holding.ensures
+    (λ disk rest. subst (MayLeave (memory_view c.args.self)) (sym rest.seen) c.in_ok-left.ensures)

@@ -12,12 +12,16 @@ loop-call-preserved c =
     let items = c.deref-call-items.result.now in
     let at = c.loop-call.call-index in
     let inside : at < length items = omega arith in
-    torn_replay_on _ _ _ c.call-item.result _ _ _ _ c.loop-call.invariant (take_more items at c.call-item.result inside ∙ ap (λ call. take at items ++ call ∷ []) (sym c.call-item.is)) c.in_ok-redo.ensures.seen c.in_ok-redo.ensures.left
+    torn_replay_on _ _ _ c.call-item.result _ _ _ _ c.loop-call.invariant
+    (take_more items at c.call-item.result inside ∙ ap (λ call. take at items ++ call ∷ []) (sym c.call-item.is))
+    c.in_ok-redo.ensures.seen c.in_ok-redo.ensures.left
 
 pub returns : goal.returns
 returns c =
     let log = c.args.self.now.log.items in
     let all : take c.loop-call.call-index c.deref-call-items.result.now ≡ take (length log) log =
     take_all _ _ (omega arith) ∙ c.deref-call-items.ensures.value ∙ sym (take_all (length log) log (omega arith)) in
-    let torn = subst (λ l. IsTornReplay (slots_of c.args.self.now.first) l (slots_of c.loop-call.left) (slots_of c.loop-call.seen)) all c.loop-call.invariant in
+    let torn =
+    subst (λ l. IsTornReplay (slots_of c.args.self.now.first) l (slots_of c.loop-call.left)
+    (slots_of c.loop-call.seen)) all c.loop-call.invariant in
     left_is_left _ _ _ _ torn

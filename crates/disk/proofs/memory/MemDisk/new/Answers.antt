@@ -4,7 +4,8 @@ use Rattle.disk.proofs.Replay.{replayed_none, nothing_else}
 use Rattle.disk.proofs.memory.MemDisk.new.Goals as goal
 
 pub invariant_of-result : goal.invariant_of-result
-invariant_of-result c = record { is_replay = replayed_none _ _ _ c.new.ensures.items (c.empty-2.ensures ∙ sym c.empty.ensures) }
+invariant_of-result c =
+    record { is_replay = replayed_none _ _ _ c.new.ensures.items (c.empty-2.ensures ∙ sym c.empty.ensures) }
 
 pub returns : goal.returns
 returns c = record {

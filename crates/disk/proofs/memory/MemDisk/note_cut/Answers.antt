@@ -18,16 +18,24 @@ invariant_of-self-else-is_done c =
 
 pub returns-then-is_done-clause-time : goal.returns-then-is_done-clause-time
 returns-then-is_done-clause-time c =
-    passes_on (slots_of c.args.self.now.first) c.args.self.now.log.items (Cut c.args.slot c.args.len c.args.is_done) c.push.new.self.items c.in_ok-push.ensures.items (slots_of c.args.self.now.seen) (slots_of c.set.new.self) c.args.self.now.is_replay
+    passes_on (slots_of c.args.self.now.first) c.args.self.now.log.items
+    (Cut c.args.slot c.args.len c.args.is_done) c.push.new.self.items c.in_ok-push.ensures.items
+    (slots_of c.args.self.now.seen) (slots_of c.set.new.self) c.args.self.now.is_replay
 
 pub returns-else-is_done-clause-time : goal.returns-else-is_done-clause-time
 returns-else-is_done-clause-time c =
-    passes_on (slots_of c.args.self.now.first) c.args.self.now.log.items (Cut c.args.slot c.args.len c.args.is_done) c.push.new.self.items c.in_ok-push.ensures.items (slots_of c.args.self.now.seen) (slots_of c.args.self.now.seen) c.args.self.now.is_replay
+    passes_on (slots_of c.args.self.now.first) c.args.self.now.log.items
+    (Cut c.args.slot c.args.len c.args.is_done) c.push.new.self.items c.in_ok-push.ensures.items
+    (slots_of c.args.self.now.seen) (slots_of c.args.self.now.seen) c.args.self.now.is_replay
 
 pub returns-then-is_done-clause-whole : goal.returns-then-is_done-clause-whole
 returns-then-is_done-clause-whole c =
-    leaves_all (slots_of c.args.self.now.first) c.args.self.now.log.items (Cut c.args.slot c.args.len c.args.is_done) c.push.new.self.items c.in_ok-push.ensures.items (slots_of c.args.self.now.seen) (slots_of c.set.new.self) c.args.self.now.is_replay
+    leaves_all (slots_of c.args.self.now.first) c.args.self.now.log.items
+    (Cut c.args.slot c.args.len c.args.is_done) c.push.new.self.items c.in_ok-push.ensures.items
+    (slots_of c.args.self.now.seen) (slots_of c.set.new.self) c.args.self.now.is_replay
 
 pub returns-else-is_done-clause-whole : goal.returns-else-is_done-clause-whole
 returns-else-is_done-clause-whole c =
-    leaves_all (slots_of c.args.self.now.first) c.args.self.now.log.items (Cut c.args.slot c.args.len c.args.is_done) c.push.new.self.items c.in_ok-push.ensures.items (slots_of c.args.self.now.seen) (slots_of c.args.self.now.seen) c.args.self.now.is_replay
+    leaves_all (slots_of c.args.self.now.first) c.args.self.now.log.items
+    (Cut c.args.slot c.args.len c.args.is_done) c.push.new.self.items c.in_ok-push.ensures.items
+    (slots_of c.args.self.now.seen) (slots_of c.args.self.now.seen) c.args.self.now.is_replay

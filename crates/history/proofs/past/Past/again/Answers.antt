@@ -6,15 +6,21 @@ use Rattle.history.proofs.past.Past.again.Goals as goal
 
 pub invariant_of-result : goal.invariant_of-result
 invariant_of-result g c =
-    let items = c.copy_rest.ensures.new ∙ ap (λ l. l ++ drop (length l) c.self.inside.notes.items) c.in_ok-notes.ensures.items in
-    unread (λ n. n.cell) (λ n. n.known) g.L.FirstBlock.first c.self.inside.place c.in_ok-place.place c.self.inside.notes.items c.copy_rest.new.notes.items c.self.inside.seen.items c.new.result.items c.self.invariant
+    let items =
+    c.copy_rest.ensures.new ∙ ap (λ l. l ++ drop (length l) c.self.inside.notes.items) c.in_ok-notes.ensures.items
+    in
+    unread (λ n. n.cell) (λ n. n.known) g.L.FirstBlock.first c.self.inside.place c.in_ok-place.place
+    c.self.inside.notes.items c.copy_rest.new.notes.items c.self.inside.seen.items c.new.result.items
+    c.self.invariant
     c.in_ok-place.ensures.place items c.new.ensures.items
 
 pub returns-clause-past : goal.returns-clause-past
 returns-clause-past g c =
     let old = c.self.view_is in
     let place = c.in_ok-place.ensures.place in
-    let items : c.copy_rest.new.notes.items ≡ c.self.inside.notes.items = c.copy_rest.ensures.new ∙ ap (λ l. l ++ drop (length l) c.self.inside.notes.items) c.in_ok-notes.ensures.items in
+    let items : c.copy_rest.new.notes.items ≡ c.self.inside.notes.items =
+    c.copy_rest.ensures.new ∙ ap (λ l. l ++ drop (length l) c.self.inside.notes.items) c.in_ok-notes.ensures.items
+    in
     let entries = ap (λ l. known_entries (map (λ n. n.known) l)) items ∙ ap (λ (v : PastValue). v.entries) old in
     let blocks = ap (λ (v : PlaceValue). length v.links) place ∙ ap (λ (v : PastValue). v.blocks) old in
     let start = ap (λ (v : PlaceValue). v.start) place ∙ ap (λ (v : PastValue). v.start) old in

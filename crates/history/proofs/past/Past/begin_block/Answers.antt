@@ -8,8 +8,11 @@ use Rattle.history.proofs.past.Past.begin_block.Goals as goal
 
 pub invariant_of-self : goal.invariant_of-self
 invariant_of-self g c =
-    let long : c.len.result ≡ length (map (λ n. n.cell) c.self.inside.notes.items) = omega (arith, c.self.inside.notes.ok, length-map c.self.inside.notes.items (λ n. n.cell)) in
-    rw (c.in-Ok.ensures.ok, c.clear.ensures.items) (past_next g.L.FirstBlock.first (arc_value c.args.block) c.self.inside.place _ _ _ c.len.result c.self.invariant long)
+    let long : c.len.result ≡ length (map (λ n. n.cell) c.self.inside.notes.items) =
+    omega (arith, c.self.inside.notes.ok, length-map c.self.inside.notes.items (λ n. n.cell)) in
+    rw (c.in-Ok.ensures.ok, c.clear.ensures.items)
+    (past_next g.L.FirstBlock.first
+    (arc_value c.args.block) c.self.inside.place _ _ _ c.len.result c.self.invariant long)
 
 pub returns-in-Ok-clause-ok : goal.returns-in-Ok-clause-ok
 returns-in-Ok-clause-ok g c =
@@ -17,8 +20,16 @@ returns-in-Ok-clause-ok g c =
     let old = c.self.view_is in
     let entries = ap (λ (v : PastValue). v.entries) old in
     let long : c.len.result ≡ length c.args.self.now.entries =
-    omega (arith, c.self.inside.notes.ok, length-map c.self.inside.notes.items (λ n. n.known), known_long _ c.self.invariant.notes.entries, ap length entries) in
-    let blocks : length c.begin.new.self.links ≡ c.args.self.now.blocks + 1 = ap (λ (v : PlaceValue). length v.links) moved ∙ (length_push c.self.inside.place.links _ ∙ ap (λ (v : PastValue). v.blocks + 1) old) in
+    omega (
+      arith,
+      c.self.inside.notes.ok,
+      length-map c.self.inside.notes.items (λ n. n.known),
+      known_long _ c.self.invariant.notes.entries,
+      ap length entries,
+    ) in
+    let blocks : length c.begin.new.self.links ≡ c.args.self.now.blocks + 1 =
+    ap (λ (v : PlaceValue). length v.links) moved
+    ∙ (length_push c.self.inside.place.links _ ∙ ap (λ (v : PastValue). v.blocks + 1) old) in
     let start = ap (λ (v : PlaceValue). v.start) moved ∙ long in
     let block = ap (λ (v : PlaceValue). v.block) moved in
     let read = ap length c.clear.ensures.items in

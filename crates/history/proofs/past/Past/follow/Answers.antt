@@ -11,9 +11,11 @@ invariant_of-self-2 g c =
     let theirs = c.other.inside.notes.items in
     let told : c.begin_in_block_before.result ≡ true = c.if-not-begin_in_block_before.false in
     let same = c.begin_in_block_before.ensures.same in
-    let more : c.copy_rest.new.notes.items ≡ mine ++ drop (length mine) theirs = cc (c.copy_rest.ensures.new, c.in_ok-reserve.ensures.items, same.2, same.3) in
+    let more : c.copy_rest.new.notes.items ≡ mine ++ drop (length mine) theirs =
+    cc (c.copy_rest.ensures.new, c.in_ok-reserve.ensures.items, same.2, same.3) in
     rw (c.in_ok-place.ensures.place ∙ same.1, c.clear.ensures.items)
-    (followed (λ n. n.cell) (λ n. n.known) g.L.FirstBlock.first c.other.inside.place mine theirs c.copy_rest.new.notes.items c.other.inside.seen.items c.self.invariant.notes.entries c.other.invariant
+    (followed (λ n. n.cell) (λ n. n.known) g.L.FirstBlock.first c.other.inside.place mine theirs
+    c.copy_rest.new.notes.items c.other.inside.seen.items c.self.invariant.notes.entries c.other.invariant
     (c.begin_in_block_before.ensures.cells told) (c.begin_in_block_before.ensures.begins told) more).0
 
 pub returns-clause-moved : goal.returns-clause-moved
@@ -22,8 +24,11 @@ returns-clause-moved g c = λ done.
     let theirs = c.other.inside.notes.items in
     let told : c.begin_in_block_before.result ≡ true = c.if-not-begin_in_block_before.false in
     let same = c.begin_in_block_before.ensures.same in
-    let more : c.copy_rest.new.notes.items ≡ mine ++ drop (length mine) theirs = cc (c.copy_rest.ensures.new, c.in_ok-reserve.ensures.items, same.2, same.3) in
-    let all = (followed (λ n. n.cell) (λ n. n.known) g.L.FirstBlock.first c.other.inside.place mine theirs c.copy_rest.new.notes.items c.other.inside.seen.items c.self.invariant.notes.entries c.other.invariant
+    let more : c.copy_rest.new.notes.items ≡ mine ++ drop (length mine) theirs =
+    cc (c.copy_rest.ensures.new, c.in_ok-reserve.ensures.items, same.2, same.3) in
+    let all =
+    (followed (λ n. n.cell) (λ n. n.known) g.L.FirstBlock.first c.other.inside.place mine theirs
+    c.copy_rest.new.notes.items c.other.inside.seen.items c.self.invariant.notes.entries c.other.invariant
     (c.begin_in_block_before.ensures.cells told) (c.begin_in_block_before.ensures.begins told) more).1 in
     let old = c.other.view_is in
     let place = c.in_ok-place.ensures.place ∙ same.1 in
@@ -33,6 +38,14 @@ returns-clause-moved g c = λ done.
     let block = ap (λ (v : PlaceValue). v.block) place ∙ ap (λ (v : PastValue). v.block) old in
     let read = ap length c.clear.ensures.items in (
       λ i. record { entries = entries i; blocks = blocks i; start = start i; block = block i; read = read i },
-      rw (← c.self.view_is, ← c.other.view_is) (omega (arith, c.begin_in_block_before.ensures.less told, known_long _ c.self.invariant.notes.entries, known_long _ c.other.invariant.notes.entries, length-map mine (λ n. n.known), length-map theirs (λ n. n.known))),
+      rw (← c.self.view_is, ← c.other.view_is)
+          (omega (
+            arith,
+            c.begin_in_block_before.ensures.less told,
+            known_long _ c.self.invariant.notes.entries,
+            known_long _ c.other.invariant.notes.entries,
+            length-map mine (λ n. n.known),
+            length-map theirs (λ n. n.known),
+          )),
       rw (← c.self.view_is, ← c.other.view_is) (c.begin_in_block_before.ensures.begins told),
     )

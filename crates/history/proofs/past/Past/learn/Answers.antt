@@ -13,11 +13,21 @@ invariant_of-self-then-own-theirs g c =
     let other = c.other.inside.place in
     let mine = c.self.inside.notes.items in
     let theirs = c.other.inside.notes.items in
-    let long : length place.links ≡ length other.links = ap (λ (v : PastValue). v.blocks) c.self.view_is ∙ (c.requires ∙ sym (ap (λ (v : PastValue). v.blocks) c.other.view_is)) in
+    let long : length place.links ≡ length other.links =
+    ap (λ (v : PastValue). v.blocks) c.self.view_is
+    ∙ (c.requires ∙ sym (ap (λ (v : PastValue). v.blocks) c.other.view_is)) in
     let links = same_whole place.links other.links long c.agree.ensures.begins in
-    let more : c.copy_rest.new.notes.items ≡ mine ++ drop (length mine) theirs = cc (c.copy_rest.ensures.new, c.in_ok-reserve.ensures.items, c.compare_last.ensures.same_mine, c.compare_last.ensures.same_theirs) in
+    let more : c.copy_rest.new.notes.items ≡ mine ++ drop (length mine) theirs =
+    cc (
+      c.copy_rest.ensures.new,
+      c.in_ok-reserve.ensures.items,
+      c.compare_last.ensures.same_mine,
+      c.compare_last.ensures.same_theirs,
+    ) in
     let begins = c.compare_last.ensures.begins (omega (arith, c.self.inside.notes.ok, c.other.inside.notes.ok)) in
-    rw c.agree.ensures.same.0 (learned (λ n. n.cell) (λ n. n.known) g.L.FirstBlock.first place other mine theirs c.copy_rest.new.notes.items c.self.inside.seen.items c.other.inside.seen.items c.self.invariant c.other.invariant links
+    rw c.agree.ensures.same.0 (learned (λ n. n.cell)
+    (λ n. n.known) g.L.FirstBlock.first place other mine theirs c.copy_rest.new.notes.items c.self.inside.seen.items
+    c.other.inside.seen.items c.self.invariant c.other.invariant links
     (omega (arith, c.self.inside.notes.ok, c.other.inside.notes.ok)) begins more).0
 
 pub returns-in_ok-reserve-clause-ok : goal.returns-in_ok-reserve-clause-ok
@@ -26,15 +36,27 @@ returns-in_ok-reserve-clause-ok g c =
     let other = c.other.inside.place in
     let mine = c.self.inside.notes.items in
     let theirs = c.other.inside.notes.items in
-    let long : length place.links ≡ length other.links = ap (λ (v : PastValue). v.blocks) c.self.view_is ∙ (c.requires ∙ sym (ap (λ (v : PastValue). v.blocks) c.other.view_is)) in
+    let long : length place.links ≡ length other.links =
+    ap (λ (v : PastValue). v.blocks) c.self.view_is
+    ∙ (c.requires ∙ sym (ap (λ (v : PastValue). v.blocks) c.other.view_is)) in
     let links = same_whole place.links other.links long c.agree.ensures.begins in
-    let more : c.copy_rest.new.notes.items ≡ mine ++ drop (length mine) theirs = cc (c.copy_rest.ensures.new, c.in_ok-reserve.ensures.items, c.compare_last.ensures.same_mine, c.compare_last.ensures.same_theirs) in
+    let more : c.copy_rest.new.notes.items ≡ mine ++ drop (length mine) theirs =
+    cc (
+      c.copy_rest.ensures.new,
+      c.in_ok-reserve.ensures.items,
+      c.compare_last.ensures.same_mine,
+      c.compare_last.ensures.same_theirs,
+    ) in
     let begins = c.compare_last.ensures.begins (omega (arith, c.self.inside.notes.ok, c.other.inside.notes.ok)) in
-    let all = (learned (λ n. n.cell) (λ n. n.known) g.L.FirstBlock.first place other mine theirs c.copy_rest.new.notes.items c.self.inside.seen.items c.other.inside.seen.items c.self.invariant c.other.invariant links
+    let all =
+    (learned (λ n. n.cell) (λ n. n.known) g.L.FirstBlock.first place other mine theirs c.copy_rest.new.notes.items
+    c.self.inside.seen.items c.other.inside.seen.items c.self.invariant c.other.invariant links
     (omega (arith, c.self.inside.notes.ok, c.other.inside.notes.ok)) begins more).1 in
     let own = ap (λ (v : PastValue). v.entries) c.self.view_is in
     let others = ap (λ (v : PastValue). v.entries) c.other.view_is in
-    let entries = all ∙ (begins_split (known_entries (map (λ n. n.known) mine)) (known_entries (map (λ n. n.known) theirs)) begins ∙ (λ i. own i ++ drop (length (own i)) (others i))) in
+    let entries =
+    all ∙ (begins_split (known_entries (map (λ n. n.known) mine)) (known_entries (map (λ n. n.known) theirs)) begins
+    ∙ (λ i. own i ++ drop (length (own i)) (others i))) in
     let moved = c.agree.ensures.same.0 in
     let old = c.self.view_is in
     let blocks = ap (λ (v : PlaceValue). length v.links) moved ∙ ap (λ (v : PastValue). v.blocks) old in
@@ -48,11 +70,21 @@ returns-in_ok-reserve-clause-begins g c =
     let other = c.other.inside.place in
     let mine = c.self.inside.notes.items in
     let theirs = c.other.inside.notes.items in
-    let long : length place.links ≡ length other.links = ap (λ (v : PastValue). v.blocks) c.self.view_is ∙ (c.requires ∙ sym (ap (λ (v : PastValue). v.blocks) c.other.view_is)) in
+    let long : length place.links ≡ length other.links =
+    ap (λ (v : PastValue). v.blocks) c.self.view_is
+    ∙ (c.requires ∙ sym (ap (λ (v : PastValue). v.blocks) c.other.view_is)) in
     let links = same_whole place.links other.links long c.agree.ensures.begins in
-    let more : c.copy_rest.new.notes.items ≡ mine ++ drop (length mine) theirs = cc (c.copy_rest.ensures.new, c.in_ok-reserve.ensures.items, c.compare_last.ensures.same_mine, c.compare_last.ensures.same_theirs) in
+    let more : c.copy_rest.new.notes.items ≡ mine ++ drop (length mine) theirs =
+    cc (
+      c.copy_rest.ensures.new,
+      c.in_ok-reserve.ensures.items,
+      c.compare_last.ensures.same_mine,
+      c.compare_last.ensures.same_theirs,
+    ) in
     let begins = c.compare_last.ensures.begins (omega (arith, c.self.inside.notes.ok, c.other.inside.notes.ok)) in
-    let all = (learned (λ n. n.cell) (λ n. n.known) g.L.FirstBlock.first place other mine theirs c.copy_rest.new.notes.items c.self.inside.seen.items c.other.inside.seen.items c.self.invariant c.other.invariant links
+    let all =
+    (learned (λ n. n.cell) (λ n. n.known) g.L.FirstBlock.first place other mine theirs c.copy_rest.new.notes.items
+    c.self.inside.seen.items c.other.inside.seen.items c.self.invariant c.other.invariant links
     (omega (arith, c.self.inside.notes.ok, c.other.inside.notes.ok)) begins more).1 in
     rw (all, ← c.self.view_is, ← c.other.view_is) (begins, begins_itself _)
 
@@ -64,8 +96,22 @@ returns-else-own-theirs-clause-ok g c =
     let old = c.self.view_is in
     let moved = c.agree.ensures.same.0 in
     let less : length theirs ≤ length mine = omega (arith, c.self.inside.notes.ok, c.other.inside.notes.ok) in
-    let none : length c.args.other.now.entries ≤ length c.args.self.now.entries = omega (arith, less, known_long _ c.self.invariant.notes.entries, known_long _ c.other.invariant.notes.entries, length-map mine (λ n. n.known), length-map theirs (λ n. n.known), ap (λ (v : PastValue). length v.entries) old, ap (λ (v : PastValue). length v.entries) c.other.view_is) in
-    let entries = ap (λ l. known_entries (map (λ n. n.known) l)) c.compare_last.ensures.same_mine ∙ (ap (λ (v : PastValue). v.entries) old ∙ nothing_more c.args.self.now.entries c.args.other.now.entries none) in
+    let none : length c.args.other.now.entries ≤ length c.args.self.now.entries =
+    omega (
+      arith,
+      less,
+      known_long _ c.self.invariant.notes.entries,
+      known_long _ c.other.invariant.notes.entries,
+      length-map mine (λ n. n.known),
+      length-map theirs (λ n. n.known),
+      ap (λ (v : PastValue). length v.entries) old,
+      ap (λ (v : PastValue). length v.entries) c.other.view_is,
+    )
+    in
+    let entries =
+    ap (λ l. known_entries (map (λ n. n.known) l)) c.compare_last.ensures.same_mine
+    ∙ (ap (λ (v : PastValue). v.entries) old
+    ∙ nothing_more c.args.self.now.entries c.args.other.now.entries none) in
     let blocks = ap (λ (v : PlaceValue). length v.links) moved ∙ ap (λ (v : PastValue). v.blocks) old in
     let start = ap (λ (v : PlaceValue). v.start) moved ∙ ap (λ (v : PastValue). v.start) old in
     let block = ap (λ (v : PlaceValue). v.block) moved ∙ ap (λ (v : PastValue). v.block) old in
@@ -73,4 +119,8 @@ returns-else-own-theirs-clause-ok g c =
 
 pub returns-else-own-theirs-clause-begins : goal.returns-else-own-theirs-clause-begins
 returns-else-own-theirs-clause-begins g c =
-    rw (c.compare_last.ensures.same_mine, ← c.self.view_is, ← c.other.view_is) (begins_itself _, c.compare_last.ensures.goes_on (omega (arith, c.self.inside.notes.ok, c.other.inside.notes.ok)))
+    rw (c.compare_last.ensures.same_mine, ← c.self.view_is, ← c.other.view_is) (
+      begins_itself _,
+      c.compare_last.ensures.goes_on
+          (omega (arith, c.self.inside.notes.ok, c.other.inside.notes.ok)),
+    )

@@ -5,5 +5,6 @@ use Rattle.image.proofs.ports.LivePortEncoded.push.Goals as goal
 
 pub returns : goal.returns
 returns c =
-    added c.args.out.now.items c.push_long_word.new.out.items (long_word c.args.self.now.serial) (port_encoding c.args.self.now.state) c.push_port.new.out.items
+    added c.args.out.now.items c.push_long_word.new.out.items (long_word c.args.self.now.serial)
+    (port_encoding c.args.self.now.state) c.push_port.new.out.items
     c.in_ok-push_long_word.ensures.ok c.in_ok-push_port.ensures

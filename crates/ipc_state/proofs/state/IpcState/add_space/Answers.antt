@@ -6,5 +6,6 @@ use Rattle.ipc_state.proofs.state.IpcState.add_space.Goals as goal
 
 pub invariant_of-self : goal.invariant_of-self
 invariant_of-self c =
-    space_added c.self.inside.spaces c.add.new.self c.self.inside.ports c.self.inside.members c.self.invariant c.args.number c.in-Ok.ensures.ok
+    space_added c.self.inside.spaces c.add.new.self c.self.inside.ports c.self.inside.members c.self.invariant
+    c.args.number c.in-Ok.ensures.ok
     (ap (λ (r : Running). get r.current.spaces c.args.number) c.self.view_is ∙ c.requires.unused)

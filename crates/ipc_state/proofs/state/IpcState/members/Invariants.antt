@@ -10,6 +10,7 @@ decreases-loop-name l = 2 ^ 33 - l.from
 -- what was gathered, with the members that are left, is the whole
 abbrev pub invariant-loop-name : goal.invariant-loop-name
 invariant-loop-name l = record {
-  gathered : l.members.items ++ members_from l.self.current l.set (names_in l.self.current l.space) l.from ≡ flat_map (member_under l.self.current l.set) (entries (names_in l.self.current l.space));
+  gathered : l.members.items ++ members_from l.self.current l.set (names_in l.self.current l.space) l.from
+      ≡ flat_map (member_under l.self.current l.set) (entries (names_in l.self.current l.space));
   fits : l.from ≤ 2 ^ 32;
 }

@@ -6,7 +6,8 @@ use Rattle.ipc_state.specs.Running.{Running}
 use Rattle.ipc_state.proofs.state.IpcState.opening.Goals as goal
 
 pub add_space-requires-clause-unused : goal.add_space-requires-clause-unused
-add_space-requires-clause-unused c = ap (λ (r : Running). get r.current.spaces 1) c.new-state.ensures ∙ get-empty nat_cmp 1
+add_space-requires-clause-unused c =
+    ap (λ (r : Running). get r.current.spaces 1) c.new-state.ensures ∙ get-empty nat_cmp 1
 
 pub add_space-requires-clause-room : goal.add_space-requires-clause-room
 add_space-requires-clause-room c =

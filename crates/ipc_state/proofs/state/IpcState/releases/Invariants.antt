@@ -5,4 +5,5 @@ use Rattle.ipc_state.proofs.state.IpcState.releases.Given as goal
 
 -- what was added so far
 abbrev pub invariant-loop-index : goal.invariant-loop-index
-invariant-loop-index l = l.effects ≡ l.initial.effects ++ flat_map releases_of (take l.index (messages_at l.self.current.ports l.serial))
+invariant-loop-index l =
+    l.effects ≡ l.initial.effects ++ flat_map releases_of (take l.index (messages_at l.self.current.ports l.serial))

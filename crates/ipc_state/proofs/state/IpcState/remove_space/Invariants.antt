@@ -10,7 +10,8 @@ decreases-loop-name l = 2 ^ 33 - l.at
 abbrev pub invariant-loop-name : goal.invariant-loop-name
 invariant-loop-name l = record {
   gone : (q : ℕ) → q < l.at → get (names_in l.self.current l.number) q ≡ None;
-  alongside : record l.self.current { spaces = remove l.self.current.spaces l.number } ≡ record l.initial.self.current { spaces = remove l.initial.self.current.spaces l.number };
+  alongside : record l.self.current { spaces = remove l.self.current.spaces l.number }
+      ≡ record l.initial.self.current { spaces = remove l.initial.self.current.spaces l.number };
   before : l.self.before ≡ l.initial.self.before;
   fits : l.at ≤ 2 ^ 32;
 }

@@ -8,6 +8,7 @@ use Rattle.ipc_state.proofs.state.IpcState.send_count.Goals as goal
 
 pub returns : goal.returns
 returns c =
-    let whole = counted_apart kind.Send (state_of c.self.inside.spaces.current c.self.inside.ports.current) c.args.serial in
+    let whole =
+    counted_apart kind.Send (state_of c.self.inside.spaces.current c.self.inside.ports.current) c.args.serial in
     let seen = ap (λ (r : Running). count_of kind.Send r.current c.args.serial) c.self.view_is in
     omega (arith, c.sends.ensures.value, c.sends-2.ensures.value, whole, seen)

@@ -8,6 +8,7 @@ use Rattle.ipc_state.proofs.state.IpcState.send_once_count.Goals as goal
 
 pub returns : goal.returns
 returns c =
-    let whole = counted_apart kind.SendOnce (state_of c.self.inside.spaces.current c.self.inside.ports.current) c.args.serial in
+    let whole =
+    counted_apart kind.SendOnce (state_of c.self.inside.spaces.current c.self.inside.ports.current) c.args.serial in
     let seen = ap (λ (r : Running). count_of kind.SendOnce r.current c.args.serial) c.self.view_is in
     omega (arith, c.send_onces.ensures.value, c.send_onces-2.ensures.value, whole, seen)

@@ -12,8 +12,12 @@ returns-in_err-found-clause-damaged g c = λ honest told.
     let inside = c.self.inside in
     let seen = (g.D.Disk.view c.args.disk.now).seen in
     let bytes = slot_of seen inside.window.slot in
-    let over = subst (λ (r : ReaderValue). IsOver (slot_of seen r.window.slot) r.window) (sym c.self.view_is) (c.requires honest) in
+    let over =
+    subst (λ (r : ReaderValue). IsOver (slot_of seen r.window.slot) r.window) (sym c.self.view_is)
+    (c.requires honest) in
     let full = c.in_ok-fill.ensures.shown honest over in
     let none = c.in_err-found.ensures.damaged (cc (p.1, p.2, told)) bytes full.0 full.1 in
     subst (λ (r : ReaderValue). IsNothing (slot_of seen r.window.slot) (place_of r)) c.self.view_is
-    (subst (λ (at : ℕ). IsNothing bytes (record { at = at; number = inside.number; left = inside.left; size = inside.size })) c.in_ok-fill.ensures.place.1 none)
+    (subst (λ (at : ℕ). IsNothing bytes
+    (record { at = at; number = inside.number; left = inside.left; size = inside.size }))
+    c.in_ok-fill.ensures.place.1 none)

@@ -6,5 +6,7 @@ use Rattle.kernel.proofs.kernel.Kernel.answer_in_place.Goals as goal
 
 pub returns-clause-none : goal.returns-clause-none
 returns-clause-none c =
-    subst (λ (s : State). IfOk c.try_answer-answer.result (λ answer. IfNone answer ((reply : Reply) × (new : State) × Step s c.args.space c.args.call.now reply new × (has_record c.args.call.now reply ≡ true))))
+    subst (λ (s : State). IfOk c.try_answer-answer.result
+    (λ answer. IfNone answer ((reply : Reply) × (new : State) × Step s c.args.space c.args.call.now reply new
+    × (has_record c.args.call.now reply ≡ true))))
     c.self.view_is c.try_answer-answer.ensures.none

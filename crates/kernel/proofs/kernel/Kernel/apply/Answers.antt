@@ -10,16 +10,29 @@ use Rattle.kernel.proofs.kernel.Kernel.apply.Goals as goal
 
 pub invariant_of-self : goal.invariant_of-self
 invariant_of-self c =
-    let done = steps_keep_lawful c.self.inside.state.current c.args.space c.args.call.now c.in-Ok.reply c.step.new.state.current c.call_in_range.ensures c.self.invariant.0 c.self.invariant.1 c.in-Ok.ensures.step in
-    let kept = subst (λ (s : State). Lawful s × Acyclic s) (sym (ap (λ (r : Running). r.current) c.commit.ensures)) done in
-    (kept.0, kept.1, c.show_queues_short.ensures, ap (λ (r : Running). r.before) c.commit.ensures ∙ sym (ap (λ (r : Running). r.current) c.commit.ensures))
+    let done =
+    steps_keep_lawful c.self.inside.state.current c.args.space c.args.call.now c.in-Ok.reply
+    c.step.new.state.current c.call_in_range.ensures c.self.invariant.0 c.self.invariant.1 c.in-Ok.ensures.step
+    in
+    let kept =
+    subst (λ (s : State). Lawful s × Acyclic s) (sym (ap (λ (r : Running). r.current) c.commit.ensures)) done in (
+      kept.0,
+      kept.1,
+      c.show_queues_short.ensures,
+      ap (λ (r : Running). r.before) c.commit.ensures ∙ sym (ap (λ (r : Running). r.current) c.commit.ensures),
+    )
 
 pub returns-in-Ok-clause-number : goal.returns-in-Ok-clause-number
-returns-in-Ok-clause-number c = (step_fitting c.self.inside.state.current c.args.space c.args.call.now c.in-Ok.reply c.step.new.state.current c.self.invariant.0 c.in-Ok.ensures.step).number_is
+returns-in-Ok-clause-number c =
+    (step_fitting c.self.inside.state.current c.args.space c.args.call.now c.in-Ok.reply c.step.new.state.current
+    c.self.invariant.0 c.in-Ok.ensures.step).number_is
 
 pub returns-in-Ok-clause-recorded : goal.returns-in-Ok-clause-recorded
 returns-in-Ok-clause-recorded c = λ recorded.
-    answered_whole c.self.inside.state.current c.args.space c.args.call.now c.in-Ok.reply c.step.new.state.current c.self.invariant.0 c.in-Ok.ensures.step recorded
+    answered_whole c.self.inside.state.current c.args.space c.args.call.now c.in-Ok.reply c.step.new.state.current
+    c.self.invariant.0 c.in-Ok.ensures.step recorded
 
 pub returns-in-Ok-clause-fits : goal.returns-in-Ok-clause-fits
-returns-in-Ok-clause-fits c = (step_fitting c.self.inside.state.current c.args.space c.args.call.now c.in-Ok.reply c.step.new.state.current c.self.invariant.0 c.in-Ok.ensures.step).bytes
+returns-in-Ok-clause-fits c =
+    (step_fitting c.self.inside.state.current c.args.space c.args.call.now c.in-Ok.reply c.step.new.state.current
+    c.self.invariant.0 c.in-Ok.ensures.step).bytes

@@ -12,15 +12,27 @@ use Rattle.kernel.proofs.kernel.Kernel.apply_naming.Goals as goal
 
 pub invariant_of-self : goal.invariant_of-self
 invariant_of-self g c =
-    let done = steps_keep_lawful c.self.inside.state.current c.args.space c.args.call.now c.in-Ok.reply c.step_recorded.new.state.current c.call_in_range.ensures c.self.invariant.0 c.self.invariant.1 c.in-Ok.ensures.step in
-    let kept = subst (λ (s : State). Lawful s × Acyclic s) (sym (ap (λ (r : Running). r.current) c.commit.ensures)) done in
-    (kept.0, kept.1, c.show_queues_short.ensures, ap (λ (r : Running). r.before) c.commit.ensures ∙ sym (ap (λ (r : Running). r.current) c.commit.ensures))
+    let done =
+    steps_keep_lawful c.self.inside.state.current c.args.space c.args.call.now c.in-Ok.reply
+    c.step_recorded.new.state.current c.call_in_range.ensures c.self.invariant.0 c.self.invariant.1
+    c.in-Ok.ensures.step in
+    let kept =
+    subst (λ (s : State). Lawful s × Acyclic s) (sym (ap (λ (r : Running). r.current) c.commit.ensures)) done in (
+      kept.0,
+      kept.1,
+      c.show_queues_short.ensures,
+      ap (λ (r : Running). r.before) c.commit.ensures ∙ sym (ap (λ (r : Running). r.current) c.commit.ensures),
+    )
 
 pub returns-in-Ok-clause-number : goal.returns-in-Ok-clause-number
-returns-in-Ok-clause-number g c = (step_fitting c.self.inside.state.current c.args.space c.args.call.now c.in-Ok.reply c.step_recorded.new.state.current c.self.invariant.0 c.in-Ok.ensures.step).number_is
+returns-in-Ok-clause-number g c =
+    (step_fitting c.self.inside.state.current c.args.space c.args.call.now c.in-Ok.reply
+    c.step_recorded.new.state.current c.self.invariant.0 c.in-Ok.ensures.step).number_is
 
 pub returns-in-Ok-clause-fits : goal.returns-in-Ok-clause-fits
-returns-in-Ok-clause-fits g c = (step_fitting c.self.inside.state.current c.args.space c.args.call.now c.in-Ok.reply c.step_recorded.new.state.current c.self.invariant.0 c.in-Ok.ensures.step).bytes
+returns-in-Ok-clause-fits g c =
+    (step_fitting c.self.inside.state.current c.args.space c.args.call.now c.in-Ok.reply
+    c.step_recorded.new.state.current c.self.invariant.0 c.in-Ok.ensures.step).bytes
 
 pub returns-in-Ok-clause-wakes : goal.returns-in-Ok-clause-wakes
 returns-in-Ok-clause-wakes g c =
@@ -28,5 +40,7 @@ returns-in-Ok-clause-wakes g c =
     let new : State = c.step_recorded.new.state.current in
     let named = names c.name_places.new.places in
     let before : c.step_recorded.new.state.before ≡ old = c.step_recorded.ensures.before ∙ c.self.invariant.3 in
-    let wakes : Wakes old new named = no_wake_up_lost old new named (subst (λ (s : State). Covers s new named) before c.name_places.ensures) in
-    subst (λ (s : State). Wakes s c.commit.new.self.current named) c.self.view_is (subst (λ (s : State). Wakes old s named) (sym (ap (λ (r : Running). r.current) c.commit.ensures)) wakes)
+    let wakes : Wakes old new named =
+    no_wake_up_lost old new named (subst (λ (s : State). Covers s new named) before c.name_places.ensures) in
+    subst (λ (s : State). Wakes s c.commit.new.self.current named) c.self.view_is
+    (subst (λ (s : State). Wakes old s named) (sym (ap (λ (r : Running). r.current) c.commit.ensures)) wakes)

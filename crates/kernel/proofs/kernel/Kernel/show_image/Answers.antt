@@ -4,4 +4,6 @@ use Rattle.ipc_laws.specs.Encoding.{lawful_is_encodable}
 use Rattle.kernel.proofs.kernel.Kernel.show_image.Goals as goal
 
 pub returns-clause-encoded : goal.returns-clause-encoded
-returns-clause-encoded c = subst Encodable c.self.view_is (lawful_is_encodable c.self.inside.state.current c.self.invariant.0 c.self.invariant.2)
+returns-clause-encoded c =
+    subst Encodable c.self.view_is
+    (lawful_is_encodable c.self.inside.state.current c.self.invariant.0 c.self.invariant.2)

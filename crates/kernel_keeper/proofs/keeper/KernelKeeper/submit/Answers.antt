@@ -14,56 +14,126 @@ use Rattle.kernel_keeper.proofs.keeper.KernelKeeper.submit.Goals as goal
 pub invariant_of-self : goal.invariant_of-self
 invariant_of-self g c =
     let own_state = c.session.inside.own_state in
-    let old : SessionValue = session_of own_state.number own_state.space own_state.acknowledged own_state.tickets.numbers own_state.places.numbers c.session.inside.past in
+    let old : SessionValue =
+    session_of own_state.number own_state.space own_state.acknowledged own_state.tickets.numbers
+    own_state.places.numbers c.session.inside.past in
     let made = c.self.inside.core.half.log.made in
     let past = c.apply-past.result.0 in
-    let did = subst (λ r. IfOk r (λ ticket. Applies g.L.Founding.base own_state.number own_state.space c.session.inside.past.entries c.args.call.now ticket past.entries made c.apply-past.new.self.half.log.made)) c.in-Ok.is c.apply-past.ensures.given in
-    let grew = λ (more : made < length past.entries). c.note_call.ensures.recorded (omega (arith, more, c.made-before.ensures, c.len.ensures)) in
-    let none = λ (same : length past.entries ≤ made). c.note_call.ensures.answered (omega (arith, same, c.made-before.ensures, c.len.ensures)) in
-    book_counts g.L.Founding.base old c.args.call.now c.in-Ok.ticket past made c.apply-past.new.self.half.log.made did refl c.self.inside.book.total c.note_call.new.book.total c.self.invariant (λ more. (grew more).3) (λ same. (none same).3)
+    let did =
+    subst (λ r. IfOk r (λ ticket. Applies g.L.Founding.base own_state.number own_state.space
+    c.session.inside.past.entries c.args.call.now ticket past.entries made c.apply-past.new.self.half.log.made))
+    c.in-Ok.is c.apply-past.ensures.given in
+    let grew =
+    λ (more : made < length past.entries). c.note_call.ensures.recorded
+    (omega (arith, more, c.made-before.ensures, c.len.ensures)) in
+    let none =
+    λ (same : length past.entries ≤ made). c.note_call.ensures.answered
+    (omega (arith, same, c.made-before.ensures, c.len.ensures)) in
+    book_counts g.L.Founding.base old c.args.call.now c.in-Ok.ticket past made c.apply-past.new.self.half.log.made did
+    refl c.self.inside.book.total c.note_call.new.book.total c.self.invariant (λ more. (grew more).3)
+    (λ same. (none same).3)
 
 pub invariant_of-result : goal.invariant_of-result
 invariant_of-result g c =
     let own_state = c.session.inside.own_state in
-    let old : SessionValue = session_of own_state.number own_state.space own_state.acknowledged own_state.tickets.numbers own_state.places.numbers c.session.inside.past in
+    let old : SessionValue =
+    session_of own_state.number own_state.space own_state.acknowledged own_state.tickets.numbers
+    own_state.places.numbers c.session.inside.past in
     let made = c.self.inside.core.half.log.made in
     let past = c.apply-past.result.0 in
-    let did = subst (λ r. IfOk r (λ ticket. Applies g.L.Founding.base own_state.number own_state.space c.session.inside.past.entries c.args.call.now ticket past.entries made c.apply-past.new.self.half.log.made)) c.in-Ok.is c.apply-past.ensures.given in
-    let grew = λ (more : made < length past.entries). c.note_call.ensures.recorded (omega (arith, more, c.made-before.ensures, c.len.ensures)) in
-    let none = λ (same : length past.entries ≤ made). c.note_call.ensures.answered (omega (arith, same, c.made-before.ensures, c.len.ensures)) in
-    let both = called_session g.L.Founding.base old c.args.call.now c.in-Ok.ticket past made c.apply-past.new.self.half.log.made did refl own_state.share.amount c.note_call.new.own_state.number c.note_call.new.own_state.space c.note_call.new.own_state.acknowledged c.note_call.new.own_state.share.amount c.note_call.new.own_state.tickets.numbers c.note_call.new.own_state.places.numbers
-    c.note_call.ensures.same.0 c.note_call.ensures.same.1 (c.note_call.ensures.given ∙ ap (λ (n : ℕ). own_state.tickets.numbers ++ n ∷ []) c.len.ensures) (λ more. ((grew more).0, (grew more).1 ∙ ap (λ (n : ℕ). own_state.places.numbers ++ n ∷ []) c.made-before.ensures, (grew more).2)) (λ same. ((none same).0, (none same).1, (none same).2)) c.session.invariant.0 in
+    let did =
+    subst (λ r. IfOk r (λ ticket. Applies g.L.Founding.base own_state.number own_state.space
+    c.session.inside.past.entries c.args.call.now ticket past.entries made c.apply-past.new.self.half.log.made))
+    c.in-Ok.is c.apply-past.ensures.given in
+    let grew =
+    λ (more : made < length past.entries). c.note_call.ensures.recorded
+    (omega (arith, more, c.made-before.ensures, c.len.ensures)) in
+    let none =
+    λ (same : length past.entries ≤ made). c.note_call.ensures.answered
+    (omega (arith, same, c.made-before.ensures, c.len.ensures)) in
+    let both =
+    called_session g.L.Founding.base old c.args.call.now c.in-Ok.ticket past made
+    c.apply-past.new.self.half.log.made did refl own_state.share.amount c.note_call.new.own_state.number
+    c.note_call.new.own_state.space c.note_call.new.own_state.acknowledged
+    c.note_call.new.own_state.share.amount c.note_call.new.own_state.tickets.numbers
+    c.note_call.new.own_state.places.numbers
+    c.note_call.ensures.same.0 c.note_call.ensures.same.1
+    (c.note_call.ensures.given ∙ ap (λ (n : ℕ). own_state.tickets.numbers ++ n ∷ []) c.len.ensures)
+    (λ more. (
+      (grew more).0,
+      (grew more).1 ∙ ap
+          (λ (n : ℕ). own_state.places.numbers ++ n ∷ []) c.made-before.ensures,
+      (grew more).2,
+    ))
+    (λ same. ((none same).0, (none same).1, (none same).2)) c.session.invariant.0 in
     (both.0, omega (arith, c.note_call.ensures.same.2, c.session.invariant.1))
 
 pub invariant_of-result-in-Err : goal.invariant_of-result-in-Err
 invariant_of-result-in-Err g c =
     let own_state = c.session.inside.own_state in
-    let old : SessionValue = session_of own_state.number own_state.space own_state.acknowledged own_state.tickets.numbers own_state.places.numbers c.session.inside.past in
-    let learns = subst (λ r. OnErr r (Learns g.L.Founding.base c.session.inside.past.entries c.apply-past.result.0.entries × (c.apply-past.new.self ≡ c.self.inside.core))) c.in-Err.is c.apply-past.ensures.err in
-    (looks g.L.Founding.base old c.apply-past.result.0 own_state.share.amount learns.0.history c.session.invariant.0 learns.0.begins, c.session.invariant.1)
+    let old : SessionValue =
+    session_of own_state.number own_state.space own_state.acknowledged own_state.tickets.numbers
+    own_state.places.numbers c.session.inside.past in
+    let learns =
+    subst (λ r. OnErr r (Learns g.L.Founding.base c.session.inside.past.entries c.apply-past.result.0.entries
+    × (c.apply-past.new.self ≡ c.self.inside.core))) c.in-Err.is c.apply-past.ensures.err in (
+      looks g.L.Founding.base old c.apply-past.result.0 own_state.share.amount learns.0.history c.session.invariant.0
+          learns.0.begins,
+      c.session.invariant.1,
+    )
 
 pub returns-in-Ok-clause-given : goal.returns-in-Ok-clause-given
 returns-in-Ok-clause-given g c =
     let own_state = c.session.inside.own_state in
-    let old : SessionValue = session_of own_state.number own_state.space own_state.acknowledged own_state.tickets.numbers own_state.places.numbers c.session.inside.past in
+    let old : SessionValue =
+    session_of own_state.number own_state.space own_state.acknowledged own_state.tickets.numbers
+    own_state.places.numbers c.session.inside.past in
     let made = c.self.inside.core.half.log.made in
     let past = c.apply-past.result.0 in
-    let did = subst (λ r. IfOk r (λ ticket. Applies g.L.Founding.base own_state.number own_state.space c.session.inside.past.entries c.args.call.now ticket past.entries made c.apply-past.new.self.half.log.made)) c.in-Ok.is c.apply-past.ensures.given in
-    let grew = λ (more : made < length past.entries). c.note_call.ensures.recorded (omega (arith, more, c.made-before.ensures, c.len.ensures)) in
-    let none = λ (same : length past.entries ≤ made). c.note_call.ensures.answered (omega (arith, same, c.made-before.ensures, c.len.ensures)) in
-    let both = called_session g.L.Founding.base old c.args.call.now c.in-Ok.ticket past made c.apply-past.new.self.half.log.made did refl own_state.share.amount c.note_call.new.own_state.number c.note_call.new.own_state.space c.note_call.new.own_state.acknowledged c.note_call.new.own_state.share.amount c.note_call.new.own_state.tickets.numbers c.note_call.new.own_state.places.numbers
-    c.note_call.ensures.same.0 c.note_call.ensures.same.1 (c.note_call.ensures.given ∙ ap (λ (n : ℕ). own_state.tickets.numbers ++ n ∷ []) c.len.ensures) (λ more. ((grew more).0, (grew more).1 ∙ ap (λ (n : ℕ). own_state.places.numbers ++ n ∷ []) c.made-before.ensures, (grew more).2)) (λ same. ((none same).0, (none same).1, (none same).2)) c.session.invariant.0 in
-    (subst (λ (v : SessionValue). Did g.L.Founding.base v (called c.args.call.now c.in-Ok.ticket.answer) (session_of c.note_call.new.own_state.number c.note_call.new.own_state.space c.note_call.new.own_state.acknowledged c.note_call.new.own_state.tickets.numbers c.note_call.new.own_state.places.numbers past)) c.session.view_is both.1, did.seen_is)
+    let did =
+    subst (λ r. IfOk r (λ ticket. Applies g.L.Founding.base own_state.number own_state.space
+    c.session.inside.past.entries c.args.call.now ticket past.entries made c.apply-past.new.self.half.log.made))
+    c.in-Ok.is c.apply-past.ensures.given in
+    let grew =
+    λ (more : made < length past.entries). c.note_call.ensures.recorded
+    (omega (arith, more, c.made-before.ensures, c.len.ensures)) in
+    let none =
+    λ (same : length past.entries ≤ made). c.note_call.ensures.answered
+    (omega (arith, same, c.made-before.ensures, c.len.ensures)) in
+    let both =
+    called_session g.L.Founding.base old c.args.call.now c.in-Ok.ticket past made
+    c.apply-past.new.self.half.log.made did refl own_state.share.amount c.note_call.new.own_state.number
+    c.note_call.new.own_state.space c.note_call.new.own_state.acknowledged
+    c.note_call.new.own_state.share.amount c.note_call.new.own_state.tickets.numbers
+    c.note_call.new.own_state.places.numbers
+    c.note_call.ensures.same.0 c.note_call.ensures.same.1
+    (c.note_call.ensures.given ∙ ap (λ (n : ℕ). own_state.tickets.numbers ++ n ∷ []) c.len.ensures)
+    (λ more. (
+      (grew more).0,
+      (grew more).1 ∙ ap
+          (λ (n : ℕ). own_state.places.numbers ++ n ∷ []) c.made-before.ensures,
+      (grew more).2,
+    ))
+    (λ same. ((none same).0, (none same).1, (none same).2)) c.session.invariant.0 in (
+      subst (λ (v : SessionValue). Did g.L.Founding.base v (called c.args.call.now c.in-Ok.ticket.answer)
+          (session_of c.note_call.new.own_state.number c.note_call.new.own_state.space
+          c.note_call.new.own_state.acknowledged c.note_call.new.own_state.tickets.numbers
+          c.note_call.new.own_state.places.numbers past)) c.session.view_is both.1,
+      did.seen_is,
+    )
 
 pub returns-in-Err-clause-full : goal.returns-in-Err-clause-full
 returns-in-Err-clause-full g c = λ acknowledged.
     let call = c.args.call.now in
     let kept = c.self.inside.core in
     let full = c.apply-past.ensures.full (subst (λ r. IsErrOf r EpochFull) (sym c.in-Err.is) acknowledged) in
-    subst (λ (v : KernelKeeperValue). IsFullFor v.core.half c.args.session.task.space call ⊎ IsApart v.core.past c.args.session.past) c.self.view_is
-    (subst (λ (s : SessionValue). IsFullFor kept.half s.task.space call ⊎ IsApart kept.past s.past) c.session.view_is full)
+    subst (λ (v : KernelKeeperValue). IsFullFor v.core.half c.args.session.task.space call
+    ⊎ IsApart v.core.past c.args.session.past) c.self.view_is
+    (subst (λ (s : SessionValue). IsFullFor kept.half s.task.space call ⊎ IsApart kept.past s.past) c.session.view_is
+    full)
 
 pub returns-in-Ok-clause-wakes : goal.returns-in-Ok-clause-wakes
 returns-in-Ok-clause-wakes g c =
     let a = c.apply-past in
-    subst (λ (v : KernelKeeperValue). Wakes v.core.half.kernel a.new.self.half.kernel (names a.new.places)) c.self.view_is (rw c.in-Ok.is at a.ensures.wakes)
+    subst (λ (v : KernelKeeperValue). Wakes v.core.half.kernel a.new.self.half.kernel (names a.new.places))
+    c.self.view_is (rw c.in-Ok.is at a.ensures.wakes)

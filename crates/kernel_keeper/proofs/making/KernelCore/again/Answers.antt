@@ -7,5 +7,9 @@ use Rattle.kernel_keeper.proofs.making.KernelCore.again.Goals as goal
 pub returns-clause-history : goal.returns-clause-history
 returns-clause-history g c =
     let s = c.self.inside in
-    let core = kept_some (λ (l : List Entry). IsKernelCore g.L.Founding.base s.half l s.opened s.earlier s.taken s.older) s.past c.in-Some.past c.in-Some.is c.self.invariant.2 in
-    again_history g.L.Founding.base c.in-Some.past c.again.result (core_history g.L.Founding.base s.half c.in-Some.past.entries s.opened s.earlier s.taken s.older core) c.again.ensures.past
+    let core =
+    kept_some (λ (l : List Entry). IsKernelCore g.L.Founding.base s.half l s.opened s.earlier s.taken s.older)
+    s.past c.in-Some.past c.in-Some.is c.self.invariant.2 in
+    again_history g.L.Founding.base c.in-Some.past c.again.result
+    (core_history g.L.Founding.base s.half c.in-Some.past.entries s.opened s.earlier s.taken s.older core)
+    c.again.ensures.past

@@ -12,36 +12,53 @@ use Rattle.kernel_keeper.proofs.making.KernelCore.apply.Goals as goal
 pub invariant_of-self : goal.invariant_of-self
 invariant_of-self g c =
     let s = c.self.inside in
-    let core = kept_some (λ (l : List Entry). IsKernelCore g.L.Founding.base s.half l s.opened s.earlier s.taken s.older) s.past c.in-Some.kept (sym c.take.ensures.value ∙ c.in-Some.is) c.self.invariant.2 in
+    let core =
+    kept_some (λ (l : List Entry). IsKernelCore g.L.Founding.base s.half l s.opened s.earlier s.taken s.older)
+    s.past c.in-Some.kept (sym c.take.ensures.value ∙ c.in-Some.is) c.self.invariant.2 in
     let a = c.apply_with_witness-kept in (
-      handed_after g.L.Founding.base s.half a.new.half c.in-Some.kept a.result.0 s.opened s.earlier s.taken s.older c.args.number c.args.space c.args.call.now core _ a.result.2 a.ensures.given a.ensures.kept a.ensures.err ∙ c.self.invariant.0,
+      handed_after g.L.Founding.base s.half a.new.half c.in-Some.kept a.result.0 s.opened s.earlier s.taken s.older
+          c.args.number c.args.space c.args.call.now core _ a.result.2 a.ensures.given a.ensures.kept a.ensures.err
+          ∙ c.self.invariant.0,
       c.self.invariant.1,
-      after_call g.L.Founding.base s.half a.new.half c.in-Some.kept a.result.0 s.opened s.earlier s.taken s.older c.args.number c.args.space c.args.call.now core _ a.result.2 a.ensures.given a.ensures.kept a.ensures.err,
+      after_call g.L.Founding.base s.half a.new.half c.in-Some.kept a.result.0 s.opened s.earlier s.taken s.older
+          c.args.number c.args.space c.args.call.now core _ a.result.2 a.ensures.given a.ensures.kept a.ensures.err,
     )
 
 pub returns-clause-given : goal.returns-clause-given
 returns-clause-given g c =
     let s = c.self.inside in
-    let core = kept_some (λ (l : List Entry). IsKernelCore g.L.Founding.base s.half l s.opened s.earlier s.taken s.older) s.past c.in-Some.kept (sym c.take.ensures.value ∙ c.in-Some.is) c.self.invariant.2 in
+    let core =
+    kept_some (λ (l : List Entry). IsKernelCore g.L.Founding.base s.half l s.opened s.earlier s.taken s.older)
+    s.past c.in-Some.kept (sym c.take.ensures.value ∙ c.in-Some.is) c.self.invariant.2 in
     let a = c.apply_with_witness-kept in
-    applied_call g.L.Founding.base s.half a.new.half c.in-Some.kept.entries s.opened s.earlier s.taken s.older c.args.number c.args.space c.args.call.now core a.result.2 c.args.seen.entries a.result.0.entries a.result.1.entries c.args.self.now.half.log.made
-    (ap (λ (v : KernelCoreValue). v.half.log.made) c.self.view_is) a.ensures.given a.ensures.kept a.ensures.seen a.ensures.more
+    applied_call g.L.Founding.base s.half a.new.half c.in-Some.kept.entries s.opened s.earlier s.taken s.older
+    c.args.number c.args.space c.args.call.now core a.result.2 c.args.seen.entries a.result.0.entries
+    a.result.1.entries c.args.self.now.half.log.made
+    (ap (λ (v : KernelCoreValue). v.half.log.made) c.self.view_is) a.ensures.given a.ensures.kept a.ensures.seen
+    a.ensures.more
 
 pub returns-clause-err : goal.returns-clause-err
 returns-clause-err g c =
     let s = c.self.inside in
     let there = sym c.take.ensures.value ∙ c.in-Some.is in
-    let core = kept_some (λ (l : List Entry). IsKernelCore g.L.Founding.base s.half l s.opened s.earlier s.taken s.older) s.past c.in-Some.kept there c.self.invariant.2 in
+    let core =
+    kept_some (λ (l : List Entry). IsKernelCore g.L.Founding.base s.half l s.opened s.earlier s.taken s.older)
+    s.past c.in-Some.kept there c.self.invariant.2 in
     let a = c.apply_with_witness-kept in
-    unapplied_call g.L.Founding.base s.half a.new.half s.past c.in-Some.kept a.result.0 s.opened s.earlier s.taken s.older c.args.self.now core there c.self.view_is a.result.2 c.args.seen.entries a.result.1.entries c.requires a.ensures.begins a.ensures.err
+    unapplied_call g.L.Founding.base s.half a.new.half s.past c.in-Some.kept a.result.0 s.opened s.earlier s.taken
+    s.older c.args.self.now core there c.self.view_is a.result.2 c.args.seen.entries a.result.1.entries c.requires
+    a.ensures.begins a.ensures.err
 
 pub returns-clause-full : goal.returns-clause-full
 returns-clause-full g c = λ full.
     let there = sym c.take.ensures.value ∙ c.in-Some.is in
-    subst (λ (v : KernelCoreValue). IsFullFor v.half c.args.space c.args.call.now ⊎ IsApart v.past c.args.seen) c.self.view_is
-    (subst (λ (p : Option PastValue). IsFullFor c.self.inside.half c.args.space c.args.call.now ⊎ IsApart p c.args.seen) (sym there) (c.apply_with_witness-kept.ensures.full full))
+    subst (λ (v : KernelCoreValue). IsFullFor v.half c.args.space c.args.call.now ⊎ IsApart v.past c.args.seen)
+    c.self.view_is
+    (subst (λ (p : Option PastValue). IsFullFor c.self.inside.half c.args.space c.args.call.now ⊎ IsApart p c.args.seen)
+    (sym there) (c.apply_with_witness-kept.ensures.full full))
 
 pub returns-clause-wakes : goal.returns-clause-wakes
 returns-clause-wakes g c =
     let a = c.apply_with_witness-kept in
-    subst (λ (v : KernelCoreValue). IfOk a.result.2 (λ ticket. Wakes v.half.kernel a.new.half.kernel (names a.new.places))) c.self.view_is a.ensures.wakes
+    subst (λ (v : KernelCoreValue). IfOk a.result.2
+    (λ ticket. Wakes v.half.kernel a.new.half.kernel (names a.new.places))) c.self.view_is a.ensures.wakes

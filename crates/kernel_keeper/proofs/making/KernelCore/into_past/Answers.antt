@@ -7,4 +7,6 @@ use Rattle.kernel_keeper.proofs.making.KernelCore.into_past.Goals as goal
 pub returns-clause-history : goal.returns-clause-history
 returns-clause-history g c =
     let s = c.self.inside in
-    core_history g.L.Founding.base s.half c.in-Some.past.entries s.opened s.earlier s.taken s.older (kept_some (λ (l : List Entry). IsKernelCore g.L.Founding.base s.half l s.opened s.earlier s.taken s.older) s.past c.in-Some.past c.in-Some.is c.self.invariant.2)
+    core_history g.L.Founding.base s.half c.in-Some.past.entries s.opened s.earlier s.taken s.older
+    (kept_some (λ (l : List Entry). IsKernelCore g.L.Founding.base s.half l s.opened s.earlier s.taken s.older)
+    s.past c.in-Some.past c.in-Some.is c.self.invariant.2)

@@ -9,5 +9,8 @@ pub returns : goal.returns
 returns g c =
     let own_state = c.self.inside.own_state in
     let past = c.self.inside.past in
-    let now : SessionValue = session_of own_state.number own_state.space own_state.acknowledged own_state.tickets.numbers own_state.places.numbers past in
-    subst (λ (s : SessionValue). Did g.L.Founding.base s looked s) c.self.view_is (did_look g.L.Founding.base now past c.self.invariant.0.seen (take-length past.entries))
+    let now : SessionValue =
+    session_of own_state.number own_state.space own_state.acknowledged own_state.tickets.numbers
+    own_state.places.numbers past in
+    subst (λ (s : SessionValue). Did g.L.Founding.base s looked s) c.self.view_is
+    (did_look g.L.Founding.base now past c.self.invariant.0.seen (take-length past.entries))

@@ -9,4 +9,5 @@ pub returns : goal.returns
 returns c =
     let slots = c.self.inside.tables.slots in
     subst (λ (t : TrackedPorts). AreNoted t.before.ports t.current.ports c.as_slice.result.now) c.self.view_is
-    (subst (AreNoted (as_seen (former_ports slots)) (as_seen (present_ports slots))) (sym c.as_slice.ensures.value) (marked_noted slots c.self.inside.tables.touched.items c.self.invariant.touched))
+    (subst (AreNoted (as_seen (former_ports slots)) (as_seen (present_ports slots))) (sym c.as_slice.ensures.value)
+    (marked_noted slots c.self.inside.tables.touched.items c.self.invariant.touched))

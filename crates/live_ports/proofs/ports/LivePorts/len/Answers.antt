@@ -6,4 +6,6 @@ use Rattle.live_ports.specs.Tables.{present_ports}
 use Rattle.live_ports.proofs.ports.LivePorts.len.Goals as goal
 
 pub returns : goal.returns
-returns c = c.self.invariant.current.counted ∙ sym (len_seen (present_ports c.self.inside.tables.slots)) ∙ ap (λ (t : TrackedPorts). map.len t.current.ports) c.self.view_is
+returns c =
+    c.self.invariant.current.counted ∙ sym (len_seen (present_ports c.self.inside.tables.slots)) ∙ ap
+    (λ (t : TrackedPorts). map.len t.current.ports) c.self.view_is

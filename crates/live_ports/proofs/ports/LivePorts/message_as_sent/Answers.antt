@@ -7,4 +7,5 @@ use Rattle.live_ports.proofs.ports.LivePorts.message_as_sent.Goals as goal
 pub returns : goal.returns
 returns c =
     subst (λ (t : TrackedPorts). IsSeenAt t.current.ports c.args.serial c.args.index c.message.result) c.self.view_is
-    (seen_message_at (present_ports c.self.inside.tables.slots) c.args.serial c.args.index c.message.result c.message.ensures)
+    (seen_message_at (present_ports c.self.inside.tables.slots) c.args.serial c.args.index c.message.result
+    c.message.ensures)

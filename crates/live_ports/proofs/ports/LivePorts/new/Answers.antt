@@ -10,4 +10,6 @@ pub invariant_of-result : goal.invariant_of-result
 invariant_of-result c = rest_stands c.new.result map.empty 0 1 c.new.ensures (empty_sound 1)
 
 pub returns : goal.returns
-returns c = rest_view c.new.result map.empty 0 1 c.new.ensures ∙ ap (λ (m : Ports). ports_at_rest (record { ports = m; next = 1 })) seen_empty
+returns c =
+    rest_view c.new.result map.empty 0 1 c.new.ensures ∙ ap
+    (λ (m : Ports). ports_at_rest (record { ports = m; next = 1 })) seen_empty

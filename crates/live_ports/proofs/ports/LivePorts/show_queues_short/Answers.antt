@@ -6,4 +6,7 @@ use Rattle.live_ports.proofs.Standing.{seen_short}
 use Rattle.live_ports.proofs.ports.LivePorts.show_queues_short.Goals as goal
 
 pub returns : goal.returns
-returns c = subst (λ (t : TrackedPorts). AreShort t.current.ports) c.self.view_is (seen_short (present_ports c.self.inside.tables.slots) c.self.inside.tables.count c.self.inside.tables.next c.self.invariant.current)
+returns c =
+    subst (λ (t : TrackedPorts). AreShort t.current.ports) c.self.view_is
+    (seen_short (present_ports c.self.inside.tables.slots) c.self.inside.tables.count c.self.inside.tables.next
+    c.self.invariant.current)

@@ -6,9 +6,12 @@ use Rattle.live_ports.proofs.slots.PortSlots.bury.Goals as goal
 pub returns-in-Some : goal.returns-in-Some
 returns-in-Some c =
     let inside = c.self.inside in
-    slot_is_changed (buried) inside.ports c.bury_at.new.ports inside.keys c.args.serial c.in-Some.key c.self.invariant (sym c.in-Some.ensures) c.bury_at.ensures ∙ ap (λ (m : Slots). slot_changed m c.args.serial (buried)) c.self.view_is
+    slot_is_changed (buried) inside.ports c.bury_at.new.ports inside.keys c.args.serial c.in-Some.key c.self.invariant
+    (sym c.in-Some.ensures) c.bury_at.ensures ∙ ap
+    (λ (m : Slots). slot_changed m c.args.serial (buried)) c.self.view_is
 
 pub returns-in_default : goal.returns-in_default
 returns-in_default c =
     let inside = c.self.inside in
-    sym c.self.view_is ∙ absent_changed (buried) inside.ports inside.keys c.args.serial (sym c.in_default.ensures) ∙ ap (λ (m : Slots). slot_changed m c.args.serial (buried)) c.self.view_is
+    sym c.self.view_is ∙ absent_changed (buried) inside.ports inside.keys c.args.serial (sym c.in_default.ensures) ∙ ap
+    (λ (m : Slots). slot_changed m c.args.serial (buried)) c.self.view_is

@@ -10,6 +10,9 @@ pub returns-in-Some-clause-ok : goal.returns-in-Some-clause-ok
 returns-in-Some-clause-ok c =
     let inside = c.self.inside in
     let at = sym c.in-Some.ensures in
-    slot_is_changed (λ (_ : PortSlot). c.args.port) inside.ports c.replace_at.new.ports inside.keys c.args.serial c.in-Some.key c.self.invariant at c.replace_at.ensures
-    ∙ replaced_is c.args.port (by_serial inside.ports inside.keys) c.args.serial (ap is_some (stands inside.ports inside.keys c.args.serial (Some c.in-Some.key) at) ∙ c.self.invariant.there c.args.serial c.in-Some.key at)
+    slot_is_changed (λ (_ : PortSlot). c.args.port) inside.ports c.replace_at.new.ports inside.keys c.args.serial
+    c.in-Some.key c.self.invariant at c.replace_at.ensures
+    ∙ replaced_is c.args.port (by_serial inside.ports inside.keys) c.args.serial
+    (ap is_some (stands inside.ports inside.keys c.args.serial (Some c.in-Some.key) at)
+    ∙ c.self.invariant.there c.args.serial c.in-Some.key at)
     ∙ ap (λ (m : Slots). map.insert m c.args.serial c.args.port) c.self.view_is

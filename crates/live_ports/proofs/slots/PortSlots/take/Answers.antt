@@ -7,9 +7,13 @@ use Rattle.live_ports.proofs.slots.PortSlots.take.Goals as goal
 pub returns-in-Some : goal.returns-in-Some
 returns-in-Some c =
     let inside = c.self.inside in
-    slot_is_changed (present_changed without_first) inside.ports c.take_at.new.ports inside.keys c.args.serial c.in-Some.key c.self.invariant (sym c.in-Some.ensures) c.take_at.ensures ∙ ap (λ (m : Slots). slot_changed m c.args.serial (present_changed without_first)) c.self.view_is
+    slot_is_changed (present_changed without_first) inside.ports c.take_at.new.ports inside.keys c.args.serial
+    c.in-Some.key c.self.invariant (sym c.in-Some.ensures) c.take_at.ensures ∙ ap
+    (λ (m : Slots). slot_changed m c.args.serial (present_changed without_first)) c.self.view_is
 
 pub returns-in_default : goal.returns-in_default
 returns-in_default c =
     let inside = c.self.inside in
-    sym c.self.view_is ∙ absent_changed (present_changed without_first) inside.ports inside.keys c.args.serial (sym c.in_default.ensures) ∙ ap (λ (m : Slots). slot_changed m c.args.serial (present_changed without_first)) c.self.view_is
+    sym c.self.view_is ∙ absent_changed (present_changed without_first) inside.ports inside.keys c.args.serial
+    (sym c.in_default.ensures) ∙ ap
+    (λ (m : Slots). slot_changed m c.args.serial (present_changed without_first)) c.self.view_is

@@ -8,7 +8,9 @@ commit_touched-requires c = subst (AreMarked c.args.self.now.slots) (sym c.deref
 
 pub returns : goal.returns
 returns c = record {
-  before = untouched_alike before_of current_of c.commit_touched.new.slots c.commit_touched.ensures.touched ∙ c.commit_touched.ensures.seen;
+  before =
+      untouched_alike before_of current_of c.commit_touched.new.slots c.commit_touched.ensures.touched
+      ∙ c.commit_touched.ensures.seen;
   current = c.commit_touched.ensures.seen;
   touched = subst (AreMarked c.commit_touched.new.slots) (sym c.clear.ensures.items) c.commit_touched.ensures.touched;
   count = refl;

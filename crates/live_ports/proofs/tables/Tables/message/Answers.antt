@@ -8,7 +8,11 @@ use Rattle.live_ports.proofs.tables.Tables.message.Goals as goal
 pub returns-in-Some : goal.returns-in-Some
 returns-in-Some c =
     subst (λ (o : Option PortState). IsMessageAt (messages_in o) c.args.index c.message_at.result)
-    (present_at c.args.self.now.slots c.args.serial (Some c.in-Some.port.now) (c.in-Some.ensures ∙ ap (map.get c.args.self.now.slots) c.from.ensures)) c.message_at.ensures
+    (present_at c.args.self.now.slots c.args.serial (Some c.in-Some.port.now)
+    (c.in-Some.ensures ∙ ap (map.get c.args.self.now.slots) c.from.ensures)) c.message_at.ensures
 
 pub returns-in-None : goal.returns-in-None
-returns-in-None c = nothing_at _ c.args.index (sym (present_at c.args.self.now.slots c.args.serial None (c.in-None.ensures ∙ ap (map.get c.args.self.now.slots) c.from.ensures)))
+returns-in-None c =
+    nothing_at _ c.args.index (sym
+    (present_at c.args.self.now.slots c.args.serial None
+    (c.in-None.ensures ∙ ap (map.get c.args.self.now.slots) c.from.ensures)))

@@ -15,7 +15,8 @@ returns-then-contains c =
     let next = c.in-Some.ensures.slot in (
       omega (arith, c.loop-serial.invariant.from_on, next.0),
       sym c.contains.ensures ∙ c.if-contains.true,
-      passed_on c.args.self.now.slots c.args.from c.loop-serial.at c.loop-serial.invariant.passed c.in-Some.serial next.1,
+      passed_on c.args.self.now.slots c.args.from c.loop-serial.at c.loop-serial.invariant.passed c.in-Some.serial
+          next.1,
     )
 
 pub loop-serial-preserved : goal.loop-serial-preserved
@@ -24,7 +25,9 @@ loop-serial-preserved c =
     let next = c.in-Some.ensures.slot in
     let passed = passed_on slots c.args.from c.loop-serial.at c.loop-serial.invariant.passed c.in-Some.serial next.1 in
     record {
-      passed = subst (λ (n : ℕ). ArePassed (present_ports slots) c.args.from (n + 1)) (sym c.from-at-in-Some.ensures) (passed_dead slots c.args.from c.in-Some.serial passed (sym c.contains.ensures ∙ c.if-contains.false));
+      passed =
+          subst (λ (n : ℕ). ArePassed (present_ports slots) c.args.from (n + 1)) (sym c.from-at-in-Some.ensures)
+          (passed_dead slots c.args.from c.in-Some.serial passed (sym c.contains.ensures ∙ c.if-contains.false));
       from_on = omega (arith, c.loop-serial.invariant.from_on, next.0, c.from-at-in-Some.ensures);
       fits = omega (arith, c.in-Some.ensures.fits, c.from-at-in-Some.ensures);
     }

@@ -9,8 +9,11 @@ roll_back_touched-requires c = subst (AreMarked c.args.self.now.slots) (sym c.de
 pub returns : goal.returns
 returns c = record {
   before = c.roll_back_touched.ensures.seen;
-  current = sym (untouched_alike before_of current_of c.roll_back_touched.new.slots c.roll_back_touched.ensures.touched) ∙ c.roll_back_touched.ensures.seen;
-  touched = subst (AreMarked c.roll_back_touched.new.slots) (sym c.clear.ensures.items) c.roll_back_touched.ensures.touched;
+  current =
+      sym (untouched_alike before_of current_of c.roll_back_touched.new.slots c.roll_back_touched.ensures.touched)
+      ∙ c.roll_back_touched.ensures.seen;
+  touched =
+      subst (AreMarked c.roll_back_touched.new.slots) (sym c.clear.ensures.items) c.roll_back_touched.ensures.touched;
   count = refl;
   next = refl;
   count_before = refl;

@@ -9,4 +9,5 @@ use Rattle.port_space.proofs.space.PortSpace.name_of_port.Goals as goal
 pub returns : goal.returns
 returns c =
     let names = c.self.inside.tables.names.current in
-    name_is names c.args.port c.next_name.result (small_bounded names c.self.invariant.1.bounded) c.next_name.ensures ∙ ap (λ (t : Tracked Entry). name_of_port t.current c.args.port) c.self.view_is
+    name_is names c.args.port c.next_name.result (small_bounded names c.self.invariant.1.bounded) c.next_name.ensures
+    ∙ ap (λ (t : Tracked Entry). name_of_port t.current c.args.port) c.self.view_is

@@ -9,10 +9,13 @@ pub returns-in-Some : goal.returns-in-Some
 returns-in-Some c =
     let names = c.self.inside.tables.names.current in
     subst (λ (t : Tracked Entry). StandsAbove t.current c.args.port c.args.name c.is_some.result) c.self.view_is
-    (above_is names c.args.port c.args.name c.in-Some.next c.next_name.result c.is_some.result (small_bounded names c.self.invariant.1.bounded) (omega (arith, c.in-Some.ensures)) c.next_name.ensures c.is_some.ensures)
+    (above_is names c.args.port c.args.name c.in-Some.next c.next_name.result c.is_some.result
+    (small_bounded names c.self.invariant.1.bounded)
+    (omega (arith, c.in-Some.ensures)) c.next_name.ensures c.is_some.ensures)
 
 pub returns-in-None : goal.returns-in-None
 returns-in-None c =
     let names = c.self.inside.tables.names.current in
     subst (λ (t : Tracked Entry). StandsAbove t.current c.args.port c.args.name false) c.self.view_is
-    (last_is names c.args.port c.args.name (small_bounded names c.self.invariant.1.bounded) (not_less (c.args.name + 1) (2 ^ 32) c.in-None.ensures))
+    (last_is names c.args.port c.args.name (small_bounded names c.self.invariant.1.bounded)
+    (not_less (c.args.name + 1) (2 ^ 32) c.in-None.ensures))

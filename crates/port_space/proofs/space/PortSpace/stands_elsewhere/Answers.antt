@@ -10,19 +10,24 @@ use Rattle.port_space.proofs.space.PortSpace.stands_elsewhere.Goals as goal
 pub returns-in_default : goal.returns-in_default
 returns-in_default c =
     let names = c.self.inside.tables.names.current in
-    elsewhere_first names c.args.port c.args.name None (small_bounded names c.self.invariant.1.bounded) c.in_default.ensures (λ none. cc none)
+    elsewhere_first names c.args.port c.args.name None
+    (small_bounded names c.self.invariant.1.bounded) c.in_default.ensures (λ none. cc none)
     ∙ ap (λ (t : Tracked Entry). stands_elsewhere t.current c.args.name c.args.port) c.self.view_is
 
 pub returns-then-first-name : goal.returns-then-first-name
 returns-then-first-name c =
     let names = c.self.inside.tables.names.current in
     differ c.in-Some.first c.args.name c.if-first-name.true
-    ∙ elsewhere_first names c.args.port c.args.name (Some c.in-Some.first) (small_bounded names c.self.invariant.1.bounded) c.in-Some.ensures (λ same. c.if-first-name.true (some_same _ _ same))
+    ∙ elsewhere_first names c.args.port c.args.name (Some c.in-Some.first)
+    (small_bounded names c.self.invariant.1.bounded) c.in-Some.ensures
+    (λ same. c.if-first-name.true (some_same _ _ same))
     ∙ ap (λ (t : Tracked Entry). stands_elsewhere t.current c.args.name c.args.port) c.self.view_is
 
 pub returns-else-first-name : goal.returns-else-first-name
 returns-else-first-name c =
     let names = c.self.inside.tables.names.current in
-    elsewhere_above names c.args.port c.args.name c.stands_above.result (subst (λ n. NextName names c.args.port 0 (Some n)) c.if-first-name.false c.in-Some.ensures)
-    (subst (λ (t : Tracked Entry). StandsAbove t.current c.args.port c.args.name c.stands_above.result) (sym c.self.view_is) c.stands_above.ensures)
+    elsewhere_above names c.args.port c.args.name c.stands_above.result
+    (subst (λ n. NextName names c.args.port 0 (Some n)) c.if-first-name.false c.in-Some.ensures)
+    (subst (λ (t : Tracked Entry). StandsAbove t.current c.args.port c.args.name c.stands_above.result)
+    (sym c.self.view_is) c.stands_above.ensures)
     ∙ ap (λ (t : Tracked Entry). stands_elsewhere t.current c.args.name c.args.port) c.self.view_is

@@ -10,7 +10,10 @@ use Rattle.port_space.proofs.tables.Tables.put.Goals as goal
 
 pub next_unused-self-requires : goal.next_unused-self-requires
 next_unused-self-requires c = record {
-  small = subst (λ (t : Tracked Entry). AreSmall t.current) (sym c.in_ok-former.ensures.ok) (small_insert c.args.self.now.names.current c.from-key.result c.args.entry c.requires.small (omega (arith, c.from-key.ensures)));
+  small =
+      subst (λ (t : Tracked Entry). AreSmall t.current) (sym c.in_ok-former.ensures.ok)
+      (small_insert c.args.self.now.names.current c.from-key.result c.args.entry c.requires.small
+      (omega (arith, c.from-key.ensures)));
   fits = omega (arith, c.from-key.ensures, c.ranges.name.fits);
 }
 
@@ -18,8 +21,15 @@ pub returns-then-is_some-clause-ok : goal.returns-then-is_some-clause-ok
 returns-then-is_some-clause-ok c =
     let now = c.args.self.now in
     let at : c.from-key.result ≡ c.args.name = c.from-key.ensures in
-    let names = ap (λ (t : Tracked Entry). t.current) c.in_ok-former.ensures.ok ∙ ap (λ (k : ℕ). insert now.names.current k c.args.entry) at in
-    let held = ap (λ (o : Option ℕ). with_port (without_port now.by_port.current o c.args.name) c.port_held.result c.args.name) c.held_by.ensures
-    ∙ ap (λ (o : Option ℕ). with_port (without_port now.by_port.current (option_and_then port_held c.in_ok-former.former) c.args.name) o c.args.name) c.port_held.ensures in
-    put_used now _ c.args.name c.args.entry c.in_ok-former.former c.requires.free (c.in_ok-former.ensures.before ∙ ap (get now.names.current) at) (sym c.is_some.ensures ∙ c.if-is_some.true)
+    let names =
+    ap (λ (t : Tracked Entry). t.current) c.in_ok-former.ensures.ok ∙ ap
+    (λ (k : ℕ). insert now.names.current k c.args.entry) at in
+    let held =
+    ap (λ (o : Option ℕ). with_port (without_port now.by_port.current o c.args.name) c.port_held.result c.args.name)
+    c.held_by.ensures
+    ∙ ap (λ (o : Option ℕ). with_port
+    (without_port now.by_port.current (option_and_then port_held c.in_ok-former.former) c.args.name) o c.args.name)
+    c.port_held.ensures in
+    put_used now _ c.args.name c.args.entry c.in_ok-former.former c.requires.free
+    (c.in_ok-former.ensures.before ∙ ap (get now.names.current) at) (sym c.is_some.ensures ∙ c.if-is_some.true)
     names (c.in_ok-change_port.ensures.ok ∙ held) refl refl

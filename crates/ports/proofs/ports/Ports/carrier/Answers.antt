@@ -10,5 +10,8 @@ use Rattle.ports.proofs.ports.Ports.carrier.Goals as goal
 
 pub returns : goal.returns
 returns c =
-    carrier_is c.self.inside.ports.current (present_parts c.self.inside.indexes) c.args.serial c.least.result c.self.invariant.1 c.least.ensures
-    ∙ ap (λ (t : TrackedPorts). option_map (λ (e : ℕ × PortState). e.0) (find (λ (e : ℕ × PortState). carries c.args.serial e.1) (entries t.current.ports))) c.self.view_is
+    carrier_is c.self.inside.ports.current
+    (present_parts c.self.inside.indexes) c.args.serial c.least.result c.self.invariant.1 c.least.ensures
+    ∙ ap (λ (t : TrackedPorts). option_map
+    (λ (e : ℕ × PortState). e.0) (find
+    (λ (e : ℕ × PortState). carries c.args.serial e.1) (entries t.current.ports))) c.self.view_is

@@ -7,7 +7,8 @@ use Rattle.ports.proofs.ports.Ports.forget_port_destroyed.Given as goal
 
 abbrev pub invariant-loop-other : goal.invariant-loop-other
 invariant-loop-other l = record {
-  settles : map_values (destroyed_forgotten l.target) l.self.current.ports ≡ map_values (destroyed_forgotten l.target) l.initial.self.current.ports;
+  settles : map_values (destroyed_forgotten l.target) l.self.current.ports
+      ≡ map_values (destroyed_forgotten l.target) l.initial.self.current.ports;
   before : l.self.before ≡ l.initial.self.before;
   next : l.self.current.next ≡ l.initial.self.current.next;
   passed : (q : ℕ) → q < l.at → is_number (target_at destroyed_of l.self.current.ports q) l.target ≡ false;

@@ -15,7 +15,9 @@ returns-then-self-clause-fails g c =
 
 pub returns-in-Ok-clause-answers : goal.returns-in-Ok-clause-answers
 returns-in-Ok-clause-answers g c =
-    let attached = ap (λ (n : ℕ). if succeeded c.args.call c.in-Ok.reply then n else c.self.inside.space) c.attached_by-attached.ensures in
+    let attached =
+    ap (λ (n : ℕ). if succeeded c.args.call c.in-Ok.reply then n else c.self.inside.space)
+    c.attached_by-attached.ensures in
     let after = c.space_after-self-inside.result in
     rw (← c.self.view_is) (record {
       stored = (c.in-Ok.ensures.answers, c.space_after-self-inside.ensures c.args.call ∙ attached, c.if-self.false);
@@ -24,7 +26,9 @@ returns-in-Ok-clause-answers g c =
           λ i. record { kernel = same.0 i; store = same.1 i; space = after; failed = c.self.inside.failed };
       counted = c.in-Ok.ensures.counted;
       passes = λ honest. c.make_call.ensures.passes honest ((c.self.invariant c.if-self.false).1 honest);
-      held = λ honest. kept_held g.D.Disk.view c.make_call.new.system.store c.make_call.new.system.core.kernel (c.in-Ok.ensures.kept honest ((c.self.invariant c.if-self.false).1 honest));
+      held =
+          λ honest. kept_held g.D.Disk.view c.make_call.new.system.store c.make_call.new.system.core.kernel
+          (c.in-Ok.ensures.kept honest ((c.self.invariant c.if-self.false).1 honest));
     })
 
 pub returns-in-Ok-clause-any_moment : goal.returns-in-Ok-clause-any_moment
@@ -32,18 +36,28 @@ returns-in-Ok-clause-any_moment g c = λ honest _.
     let old = g.D.Disk.view c.self.inside.system.store.disk in
     let made = c.make_call in
     let kept = (c.self.invariant c.if-self.false).1 honest in
-    rw (← c.self.view_is) (since_held old (g.D.Disk.view made.new.system.store.disk) c.self.inside.system.core.kernel made.new.system.core.kernel c.self.inside.space c.args.call (kept_held g.D.Disk.view c.self.inside.system.store c.self.inside.system.core.kernel kept) (made.ensures.passes honest kept))
+    rw (← c.self.view_is) (since_held old
+    (g.D.Disk.view made.new.system.store.disk) c.self.inside.system.core.kernel made.new.system.core.kernel
+    c.self.inside.space c.args.call
+    (kept_held g.D.Disk.view c.self.inside.system.store c.self.inside.system.core.kernel kept)
+    (made.ensures.passes honest kept))
 
 pub returns-in-Ok-clause-stored : goal.returns-in-Ok-clause-stored
 returns-in-Ok-clause-stored g c = λ honest.
-    kept_held g.D.Disk.view c.make_call.new.system.store c.make_call.new.system.core.kernel (c.in-Ok.ensures.kept honest ((c.self.invariant c.if-self.false).1 honest))
+    kept_held g.D.Disk.view c.make_call.new.system.store c.make_call.new.system.core.kernel
+    (c.in-Ok.ensures.kept honest ((c.self.invariant c.if-self.false).1 honest))
 
 pub returns-clause-any_moment : goal.returns-clause-any_moment
 returns-clause-any_moment g c = λ honest _.
     let old = g.D.Disk.view c.self.inside.system.store.disk in
     let made = c.make_call in
     let kept = (c.self.invariant c.if-self.false).1 honest in
-    rw (← c.self.view_is) (since_held old (g.D.Disk.view made.new.system.store.disk) c.self.inside.system.core.kernel made.new.system.core.kernel c.self.inside.space c.args.call (kept_held g.D.Disk.view c.self.inside.system.store c.self.inside.system.core.kernel kept) (made.ensures.passes honest kept))
+    rw (← c.self.view_is) (since_held old
+    (g.D.Disk.view made.new.system.store.disk) c.self.inside.system.core.kernel made.new.system.core.kernel
+    c.self.inside.space c.args.call
+    (kept_held g.D.Disk.view c.self.inside.system.store c.self.inside.system.core.kernel kept)
+    (made.ensures.passes honest kept))
 
 pub invariant_of-self : goal.invariant_of-self
-invariant_of-self g c = λ _. (c.in-Ok.ensures.rests, λ honest. c.in-Ok.ensures.kept honest ((c.self.invariant c.if-self.false).1 honest))
+invariant_of-self g c =
+    λ _. (c.in-Ok.ensures.rests, λ honest. c.in-Ok.ensures.kept honest ((c.self.invariant c.if-self.false).1 honest))

@@ -24,10 +24,17 @@ returns-in-Ok-clause-rests g c =
     let new = c.go_on.new.self in
     let standing = (c.self.invariant c.if-self.false).1 in
     rw (← c.self.view_is) (record {
-      same = λ i. record { kernel = c.go_on.ensures.kernel i; store = new.store; space = c.self.inside.space; failed = c.self.inside.failed };
+      same =
+          λ i. record {
+            kernel = c.go_on.ensures.kernel i;
+            store = new.store;
+            space = c.self.inside.space;
+            failed = c.self.inside.failed;
+          };
       goes = inl c.in-Ok.ensures.goes;
       passes = λ honest. c.go_on.ensures.passes honest (standing honest);
-      held = λ honest. kept_held g.D.Disk.view new.store new.core.kernel (c.in-Ok.ensures.kept honest (standing honest));
+      held =
+          λ honest. kept_held g.D.Disk.view new.store new.core.kernel (c.in-Ok.ensures.kept honest (standing honest));
     })
 
 pub returns-in-Ok-clause-any_moment : goal.returns-in-Ok-clause-any_moment
@@ -35,7 +42,9 @@ returns-in-Ok-clause-any_moment g c = λ honest _.
     let system = c.self.inside.system in
     let standing = (c.self.invariant c.if-self.false).1 honest in
     let held = kept_held g.D.Disk.view system.store system.core.kernel standing in
-    rw (← c.self.view_is) (left_within (g.D.Disk.view system.store.disk) (g.D.Disk.view c.go_on.new.self.store.disk) system.core.kernel _ held (c.go_on.ensures.passes honest standing) (λ _ stands. stands))
+    rw (← c.self.view_is) (left_within (g.D.Disk.view system.store.disk)
+    (g.D.Disk.view c.go_on.new.self.store.disk) system.core.kernel _ held (c.go_on.ensures.passes honest standing)
+    (λ _ stands. stands))
 
 -- if memory ran out, nothing changed
 
@@ -45,12 +54,31 @@ returns-then-eq-clause-rests g c =
     let new = c.go_on.new.self in
     let standing = (c.self.invariant c.if-self.false).1 in
     let short : c.in-Err.broken ≡ NoMemory = search rules in
-    let wanted = is_wanted CHECKPOINT_RECORDS c.self.inside.system c.go_on.new.self c.in-Err.broken short c.in-Err.ensures.faults in
+    let wanted =
+    is_wanted CHECKPOINT_RECORDS c.self.inside.system c.go_on.new.self c.in-Err.broken short c.in-Err.ensures.faults
+    in
     rw (← c.self.view_is) (record {
-      same = λ i. record { kernel = c.go_on.ensures.kernel i; store = new.store; space = c.self.inside.space; failed = c.self.inside.failed };
-      goes = inr (wanted.0, λ i. record { kernel = (wanted.1 i).core.kernel; store = (wanted.1 i).store; space = c.self.inside.space; failed = c.self.inside.failed });
+      same =
+          λ i. record {
+            kernel = c.go_on.ensures.kernel i;
+            store = new.store;
+            space = c.self.inside.space;
+            failed = c.self.inside.failed;
+          };
+      goes =
+          inr (
+            wanted.0,
+            λ i. record {
+              kernel = (wanted.1 i).core.kernel;
+              store = (wanted.1 i).store;
+              space = c.self.inside.space;
+              failed = c.self.inside.failed;
+            },
+          );
       passes = λ honest. c.go_on.ensures.passes honest (standing honest);
-      held = λ honest. subst (λ s. IsHeld (g.D.Disk.view s.store.disk) s.core.kernel) (sym wanted.1) (kept_held g.D.Disk.view old.store old.core.kernel (standing honest));
+      held =
+          λ honest. subst (λ s. IsHeld (g.D.Disk.view s.store.disk) s.core.kernel) (sym wanted.1)
+          (kept_held g.D.Disk.view old.store old.core.kernel (standing honest));
     })
 
 pub returns-then-eq-clause-any_moment : goal.returns-then-eq-clause-any_moment
@@ -58,14 +86,19 @@ returns-then-eq-clause-any_moment g c = λ honest _.
     let system = c.self.inside.system in
     let standing = (c.self.invariant c.if-self.false).1 honest in
     let held = kept_held g.D.Disk.view system.store system.core.kernel standing in
-    rw (← c.self.view_is) (left_within (g.D.Disk.view system.store.disk) (g.D.Disk.view c.go_on.new.self.store.disk) system.core.kernel _ held (c.go_on.ensures.passes honest standing) (λ _ stands. stands))
+    rw (← c.self.view_is) (left_within (g.D.Disk.view system.store.disk)
+    (g.D.Disk.view c.go_on.new.self.store.disk) system.core.kernel _ held (c.go_on.ensures.passes honest standing)
+    (λ _ stands. stands))
 
 pub invariant_of-self-then-eq : goal.invariant_of-self-then-eq
 invariant_of-self-then-eq g c = λ _.
     let short : c.in-Err.broken ≡ NoMemory = search rules in
-    let wanted = is_wanted CHECKPOINT_RECORDS c.self.inside.system c.go_on.new.self c.in-Err.broken short c.in-Err.ensures.faults in (
+    let wanted =
+    is_wanted CHECKPOINT_RECORDS c.self.inside.system c.go_on.new.self c.in-Err.broken short c.in-Err.ensures.faults
+    in (
       subst IsResting (sym wanted.1) (c.self.invariant c.if-self.false).0,
-      λ honest. subst (λ s. IsStanding g.D.Disk.view s.store s.core.kernel) (sym wanted.1) ((c.self.invariant c.if-self.false).1 honest),
+      λ honest. subst (λ s. IsStanding g.D.Disk.view s.store s.core.kernel) (sym wanted.1)
+          ((c.self.invariant c.if-self.false).1 honest),
     )
 
 pub returns-else-eq-clause-breaks : goal.returns-else-eq-clause-breaks
@@ -74,7 +107,9 @@ returns-else-eq-clause-breaks g c =
     let other : c.in-Err.broken ≡ NoMemory → ⊥ = search rules in
     rw (← c.self.view_is) (record {
       failed = refl;
-      device = λ _. is_of_device CHECKPOINT_RECORDS c.self.inside.system c.go_on.new.self c.in-Err.broken other c.in-Err.ensures.faults;
+      device =
+          λ _. is_of_device CHECKPOINT_RECORDS c.self.inside.system c.go_on.new.self c.in-Err.broken other
+          c.in-Err.ensures.faults;
       kernel = c.go_on.ensures.kernel;
       space = refl;
       failed_before = λ was. absurd (cc (was, c.if-self.false));
@@ -86,7 +121,10 @@ returns-else-eq-clause-any_moment g c = λ honest _.
     let system = c.self.inside.system in
     let standing = (c.self.invariant c.if-self.false).1 honest in
     let held = kept_held g.D.Disk.view system.store system.core.kernel standing in
-    rw (← c.self.view_is) (left_within (g.D.Disk.view system.store.disk) (g.D.Disk.view c.go_on.new.self.store.disk) system.core.kernel _ held (c.go_on.ensures.passes honest standing) (λ _ stands. stands))
+    rw (← c.self.view_is) (left_within (g.D.Disk.view system.store.disk)
+    (g.D.Disk.view c.go_on.new.self.store.disk) system.core.kernel _ held (c.go_on.ensures.passes honest standing)
+    (λ _ stands. stands))
 
 pub invariant_of-self : goal.invariant_of-self
-invariant_of-self g c = λ _. (c.in-Ok.ensures.rests, λ honest. c.in-Ok.ensures.kept honest ((c.self.invariant c.if-self.false).1 honest))
+invariant_of-self g c =
+    λ _. (c.in-Ok.ensures.rests, λ honest. c.in-Ok.ensures.kept honest ((c.self.invariant c.if-self.false).1 honest))

@@ -6,7 +6,8 @@ use Rattle.spaces.proofs.spaces.Spaces.bury.Given as goal
 abbrev pub invariant-loop-place : goal.invariant-loop-place
 invariant-loop-place l = record {
   buried : Buried l.port l.initial.self.current l.self.current l.at;
-  notified : l.effects ++ notices_from l.port l.initial.self.current l.at ≡ l.initial.effects ++ notices_from l.port l.initial.self.current 0;
+  notified : l.effects ++ notices_from l.port l.initial.self.current l.at ≡ l.initial.effects
+      ++ notices_from l.port l.initial.self.current 0;
   before : l.self.before ≡ l.initial.self.before;
   fits : l.at < 2 ^ 64;
 }

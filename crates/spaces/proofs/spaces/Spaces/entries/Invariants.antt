@@ -7,7 +7,8 @@ use Rattle.spaces.proofs.spaces.Spaces.entries.Given as goal
 -- what was gathered, with the entries that are left, is the whole
 abbrev pub invariant-loop-name : goal.invariant-loop-name
 invariant-loop-name l = record {
-  gathered : l.entries.items ++ entries_from (names_of l.self.current l.space) l.at ≡ map.entries (names_of l.self.current l.space);
+  gathered : l.entries.items ++ entries_from (names_of l.self.current l.space) l.at
+      ≡ map.entries (names_of l.self.current l.space);
   fits : l.at ≤ 2 ^ 32;
 }
 

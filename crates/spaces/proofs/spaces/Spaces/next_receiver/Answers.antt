@@ -6,5 +6,7 @@ use Rattle.spaces.proofs.spaces.Spaces.next_receiver.Goals as goal
 
 pub returns : goal.returns
 returns c =
-    subst (λ (s : SpaceMap). IsNextAt received_port s c.args.port c.args.from c.next.result) (ap (λ (t : TrackedSpaces). t.current) c.self.view_is)
-    (next_at received_port c.self.inside.table.current c.self.inside.indexes.receivers.current c.args.port c.args.from c.next.result c.self.invariant.1.received c.next.ensures)
+    subst (λ (s : SpaceMap). IsNextAt received_port s c.args.port c.args.from c.next.result)
+    (ap (λ (t : TrackedSpaces). t.current) c.self.view_is)
+    (next_at received_port c.self.inside.table.current c.self.inside.indexes.receivers.current c.args.port c.args.from
+    c.next.result c.self.invariant.1.received c.next.ensures)

@@ -6,4 +6,6 @@ use Rattle.spaces.specs.Slots.{TrackedSpaces}
 use Rattle.spaces.proofs.spaces.Spaces.sends.Goals as goal
 
 pub returns-clause-value : goal.returns-clause-value
-returns-clause-value c = c.sends.ensures.value ∙ c.self.invariant.1.counted.sends c.args.port c.ranges.port.fits ∙ ap (λ (t : TrackedSpaces). spaces_weigh (right_weight kind.Send c.args.port) t.current) c.self.view_is
+returns-clause-value c =
+    c.sends.ensures.value ∙ c.self.invariant.1.counted.sends c.args.port c.ranges.port.fits ∙ ap
+    (λ (t : TrackedSpaces). spaces_weigh (right_weight kind.Send c.args.port) t.current) c.self.view_is

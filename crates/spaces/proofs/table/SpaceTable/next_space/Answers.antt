@@ -4,4 +4,6 @@ use Rattle.spaces.specs.Slots.{TrackedSpaces}
 use Rattle.spaces.proofs.table.SpaceTable.next_space.Goals as goal
 
 pub returns : goal.returns
-returns c = subst (λ (t : TrackedSpaces). IsNextSpace t.current c.args.from c.next_there.result) c.self.view_is c.next_there.ensures
+returns c =
+    subst (λ (t : TrackedSpaces). IsNextSpace t.current c.args.from c.next_there.result) c.self.view_is
+    c.next_there.ensures

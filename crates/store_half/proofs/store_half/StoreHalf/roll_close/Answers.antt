@@ -5,5 +5,8 @@ use Rattle.store_half.proofs.store_half.StoreHalf.roll_close.Goals as goal
 pub invariant_of-self-2 : goal.invariant_of-self-2
 invariant_of-self-2 g c = (
   record { steps = search rules; before = search rules; after = search rules; images = search rules },
-  λ unfailed honest. record { gate = search rules; made = record { header = λ rolled. search rules; pieces = λ imaged. search rules } },
+  λ unfailed honest. record {
+    gate = search rules;
+    made = record { header = λ rolled. search rules; pieces = λ imaged. search rules };
+  },
 )

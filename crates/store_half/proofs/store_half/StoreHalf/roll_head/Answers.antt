@@ -5,7 +5,10 @@ use Rattle.store_half.proofs.store_half.StoreHalf.roll_head.Goals as goal
 pub invariant_of-self-2 : goal.invariant_of-self-2
 invariant_of-self-2 g c = (
   record { steps = search rules; before = search rules; after = search rules; images = search rules },
-  λ unfailed honest. record { gate = search rules; made = record { header = λ rolled. search rules; pieces = λ imaged. search rules } },
+  λ unfailed honest. record {
+    gate = search rules;
+    made = record { header = λ rolled. search rules; pieces = λ imaged. search rules };
+  },
 )
 
 pub invariant_of-self-then-is_err : goal.invariant_of-self-then-is_err

@@ -5,7 +5,10 @@ use Rattle.store_half.proofs.store_half.StoreHalf.write_piece.Goals as goal
 pub invariant_of-self-else-is_err : goal.invariant_of-self-else-is_err
 invariant_of-self-else-is_err g c = (
   record { steps = search rules; before = search rules; after = search rules; images = search rules },
-  λ unfailed honest. record { gate = search rules; made = record { header = λ rolled. search rules; pieces = λ imaged. search rules } },
+  λ unfailed honest. record {
+    gate = search rules;
+    made = record { header = λ rolled. search rules; pieces = λ imaged. search rules };
+  },
 )
 
 pub returns-clause-done : goal.returns-clause-done

@@ -7,6 +7,14 @@ use Rattle.store_keeper.proofs.keeper.StoreKeeper.stored.Goals as goal
 
 pub returns-clause-left : goal.returns-clause-left
 returns-clause-left g c is_honest slots may =
-    let old : StoreKeeperValue g.row.D.Denot = record { store = c.self.inside.store; entries = c.self.inside.past.entries; stored = c.self.inside.stored; earlier = c.self.inside.earlier } in
-    subst (λ (v : StoreKeeperValue g.row.D.Denot). MayLeave (g.D.Disk.view v.store.disk) slots → StandsFor g.L.Founding.base v.stored (records_of v.entries) slots) c.self.view_is
-    (storer_left g.D.Disk.honest g.D.Disk.view g.L.Founding.base old c.self.invariant is_honest c.self.inside.store.failed refl slots) may
+    let old : StoreKeeperValue g.row.D.Denot =
+    record {
+      store = c.self.inside.store;
+      entries = c.self.inside.past.entries;
+      stored = c.self.inside.stored;
+      earlier = c.self.inside.earlier;
+    } in
+    subst (λ (v : StoreKeeperValue g.row.D.Denot). MayLeave (g.D.Disk.view v.store.disk) slots
+    → StandsFor g.L.Founding.base v.stored (records_of v.entries) slots) c.self.view_is
+    (storer_left g.D.Disk.honest g.D.Disk.view g.L.Founding.base old c.self.invariant is_honest
+    c.self.inside.store.failed refl slots) may

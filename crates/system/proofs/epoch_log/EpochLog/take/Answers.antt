@@ -8,5 +8,9 @@ returns-clause-taken c = c.replace.ensures.value ∙ ap (λ (r : EpochLogValue).
 
 pub returns-clause-left : goal.returns-clause-left
 returns-clause-left c =
-    (λ i. record { length = c.self.inside.length; made = c.self.inside.made; waiting = (c.replace.ensures.after ∙ c.requires) i })
+    (λ i. record {
+      length = c.self.inside.length;
+      made = c.self.inside.made;
+      waiting = (c.replace.ensures.after ∙ c.requires) i;
+    })
     ∙ ap (λ (r : EpochLogValue). record r { waiting = empty_batch }) c.self.view_is

@@ -8,8 +8,11 @@ use Rattle.system.proofs.kernel_half.KernelHalf.submit_without_room.Goals as goa
 pub returns-in_default-clause-full : goal.returns-in_default-clause-full
 returns-in_default-clause-full c = λ is. (
   c.requires,
-  subst (λ (s : State). (reply : Reply) × (new : State) × Step s c.args.space c.args.call.now reply new × (has_record c.args.call.now reply ≡ true))
+  subst (λ (s : State). (reply : Reply) × (new : State) × Step s c.args.space c.args.call.now reply new
+      × (has_record c.args.call.now reply ≡ true))
       (ap (λ k. k.kernel) c.self.view_is)
-      (subst (λ (o : Option Reply). IfNone o ((reply : Reply) × (new : State) × Step c.self.inside.kernel c.args.space c.args.call.now reply new × (has_record c.args.call.now reply ≡ true)))
+      (subst (λ (o : Option Reply). IfNone o
+      ((reply : Reply) × (new : State) × Step c.self.inside.kernel c.args.space c.args.call.now reply new
+      × (has_record c.args.call.now reply ≡ true)))
       c.in_default.is c.in_ok-answer.ensures.none),
 )

@@ -9,7 +9,8 @@ use Rattle.system.proofs.system.System.cut_event.Goals as goal
 pub returns-in-Ok-true-clause-steps : goal.returns-in-Ok-true-clause-steps
 returns-in-Ok-true-clause-steps g c = λ base w stands.
     steps_of g.D.Disk.honest g.D.Disk.view base w event.Cut outcome.Done (reply.Done 0) c.args.self.now c.cut.new.self
-    (shows_cut g.D.Disk.honest g.D.Disk.view base w c.args.self.now c.cut.new.self stands (match_true _ _ c.in-Ok-true.field-0 c.in-Ok-true.field-0-test c.in-Ok-true.ensures.done))
+    (shows_cut g.D.Disk.honest g.D.Disk.view base w c.args.self.now c.cut.new.self stands
+    (match_true _ _ c.in-Ok-true.field-0 c.in-Ok-true.field-0-test c.in-Ok-true.ensures.done))
 
 pub returns-in-Ok-false-clause-steps : goal.returns-in-Ok-false-clause-steps
 returns-in-Ok-false-clause-steps g c = λ base w stands.
@@ -19,5 +20,7 @@ returns-in-Ok-false-clause-steps g c = λ base w stands.
 
 pub returns-in-Err-clause-steps : goal.returns-in-Err-clause-steps
 returns-in-Err-clause-steps g c = λ base w stands.
-    steps_of g.D.Disk.honest g.D.Disk.view base w event.Cut outcome.NoMemory (reply.Done 0) c.args.self.now c.cut.new.self
-    (shows_cut_shortage g.D.Disk.honest g.D.Disk.view base w c.args.self.now c.cut.new.self stands c.in-Err.ensures.err.0 c.in-Err.ensures.err.1)
+    steps_of g.D.Disk.honest g.D.Disk.view base w event.Cut outcome.NoMemory
+    (reply.Done 0) c.args.self.now c.cut.new.self
+    (shows_cut_shortage g.D.Disk.honest g.D.Disk.view base w c.args.self.now c.cut.new.self stands
+    c.in-Err.ensures.err.0 c.in-Err.ensures.err.1)

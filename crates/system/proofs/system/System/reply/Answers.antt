@@ -8,6 +8,17 @@ use Rattle.system.proofs.system.System.reply.Goals as goal
 pub invariant_of-self-2 : goal.invariant_of-self-2
 invariant_of-self-2 g c =
     let inside = c.self.inside in
-    let old : SystemValue _ = record { core = inside.core; store = inside.store; out = inside.out; receipt = inside.receipt; finished = inside.finished; finished_first = inside.finished_first; tickets = inside.tickets } in
+    let old : SystemValue _ =
+    record {
+      core = inside.core;
+      store = inside.store;
+      out = inside.out;
+      receipt = inside.receipt;
+      finished = inside.finished;
+      finished_first = inside.finished_first;
+      tickets = inside.tickets;
+    } in
     answered_in_order old c.take.new.self c.self.invariant
-    (subst (λ (t : TicketsValue). (number : ℕ) → t.given ≤ number → finmap.get t.kept number ≡ None) (sym c.take.ensures.left) (fresh_less inside.tickets.kept inside.tickets.given c.args.number c.self.invariant.fresh))
+    (subst (λ (t : TicketsValue). (number : ℕ) → t.given ≤ number → finmap.get t.kept number ≡ None)
+    (sym c.take.ensures.left) (fresh_less inside.tickets.kept inside.tickets.given c.args.number
+    c.self.invariant.fresh))

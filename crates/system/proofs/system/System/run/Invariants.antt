@@ -10,6 +10,8 @@ use Rattle.system.proofs.system.System.run.Given as goal
 abbrev pub invariant-loop-event : goal.invariant-loop-event
 invariant-loop-event g l =
     ((base : State) (world : World) → StandsFor g.D.Disk.honest g.D.Disk.view base world l.initial.self
-    → RunsThrough g.D.Disk.honest g.D.Disk.view base world (take l.event-index l.events) l.outcomes.items l.initial.self l.self)
+    → RunsThrough g.D.Disk.honest g.D.Disk.view base world
+    (take l.event-index l.events) l.outcomes.items l.initial.self l.self)
     × (vec_len l.outcomes ≡ l.event-index) × (length l.events ≤ vec_capacity l.outcomes)
-    × (g.D.Disk.failed_calls l.self.store.disk ≡ counted_events l.outcomes.items (g.D.Disk.failed_calls l.initial.self.store.disk))
+    × (g.D.Disk.failed_calls l.self.store.disk
+    ≡ counted_events l.outcomes.items (g.D.Disk.failed_calls l.initial.self.store.disk))

@@ -11,5 +11,7 @@ returns-then-take-clause-steps g c = λ base w stands.
 
 pub returns-clause-steps : goal.returns-clause-steps
 returns-clause-steps g c = λ base w stands.
-    steps_of g.D.Disk.honest g.D.Disk.view base w event.Take outcome.NotNow (reply.Done 0) c.args.self.now c.take.new.self
-    (shows_no_take g.D.Disk.honest g.D.Disk.view base w c.args.self.now c.take.new.self stands c.if-take.ensures.taken.0 c.if-take.ensures.taken.1)
+    steps_of g.D.Disk.honest g.D.Disk.view base w event.Take outcome.NotNow
+    (reply.Done 0) c.args.self.now c.take.new.self
+    (shows_no_take g.D.Disk.honest g.D.Disk.view base w c.args.self.now c.take.new.self stands c.if-take.ensures.taken.0
+    c.if-take.ensures.taken.1)
