@@ -647,7 +647,7 @@ class Machine:
         is_too_large = message.size > limit
         if is_too_large and is_large_kept:
             return MACH_RCV_TOO_LARGE, message.size, member, b""
-        if not is_too_large and self.names_wanted(space, message) + len(self.spaces[space]) > MOST_NAMES:
+        if not is_too_large and self.names_needed(space, message) + len(self.spaces[space]) > MOST_NAMES:
             return MACH_RCV_HEADER_ERROR | MACH_MSG_IPC_SPACE, 0, 0, b""
         port.queue.pop(0)
         sequence, port.sequence = port.sequence, port.sequence + 1 & LAST_WORD
@@ -663,7 +663,7 @@ class Machine:
         self.settle()
         return 0, message.size, member, text
 
-    def names_wanted(self, space, message):
+    def names_needed(self, space, message):
         live = [it for it in message.carried() if isinstance(it.port, int)]
         ports = {it.port for it in live if it.type != MOVE_SEND_ONCE and self.name_of(space, it.port) is None}
         return len(ports) + sum(it.type == MOVE_SEND_ONCE for it in live)

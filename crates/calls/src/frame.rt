@@ -62,7 +62,7 @@ fn start_status(frame: &mut Frame, status: &ReceiveStatus)
     );
 }
 
-#[tactic(auto, unfolding(ipc_model::specs::encodings::Texts::reply_encoding))]
+#[tactic(auto, unfolding(ipc_model::specs::encodings::Encodings::reply_encoding))]
 /// Writes a reply into a frame. It takes no memory.
 pub fn reply_frame(reply: &Reply, frame: &mut Frame)
     requires room { MAX_FRAME_CONTENT ≤ frame.old.room }

@@ -101,7 +101,7 @@ fn read_message_call(alloc: Global, arguments: &[u8]) -> Result<Option<Call>, Al
     }
 }
 
-#[tactic(auto, unfolding(ipc_model::specs::encodings::Texts::call_encoding))]
+#[tactic(auto, unfolding(ipc_model::specs::encodings::Encodings::call_encoding))]
 /// The call that these bytes encode, if they encode a call as a record has it. It can run out of memory only for the
 /// message of a send.
 pub fn read_call(alloc: Global, content: &[u8]) -> Result<Option<Call>, AllocError>

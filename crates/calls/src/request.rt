@@ -160,7 +160,7 @@ fn read_mach_msg(alloc: Global, arguments: &[u8]) -> Result<Request, CallFault>
     Ok(request)
 }
 
-#[tactic(auto, unfolding(ipc_model::specs::encodings::Texts::call_encoding))]
+#[tactic(auto, unfolding(ipc_model::specs::encodings::Encodings::call_encoding))]
 /// What a frame asks for. `NoCall`: no call has this number and arguments of this length. `NoMemory`, only for a send:
 /// out of memory for its message.
 pub fn read_request(alloc: Global, frame: &Frame) -> Result<Request, CallFault>

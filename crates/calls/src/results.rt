@@ -95,7 +95,7 @@ fn take_message(results: &[u8]) -> Option<(u32, u32, &[u8])>
     Some((size, member, message))
 }
 
-#[tactic(auto, unfolding(ipc_model::specs::encodings::Texts::reply_encoding))]
+#[tactic(auto, unfolding(ipc_model::specs::encodings::Encodings::reply_encoding))]
 /// The reply to a `mach_msg` that has a record, from its code and what stands after it.
 fn read_message_reply(
     alloc: Global,
@@ -129,7 +129,7 @@ fn read_message_reply(
     }))
 }
 
-#[tactic(auto, unfolding(ipc_model::specs::encodings::Texts::reply_encoding))]
+#[tactic(auto, unfolding(ipc_model::specs::encodings::Encodings::reply_encoding))]
 /// The reply to a call with this number, any but `mach_msg`, that was done and has these results.
 fn read_plain_reply(number: u32, results: &[u8]) -> Option<Reply>
     ensures found { IfSome result (λ answer. (done_encoding number results.now ≡ reply_encoding answer)
@@ -162,7 +162,7 @@ fn read_plain_reply(number: u32, results: &[u8]) -> Option<Reply>
     }
 }
 
-#[tactic(auto, unfolding(ipc_model::specs::encodings::Texts::reply_encoding))]
+#[tactic(auto, unfolding(ipc_model::specs::encodings::Encodings::reply_encoding))]
 /// The reply to a call that has a record, from its code and what stands after it.
 fn read_results(
     alloc: Global,

@@ -13,6 +13,12 @@ pub const MAX_PORTS: usize = 16_384;
 /// How many spaces there are at most.
 pub const MAX_SPACES: usize = 256;
 
+/// How many messages a new port's queue holds (`MACH_PORT_QLIMIT_DEFAULT`).
+pub const DEFAULT_QUEUE_LIMIT: u32 = 5;
+
+/// How many messages a port's queue may be set to hold (`MACH_PORT_QLIMIT_MAX`).
+pub const MAX_QUEUE_LIMIT: u32 = 16;
+
 /// How many records an epoch's segment holds at most.
 pub const MAX_RECORDS: u64 = 65_536;
 

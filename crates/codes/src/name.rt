@@ -9,9 +9,3 @@ pub const FIRST_NAME: u32 = 0x100;
 
 /// The number of the space that exists from the start. A connection's task is attached to it at first.
 pub const FIRST_SPACE: u32 = 1;
-
-/// How many messages a new port's queue holds (`MACH_PORT_QLIMIT_DEFAULT`).
-pub const DEFAULT_QUEUE_LIMIT: u32 = 5;
-
-/// How many messages a port's queue may be set to hold (`MACH_PORT_QLIMIT_MAX`).
-pub const MAX_QUEUE_LIMIT: u32 = 16;

@@ -392,7 +392,7 @@ fn is_encoded_in_words(alloc: Global, reply: &Reply, numbers: &[u32]) -> Encoded
 
 // Each reply has a function of its own: that it fits in a frame is proved there.
 
-#[tactic(auto, unfolding(ipc_model::specs::encodings::Texts::reply_encoding))]
+#[tactic(auto, unfolding(ipc_model::specs::encodings::Encodings::reply_encoding))]
 fn encodes_refusal(alloc: Global) -> Encoded {
     let full = Reply::Refused {
         number: 5,
@@ -401,27 +401,27 @@ fn encodes_refusal(alloc: Global) -> Encoded {
     is_encoded_in_words(alloc, &full, &[5, 3])
 }
 
-#[tactic(auto, unfolding(ipc_model::specs::encodings::Texts::reply_encoding))]
+#[tactic(auto, unfolding(ipc_model::specs::encodings::Encodings::reply_encoding))]
 fn encodes_done(alloc: Global) -> Encoded {
     is_encoded_in_words(alloc, &Reply::Done { number: 7 }, &[7, 0])
 }
 
-#[tactic(auto, unfolding(ipc_model::specs::encodings::Texts::reply_encoding))]
+#[tactic(auto, unfolding(ipc_model::specs::encodings::Encodings::reply_encoding))]
 fn encodes_type(alloc: Global) -> Encoded {
     is_encoded_in_words(alloc, &Reply::Type { bits: 0x20000 }, &[2, 0, 0x20000])
 }
 
-#[tactic(auto, unfolding(ipc_model::specs::encodings::Texts::reply_encoding))]
+#[tactic(auto, unfolding(ipc_model::specs::encodings::Encodings::reply_encoding))]
 fn encodes_new_name(alloc: Global) -> Encoded {
     is_encoded_in_words(alloc, &Reply::Allocate { name: 0x100 }, &[5, 0, 0x100])
 }
 
-#[tactic(auto, unfolding(ipc_model::specs::encodings::Texts::reply_encoding))]
+#[tactic(auto, unfolding(ipc_model::specs::encodings::Encodings::reply_encoding))]
 fn encodes_references(alloc: Global) -> Encoded {
     is_encoded_in_words(alloc, &Reply::References { count: 3 }, &[8, 0, 3])
 }
 
-#[tactic(auto, unfolding(ipc_model::specs::encodings::Texts::reply_encoding))]
+#[tactic(auto, unfolding(ipc_model::specs::encodings::Encodings::reply_encoding))]
 fn encodes_previous_target(alloc: Global) -> Encoded {
     is_encoded_in_words(alloc, &Reply::PreviousTarget { name: 9 }, &[16, 0, 9])
 }
@@ -440,7 +440,7 @@ fn replies_as_bytes(rt: HostRuntime) {
     same(&rt, seen, [ENCODED; 6]);
 }
 
-#[tactic(auto, unfolding(ipc_model::specs::encodings::Texts::reply_encoding))]
+#[tactic(auto, unfolding(ipc_model::specs::encodings::Encodings::reply_encoding))]
 fn encodes_extracted(alloc: Global) -> Encoded {
     let extracted = Reply::Extracted {
         name: 9,
@@ -449,13 +449,13 @@ fn encodes_extracted(alloc: Global) -> Encoded {
     is_encoded_in_words(alloc, &extracted, &[18, 0, 9, 18])
 }
 
-#[tactic(auto, unfolding(ipc_model::specs::encodings::Texts::reply_encoding))]
+#[tactic(auto, unfolding(ipc_model::specs::encodings::Encodings::reply_encoding))]
 fn encodes_created_space(alloc: Global) -> Encoded {
     let created = Reply::SpaceCreated { space: 2, name: 1 };
     is_encoded_in_words(alloc, &created, &[20, 0, 2, 1])
 }
 
-#[tactic(auto, unfolding(ipc_model::specs::encodings::Texts::reply_encoding))]
+#[tactic(auto, unfolding(ipc_model::specs::encodings::Encodings::reply_encoding))]
 fn encodes_status(alloc: Global) -> Encoded {
     let status = ReceiveStatus {
         set: 9,
@@ -483,7 +483,7 @@ fn replies_with_more_results_as_bytes(rt: HostRuntime) {
     same(&rt, seen, [ENCODED; 3]);
 }
 
-#[tactic(auto, unfolding(ipc_model::specs::encodings::Texts::reply_encoding))]
+#[tactic(auto, unfolding(ipc_model::specs::encodings::Encodings::reply_encoding))]
 fn encodes_names(alloc: Global) -> Encoded {
     let first = NamedType {
         name: 8,
@@ -501,7 +501,7 @@ fn encodes_names(alloc: Global) -> Encoded {
     encoded
 }
 
-#[tactic(auto, unfolding(ipc_model::specs::encodings::Texts::reply_encoding))]
+#[tactic(auto, unfolding(ipc_model::specs::encodings::Encodings::reply_encoding))]
 fn encodes_members(alloc: Global) -> Encoded {
     let members = Sequence::new(Vec::from_slice(alloc, &[8_u32, 9]).ok()?);
     let told = Reply::SetStatus { members };
@@ -510,7 +510,7 @@ fn encodes_members(alloc: Global) -> Encoded {
     encoded
 }
 
-#[tactic(auto, unfolding(ipc_model::specs::encodings::Texts::reply_encoding))]
+#[tactic(auto, unfolding(ipc_model::specs::encodings::Encodings::reply_encoding))]
 fn encodes_message(alloc: Global) -> Encoded {
     let message = Sequence::new(Vec::from_slice(alloc, b"abc").ok()?);
     let received = Reply::Message {

@@ -69,7 +69,7 @@ fn records_as_bytes(rt: HostRuntime) {
     }
 }
 
-#[tactic(auto, unfolding(ipc_model::specs::encodings::Texts::call_encoding, ipc_model::specs::encodings::Texts::reply_encoding))]
+#[tactic(auto, unfolding(ipc_model::specs::encodings::Encodings::call_encoding, ipc_model::specs::encodings::Encodings::reply_encoding))]
 fn receive_bytes(alloc: Global) -> Option<Vec<u8>> {
     let message = Sequence::new(Vec::from_slice(alloc, &RECEIPT[56..]).ok()?);
     let record = Record {
@@ -93,7 +93,7 @@ fn receive_bytes(alloc: Global) -> Option<Vec<u8>> {
 }
 
 // The record holds a send without what it ignores: unused bits, a size and a sequence number.
-#[tactic(auto, unfolding(ipc_model::specs::encodings::Texts::call_encoding, ipc_model::specs::encodings::Texts::reply_encoding))]
+#[tactic(auto, unfolding(ipc_model::specs::encodings::Encodings::call_encoding, ipc_model::specs::encodings::Encodings::reply_encoding))]
 fn raw_send_bytes(alloc: Global) -> Option<Vec<u8>> {
     let sent = b"\x13\0\xff\x7f\xff\xff\xff\xff\0\x01\0\0\0\0\0\0\xff\xff\xff\xff\
         \x07\0\0\0\x44\x33\x22\x11";

@@ -4,7 +4,7 @@ use Rattle.std.proofs.lemmas.List.{append-nil}
 use Rattle.ipc_model.specs.declared.call.Call.{Call}
 use Rattle.ipc_model.specs.declared.call.Reply.{Reply}
 use Rattle.ipc_model.specs.encodings.Encodings.{reply_encoding}
-use Rattle.journal.specs.declared.fault.StoreFault.{StoreFault}
+use Rattle.store_fault.specs.declared.fault.StoreFault.{StoreFault}
 use Rattle.frame_service.specs.Asking.{Act, took, acknowledged, Acted, IsTaken, IsAcknowledged, Went, frames_of, replies_of}
 use Rattle.frame_service.specs.declared.asking.PendingFrame.{PendingFrame}
 use Rattle.words.specs.Words.{frame_encoding}

@@ -5,7 +5,7 @@ use Rattle.std.proofs.lemmas.List.{append-nil}
 use Rattle.ipc_model.specs.declared.call.Call.{Call}
 use Rattle.ipc_model.specs.declared.call.Reply.{Reply}
 use Rattle.ipc_model.specs.encodings.Encodings.{reply_encoding}
-use Rattle.journal.specs.declared.fault.StoreFault.{StoreFault}
+use Rattle.store_fault.specs.declared.fault.StoreFault.{StoreFault}
 use Rattle.frame_service.proofs.Going.{Going}
 use Rattle.frame_service.specs.Serving.{Ends, Exchanged, IsAnswered, IsFailed, replies_encoding}
 use Rattle.frame_service.specs.declared.service.ServeFault.{ServeFault}

@@ -15,7 +15,7 @@ use Rattle.ipc_model.specs.calls.Refusals.{refused_of}
 use Rattle.ipc_model.specs.state.State.{State}
 use Rattle.ipc_model.specs.calls.Step.{Step, number_of_call, succeeded}
 use Rattle.ipc_model.specs.encodings.Encodings.{reply_encoding}
-use Rattle.journal.specs.declared.fault.StoreFault.{StoreFault}
+use Rattle.store_fault.specs.declared.fault.StoreFault.{StoreFault}
 use Rattle.frame_service.specs.declared.service.ServeFault.{ServeFault}
 use Rattle.frame_service.specs.declared.service.ServeFault.TheVariants.{Wire, Store}
 use Rattle.wire.specs.Frame.{IsReadOf}

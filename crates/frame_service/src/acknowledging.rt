@@ -8,8 +8,8 @@ use crate::asking::{Asker, PendingFrame, Ready};
 use crate::taking::{make_last, proceed};
 use calls::MessageRequest;
 use ipc_model::Reply;
-use journal::StoreFault;
 use std::alloc::Global;
+use store_fault::StoreFault;
 
 /// The reply to a frame in hand, once it can be given. A call that waits is made again until it finds something to do,
 /// or may wait no longer.

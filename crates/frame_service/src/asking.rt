@@ -4,13 +4,13 @@ ghost use Rattle.ipc_model.specs.calls.Step.{succeeded};
 ghost use Rattle.ipc_model.specs.declared.call.Call.{Call};
 ghost use Rattle.ipc_model.specs.declared.call.Reply.{Reply};
 ghost use Rattle.ipc_model.specs.encodings.Encodings.{reply_encoding};
-ghost use Rattle.journal.specs.declared.fault.StoreFault.{StoreFault};
+ghost use Rattle.store_fault.specs.declared.fault.StoreFault.{StoreFault};
 ghost use Rattle.frame_service.specs.Asking.{timed_out};
 
 use crate::short_reply::ShortReply;
 use calls::MessageRequest;
 use ipc_model::{Call, Reply};
-use journal::StoreFault;
+use store_fault::StoreFault;
 
 /// The outcome of a frame whose calls were made.
 #[derive(Drop)]

@@ -3,13 +3,13 @@ ghost use Rattle.ipc_model.specs.calls.Step.{has_record};
 ghost use Rattle.ipc_model.specs.declared.call.Call.{Call};
 ghost use Rattle.ipc_model.specs.declared.call.Reply.{Reply};
 ghost use Rattle.ipc_model.specs.encodings.Encodings.{reply_encoding};
-ghost use Rattle.journal.specs.declared.fault.StoreFault.{StoreFault};
+ghost use Rattle.store_fault.specs.declared.fault.StoreFault.{StoreFault};
 ghost use Rattle.frame_service.specs.Serving.{shortage_of};
 
 use codes::{KernReturn, MACH_PORT_NULL, MAX_FRAME_CONTENT};
 use ipc_model::{Call, Reply};
-use journal::StoreFault;
 use std::alloc::Global;
+use store_fault::StoreFault;
 
 /// Makes the calls of a connection.
 pub trait Caller {

@@ -8,9 +8,9 @@ use crate::Caller;
 use calls::{CallFault, Request, read_request, reply_frame};
 use codes::{KernReturn, MACH_PORT_NULL, MAX_FRAME_CONTENT};
 use ipc_model::{Call, Reply};
-use journal::StoreFault;
 use std::alloc::Global;
 use std::io::{Read, Write};
+use store_fault::StoreFault;
 use wire::{Frame, WireFault, read_frame, write_frame};
 
 /// Why a connection ended before the end of its input.

@@ -11,8 +11,8 @@ use Rattle.inspect.specs.declared.fault.ListFault.TheVariants as list
 use Rattle.ipc_model.specs.state.State.{State}
 use Rattle.ipc_model.specs.store.Recovery.{HoldsImage, Recovered}
 use Rattle.ipc_model.specs.encodings.Images.{image_encoding}
-use Rattle.journal.specs.declared.fault.StoreFault.{StoreFault}
-use Rattle.journal.specs.declared.fault.StoreFault.TheVariants as fault
+use Rattle.store_fault.specs.declared.fault.StoreFault.{StoreFault}
+use Rattle.store_fault.specs.declared.fault.StoreFault.TheVariants as fault
 use Rattle.recover.proofs.Stages.{empty_encodes}
 use Rattle.recover.specs.AtRest.{IsAtRest}
 use Rattle.recover.specs.Found.{Reads}

@@ -12,8 +12,8 @@ use Rattle.inspect.specs.declared.fault.ListFault.TheVariants as list
 use Rattle.ipc_model.specs.state.State.{State}
 use Rattle.ipc_model.specs.store.Recovery.{HoldsImage, Recovered}
 use Rattle.ipc_model.specs.encodings.Images.{image_encoding}
-use Rattle.journal.specs.Fault as fault_lines
-use Rattle.journal.specs.declared.fault.StoreFault.TheVariants as store
+use Rattle.store_fault.specs.Fault as fault_lines
+use Rattle.store_fault.specs.declared.fault.StoreFault.TheVariants as store
 use Rattle.recover.specs.AtRest.{IsAtRest}
 use Rattle.recover.specs.Found.{Reads}
 use Rattle.recover.specs.Making.{empty_segment}

@@ -1,8 +1,8 @@
 -- Why a store couldn't be looked at, from the faults of copying it and of looking at the copy.
 use Rattle.inspect.specs.declared.fault.ListFault.{ListFault}
 use Rattle.inspect.specs.declared.fault.ListFault.TheVariants.{Store, Busy}
-use Rattle.journal.specs.declared.fault.StoreFault.{StoreFault}
-use Rattle.journal.specs.declared.fault.StoreFault.TheVariants as store
+use Rattle.store_fault.specs.declared.fault.StoreFault.{StoreFault}
+use Rattle.store_fault.specs.declared.fault.StoreFault.TheVariants as store
 use Rattle.still_disk.specs.declared.fault.CopyFault.{CopyFault}
 use Rattle.still_disk.specs.declared.fault.CopyFault.TheVariants as copy
 

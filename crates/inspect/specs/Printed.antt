@@ -4,7 +4,7 @@ use Rattle.disk.specs.Slots.{Slots}
 use Rattle.inspect.specs.declared.fault.ListFault.{ListFault}
 use Rattle.inspect.specs.declared.fault.ListFault.TheVariants.{Store, Busy}
 use Rattle.ipc_model.specs.state.State.{State}
-use Rattle.journal.specs.declared.fault.StoreFault.TheVariants.{Damaged, Device, NoMemory, Version}
+use Rattle.store_fault.specs.declared.fault.StoreFault.TheVariants.{Damaged, Device, NoMemory, Version}
 use Rattle.listing.specs.Drawing.{drawing}
 use Rattle.listing.specs.Listing.{listing}
 use Rattle.recover.specs.Found.{Reads}

@@ -8,7 +8,7 @@ use Rattle.wire.specs.Writing.{AppendsPart}
 use Rattle.inspect.specs.declared.fault.ListFault.TheVariants.{Store, Busy, Write}
 use Rattle.inspect.specs.declared.program.ShowEnd.{ShowEnd}
 use Rattle.inspect.specs.declared.program.ShowEnd.TheVariants.{Shown, CommandLine, Fault}
-use Rattle.journal.specs.Fault as store
+use Rattle.store_fault.specs.Fault as store
 use Rattle.wire.specs.Fault as wire
 use Rattle.wire.specs.declared.fault.WireFault.TheVariants.{Device}
 

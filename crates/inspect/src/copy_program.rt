@@ -7,12 +7,12 @@ ghost use Rattle.wire.specs.Writing.{AppendsPart};
 use crate::copying::{CopyStoreFault, copy};
 use crate::program::write_line;
 use disk::{Disk, FileDisk};
-use journal::StoreFault;
 use std::alloc::Global;
 use std::fs::{self, File, OpenFile};
 use std::io::{self, ErrorKind, Write};
 use std::path::Path;
 use std::rt::Files;
+use store_fault::StoreFault;
 use wire::WireFault;
 
 /// How a run of `machcp` ends.

@@ -12,9 +12,9 @@ use crate::looking::look_still;
 use checkpoint::Image;
 use disk::{Disk, DiskFault, Slot};
 use image::image_is_of_state;
-use journal::StoreFault;
 use kernel::{Kernel, Snapshot};
 use std::alloc::Global;
+use store_fault::StoreFault;
 
 /// Why a store couldn't be copied.
 #[derive(Clone, Copy, Debug, PartialEq, Eq)]

@@ -1,6 +1,6 @@
-use journal::StoreFault;
 use std::alloc::AllocError;
 use still_disk::CopyFault;
+use store_fault::StoreFault;
 use wire::WireFault;
 
 /// Why a store couldn't be printed.
@@ -43,7 +43,7 @@ impl From<CopyFault> for ListFault {
 impl From<AllocError> for ListFault {
     ghost use Rattle.std.specs.Prelude.{◌≡◌};
     ghost use Rattle.inspect.specs.declared.fault.ListFault.TheVariants.{Store};
-    ghost use Rattle.journal.specs.declared.fault.StoreFault.TheVariants.{NoMemory};
+    ghost use Rattle.store_fault.specs.declared.fault.StoreFault.TheVariants.{NoMemory};
 
     ghost from_gives = { λ _ e. e ≡ Store NoMemory };
 

@@ -10,10 +10,10 @@ ghost use Rattle.still_disk.specs.Still.{still_slots};
 
 use crate::ListFault;
 use disk::Disk;
-use journal::StoreFault;
 use recover::{Looked, look};
 use std::alloc::Global;
 use still_disk::{StillDisk, still_copy};
+use store_fault::StoreFault;
 
 /// Why a look at a copy failed. The copy is in memory, so the fault isn't a device's: memory ran out.
 fn fault_of_copy(fault: StoreFault) -> ListFault

@@ -9,9 +9,9 @@ ghost use Rattle.wire.specs.Writing.{AppendsPart};
 use crate::ListFault;
 use crate::looking::look_still;
 use disk::Disk;
-use journal::StoreFault;
 use std::alloc::Global;
 use std::io::Write;
+use store_fault::StoreFault;
 use wire::write_bytes;
 
 /// Writes the lines of a store, and flushes them: `epoch E records N`; each space with its names; each live port with

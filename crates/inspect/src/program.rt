@@ -5,10 +5,10 @@ ghost use Rattle.wire.specs.Writing.{AppendsPart};
 
 use crate::{ListFault, list, sketch};
 use disk::FileDisk;
-use journal::StoreFault;
 use std::alloc::Global;
 use std::io::Write;
 use std::rt::Files;
+use store_fault::StoreFault;
 use wire::{WireFault, write_bytes};
 
 /// How a run of an inspector ends.

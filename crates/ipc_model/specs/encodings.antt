@@ -1,3 +1,3 @@
 -- Calls, replies, records and images in bytes.
 pub mod Images
-pub mod Texts
+pub mod Encodings

@@ -8,7 +8,7 @@ use Rattle.ipc_model.specs.declared.entry.Entry.TheVariants.{Set, Dead}
 use Rattle.ipc_model.specs.declared.message.PortInMessage.TheVariants as in_message
 use Rattle.ipc_model.specs.declared.message.RightKind.TheVariants as kind
 use Rattle.ipc_model.specs.declared.port.PortState.{PortState}
-use Rattle.ipc_model.specs.rights.CopyOut.{names_wanted}
+use Rattle.ipc_model.specs.rights.CopyOut.{names_needed}
 use Rattle.ipc_model.specs.effects.Effects.{release}
 use Rattle.ipc_model.specs.messages.Receiving.{Receipt, destination_consumed, lacks_names, message_size, without_oldest, without_message, receive_refusal, sources}
 use Rattle.ipc_rows.specs.RowRules.{rows}
@@ -108,17 +108,17 @@ consumed-once = refl
 abbrev pub of_port : List (ℕ × Entry)
 of_port = (0x100, rights_to 1 true 0) ∷ []
 
-pub wanted-known : names_wanted (names_of of_port) [] (live kind.Send 1 ∷ live kind.Send 1 ∷ []) ≡ 0
+pub wanted-known : names_needed (names_of of_port) [] (live kind.Send 1 ∷ live kind.Send 1 ∷ []) ≡ 0
 wanted-known = simp rows
 
-pub wanted-new_port : names_wanted (names_of of_port) []
+pub wanted-new_port : names_needed (names_of of_port) []
     (live kind.Send 2 ∷ live kind.Receive 2 ∷ live kind.Send 2 ∷ []) ≡ 1
 wanted-new_port = simp rows
 
-pub wanted-once : names_wanted (names_of of_port) [] (live kind.SendOnce 1 ∷ live kind.SendOnce 1 ∷ []) ≡ 2
+pub wanted-once : names_needed (names_of of_port) [] (live kind.SendOnce 1 ∷ live kind.SendOnce 1 ∷ []) ≡ 2
 wanted-once = refl
 
-pub wanted-null : names_wanted (names_of of_port) []
+pub wanted-null : names_needed (names_of of_port) []
     ((record { kind = kind.Send; port = in_message.Null }) ∷ (record { kind = kind.SendOnce; port = in_message.Dead }) ∷
     []) ≡ 0
 wanted-null = refl

@@ -37,7 +37,7 @@ impl IpcState {
     fn next_place(&self, space: u32, set: u32, from: u64) -> Option<u32>
         ensures { IsNextPlace self.now.current space set from result }
     {
-        self.spaces.are_small();
+        self.spaces.show_counts_small();
         if from > u64::from(u32::MAX) {
             return None;
         }

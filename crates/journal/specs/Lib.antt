@@ -1,6 +1,5 @@
 pub mod Batch
 pub mod BatchLaws
-pub mod Fault
 pub mod Readers
 pub mod Reading
 pub mod Storing

@@ -3,14 +3,12 @@
 #![tactic(auto)]
 
 mod batch;
-mod fault;
 mod read;
 mod roll;
 mod segment;
 mod window;
 
 pub use batch::Batch;
-pub use fault::StoreFault;
 pub use read::{PIECE, RecordReader};
 pub use roll::{roll_close, roll_head, roll_open};
 pub use segment::Segment;

@@ -9,7 +9,6 @@ ghost use Rattle.journal.specs.Readers.{place_of};
 ghost use Rattle.journal.specs.Reading.{Leads, IsLast, IsNothing, IsInBatch, IsAfterBatches};
 ghost use Rattle.journal.specs.Windows.{IsOver, IsFull};
 
-use crate::StoreFault;
 use crate::window::{LONGEST_STEP, Window};
 use codes::MAX_RECORDS;
 use disk::{Disk, Slot};
@@ -18,6 +17,7 @@ use record::take_record;
 use slot_steps::OPEN_GATE;
 use std::alloc::{AllocError, Global};
 use std::marker::Model;
+use store_fault::StoreFault;
 use words::{take_long_word, take_word};
 
 /// How many bytes of a segment a reader holds at most.

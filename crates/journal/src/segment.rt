@@ -7,10 +7,11 @@ ghost use Rattle.journal.specs.Batch.{content_of};
 ghost use Rattle.journal.specs.Storing.{IsMidStore};
 ghost use Rattle.slot_steps.specs.Steps.{segment_slot as slot_of_epoch};
 
-use crate::{Batch, StoreFault};
+use crate::Batch;
 use codes::MAX_RECORDS;
 use disk::{Disk, DiskFault, Slot};
 use slot_steps::{OPEN_GATE, segment_slot};
+use store_fault::StoreFault;
 
 /// The segment in use: its epoch, and how many records it holds. A closed gate stands after them.
 #[derive(Clone, Copy, PartialEq, Eq)]

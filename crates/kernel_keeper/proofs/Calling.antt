@@ -10,8 +10,8 @@ use Rattle.ipc_model.specs.declared.record.Record.{Record}
 use Rattle.ipc_model.specs.state.State.{State}
 use Rattle.kernel_keeper.specs.Keeping.{Applies, IsKernelCore, entries_of_call}
 use Rattle.kernel_keeper.specs.Tokens.{entry_by}
-use Rattle.system.proofs.Blocks.{Grows, grown}
-use Rattle.system.specs.KernelCore.{Wait}
+use Rattle.system.proofs.Logs.{Grows, grown}
+use Rattle.system.specs.Core.{Wait}
 use Rattle.system.specs.Halves.{Gives, KernelValue, TicketValue, entry_of}
 
 pub counted : (entries : List Entry) → length (records_of entries) ≡ length entries

@@ -11,7 +11,7 @@ use Rattle.kernel_keeper.proofs.Taking.{recorded_of}
 use Rattle.store_keeper.specs.Storing.{IsEnd}
 use Rattle.store_half.specs.Values.{CutValue}
 use Rattle.system.proofs.Lists.{drop_long, take_end, take_long}
-use Rattle.system.proofs.Blocks.{drop_past, holds_as, holds_none}
+use Rattle.system.proofs.Logs.{drop_past, holds_as, holds_none}
 use Rattle.system.specs.Halves.{Cuts, KernelValue, next_log}
 
 module _ (base : State) (half new : KernelValue) (entries : List Entry) (opened earlier taken older : ℕ)

@@ -10,7 +10,7 @@ use Rattle.ipc_model.specs.declared.call.Reply.{Reply}
 use Rattle.ipc_model.specs.state.State.{State}
 use Rattle.kernel_keeper.specs.Tokens.{entry_by, with_entry, IsHistory}
 use Rattle.store_keeper.specs.Storing.{EndValue, LoadValue}
-use Rattle.system.specs.KernelCore.{Counts, IsApplied, Wait}
+use Rattle.system.specs.Core.{Counts, IsApplied, Wait}
 use Rattle.system.specs.Halves.{Cuts, Gives, KernelValue, TakesBatch, TicketValue, first_half, kernel_code}
 
 -- The half that makes calls, and the history (none while a call is being made). Of the records that were made since the

@@ -24,9 +24,9 @@ use Rattle.ipc_model.specs.state.State.{is_number}
 use Rattle.live_ports.specs.Changed.{messages_at, messages_in}
 use Rattle.live_ports.specs.PortTable.{PortTable}
 use Rattle.live_ports.specs.Seen.{Ports, is_to, reply_is_to, mentions, queue_after_death}
-use Rattle.pair_counts.specs.Counts.{Counts, count_at, or_zero, key, with_count, count_with, eq_cmp}
-use Rattle.pair_counts.specs.Rights.{AreCounted, counted_same, right_weight, turned}
-use Rattle.place_index.specs.Indexed.{IsIndexed, alike_indexed}
+use Rattle.port_indexes.specs.Counts.{Counts, count_at, or_zero, key, with_count, count_with, eq_cmp}
+use Rattle.port_indexes.specs.Rights.{AreCounted, counted_same, right_weight, turned}
+use Rattle.port_indexes.specs.Indexed.{IsIndexed, alike_indexed}
 use Rattle.ports.specs.Counting.{Fit, AreCarried, in_queue, receives, received, carried_in, messages_fewer, queue_fewer, messages_counted_fewer, queue_carried_fewer}
 use Rattle.ports.specs.Indexes.{AreSmall, AreIndexed, present_parts, no_senders_of, destroyed_of, target_at, carried_by, carried_at, weighed}
 use Rattle.ports.specs.Requests.{IsUntargeted}

@@ -9,7 +9,7 @@ use Rattle.ipc_model.specs.declared.port.PortState.{PortState}
 use Rattle.ipc_model.specs.state.Circular.{carries, is_receive_right}
 use Rattle.live_ports.specs.PortTable.{PortTable}
 use Rattle.live_ports.specs.Seen.{Ports}
-use Rattle.pair_counts.specs.Counts.{count_at, IsLeast}
+use Rattle.port_indexes.specs.Counts.{count_at, IsLeast}
 use Rattle.port_space.specs.Finding.{first_entry, no_entry}
 use Rattle.ports.specs.Counting.{receives, received}
 use Rattle.ports.specs.Indexes.{Parts, AreIndexed, carried_by, carried_at}

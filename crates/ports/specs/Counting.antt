@@ -14,8 +14,8 @@ use Rattle.ipc_model.specs.declared.message.RightKind.TheVariants as kind
 use Rattle.ipc_model.specs.state.Circular.{is_port, is_receive_right}
 use Rattle.ipc_model.specs.state.Placed.{same_kind}
 use Rattle.live_ports.specs.Seen.{is_to, reply_is_to, mentions}
-use Rattle.pair_counts.specs.Counts.{Counts, count_at}
-use Rattle.pair_counts.specs.Rights.{AreCounted, one_more, one_fewer, right_more, right_fewer, count_more, count_fewer, counted_more, counted_fewer, counted_same, turned}
+use Rattle.port_indexes.specs.Counts.{Counts, count_at}
+use Rattle.port_indexes.specs.Rights.{AreCounted, one_more, one_fewer, right_more, right_fewer, count_more, count_fewer, counted_more, counted_fewer, counted_same, turned}
 
 -- adds a right that a message carries, if it is one
 abbrev pub place_more : Counts → RightKind → PortInMessage → Counts

@@ -16,10 +16,10 @@ use Rattle.live_ports.specs.declared.port.PortNumbers.{PortNumbers}
 use Rattle.live_ports.specs.PortTable.{PortTable}
 use Rattle.live_ports.specs.Seen.{Ports, mentions, AreLive}
 use Rattle.live_ports.specs.SeenLaws.{get_changed}
-use Rattle.pair_counts.specs.Counts.{Counts, count_at, or_zero, key, eq_cmp}
-use Rattle.pair_counts.specs.Rights.{AreCounted, counted_same, turned}
-use Rattle.place_index.specs.Places.{Numbers, moved}
-use Rattle.place_index.specs.Indexed.{IsIndexed, nothing_indexed, place_moved, alike_indexed}
+use Rattle.port_indexes.specs.Counts.{Counts, count_at, or_zero, key, eq_cmp}
+use Rattle.port_indexes.specs.Rights.{AreCounted, counted_same, turned}
+use Rattle.port_indexes.specs.Places.{Numbers, moved}
+use Rattle.port_indexes.specs.Indexed.{IsIndexed, nothing_indexed, place_moved, alike_indexed}
 use Rattle.ports.specs.Counting.{Fit, in_queue, received, target_fewer, target_more, carriers_carried_more, message_counted_more, target_counted_fewer, target_counted_more}
 use Rattle.ports.specs.Indexes.{Parts, TargetsFit, AreSmall, AreIndexed, SameBefore, AreAtRest, AreRetargeted, AreOfMore, former_parts, present_parts, no_senders_of, destroyed_of, target_at, carried_by, carried_at, weighed}
 use Rattle.ports.specs.declared.indexes.PortIndexes.{PortIndexes}

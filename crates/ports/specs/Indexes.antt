@@ -9,10 +9,10 @@ use Rattle.ipc_model.specs.declared.port.PortState.{PortState}
 use Rattle.live_ports.specs.declared.port.PortNumbers.{PortNumbers}
 use Rattle.live_ports.specs.PortTable.{PortTable}
 use Rattle.live_ports.specs.Seen.{Ports, mentions}
-use Rattle.pair_counts.specs.Counts.{Counts}
-use Rattle.pair_counts.specs.Rights.{AreCounted}
-use Rattle.place_index.specs.Places.{Numbers, moved}
-use Rattle.place_index.specs.Indexed.{IsIndexed}
+use Rattle.port_indexes.specs.Counts.{Counts}
+use Rattle.port_indexes.specs.Rights.{AreCounted}
+use Rattle.port_indexes.specs.Places.{Numbers, moved}
+use Rattle.port_indexes.specs.Indexed.{IsIndexed}
 use Rattle.ports.specs.Counting.{Fit, TargetFits, AreCarried, carried_in, carriers_more, message_more, messages_fewer, queue_fewer, target_fewer, target_more}
 use Rattle.ports.specs.declared.indexes.PortIndexes.{PortIndexes}
 use Rattle.tracked_map.specs.Tracked.{at_rest}

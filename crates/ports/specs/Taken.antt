@@ -10,9 +10,9 @@ use Rattle.ipc_model.specs.declared.port.PortState.{PortState}
 use Rattle.live_ports.specs.Changed.{changed, messages_at, messages_in, without_first}
 use Rattle.live_ports.specs.PortTable.{PortTable}
 use Rattle.live_ports.specs.Seen.{Ports, mentions}
-use Rattle.pair_counts.specs.Counts.{Counts, count_at, eq_cmp}
-use Rattle.pair_counts.specs.Rights.{AreCounted, counted_same, turned}
-use Rattle.place_index.specs.Indexed.{IsIndexed, alike_indexed}
+use Rattle.port_indexes.specs.Counts.{Counts, count_at, eq_cmp}
+use Rattle.port_indexes.specs.Rights.{AreCounted, counted_same, turned}
+use Rattle.port_indexes.specs.Indexed.{IsIndexed, alike_indexed}
 use Rattle.ports.specs.Counting.{Fit, in_queue, received, carried_in, messages_counted_fewer, queue_carried_fewer}
 use Rattle.ports.specs.IndexLaws.{changed_there, target_changed, target_there, carried_changed, carried_there, small_changed}
 use Rattle.ports.specs.Indexes.{AreIndexed, AreOfFewer, present_parts, no_senders_of, destroyed_of, target_at, carried_by, carried_at, weighed}

@@ -7,7 +7,7 @@ ghost use Rattle.ports.specs.Counting.{carried_fewer, carrier_fewer, carriers_fe
 
 use ipc_model::{CarriedRight, Message, PortInMessage, RightKind};
 use live_ports::LivePorts;
-use pair_counts::PairCounts;
+use port_indexes::PairCounts;
 use std::alloc::AllocError;
 
 /// Uncounts the rights of the messages in a port's queue.

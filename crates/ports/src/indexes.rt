@@ -10,8 +10,7 @@ use crate::burials::{clear_carriers, subtract_oldest, subtract_queue};
 use crate::rights::{add_body, add_reply};
 use ipc_model::{Message, RightKind};
 use live_ports::{LivePorts, PortNumbers};
-use pair_counts::PairCounts;
-use place_index::PlaceIndex;
+use port_indexes::{PairCounts, PlaceIndex};
 use std::alloc::{AllocError, Global};
 
 /// The rights that messages in queues are and carry, and that requests have as targets, counted by the ports that they

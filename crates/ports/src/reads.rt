@@ -10,7 +10,7 @@ ghost use Rattle.ipc_model.specs.state.Lawful.{AreShort};
 ghost use Rattle.live_ports.specs.Changed.{messages_at, numbers_of};
 ghost use Rattle.live_ports.specs.Noted.{AreNoted};
 ghost use Rattle.live_ports.specs.Seen.{seen_message, seen_right, lives_in};
-ghost use Rattle.pair_counts.specs.Rights.{right_weight};
+ghost use Rattle.port_indexes.specs.Rights.{right_weight};
 
 use crate::Ports;
 use ipc_model::{CarriedRight, Message};

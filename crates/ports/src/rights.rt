@@ -3,7 +3,7 @@ ghost use Rattle.std.specs.Prelude.{◌≡◌, OnOk};
 ghost use Rattle.ports.specs.Counting.{carried_more, carrier_more, carriers_more, reply_more, rights_more};
 
 use ipc_model::{CarriedRight, PortInMessage, RightKind};
-use pair_counts::PairCounts;
+use port_indexes::PairCounts;
 use std::alloc::AllocError;
 
 /// Counts one more reply right.

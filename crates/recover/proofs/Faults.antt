@@ -3,8 +3,8 @@ use Rattle.std.proofs.Common.{◌≡◌, ◌⊎◌, inl, inr, Result, Ok, Err, I
 use Rattle.std.specs.Prelude.{IsErrOf}
 use Rattle.disk.specs.Moments.{MayLeave, Passes, View}
 use Rattle.slot_steps.proofs.Moments.{unchanged_then}
-use Rattle.journal.specs.declared.fault.StoreFault.{StoreFault}
-use Rattle.journal.specs.declared.fault.StoreFault.TheVariants as fault
+use Rattle.store_fault.specs.declared.fault.StoreFault.{StoreFault}
+use Rattle.store_fault.specs.declared.fault.StoreFault.TheVariants as fault
 
 -- a fault of these three is none of the fourth kind
 pub never_version : {T : Type 0} (r : Result T StoreFault)

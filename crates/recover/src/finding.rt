@@ -17,10 +17,10 @@ use crate::headers::Header;
 use crate::loading::load_image;
 use crate::reading::replay_segment;
 use disk::{Disk, DiskFault, Slot};
-use journal::StoreFault;
 use kernel::Kernel;
 use slot_steps::{CLOSED_GATE, OPEN_GATE, SEGMENT_HEADER, image_slot, segment_slot};
 use std::alloc::Global;
+use store_fault::StoreFault;
 
 /// The state after an epoch's image and the records of its segment, how many they are, and where the last batch ends.
 ///

@@ -9,10 +9,10 @@ ghost use Rattle.recover.specs.Loaded.{HoldsEncoding};
 
 use disk::{Disk, DiskFault, Slot};
 use image::{ImageFault, read};
-use journal::StoreFault;
 use kernel::{Kernel, SnapshotFault};
 use slot_steps::IMAGE_HEADER;
 use std::alloc::Global;
+use store_fault::StoreFault;
 use words::take_long_word;
 
 /// How many bytes an image's encoding has, as its header says.

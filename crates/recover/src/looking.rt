@@ -15,10 +15,10 @@ use crate::headers::{Header, read_headers};
 use crate::reading::replay_segment;
 use crate::survey::{Survey, survey_store};
 use disk::Disk;
-use journal::StoreFault;
 use kernel::{Kernel, Snapshot};
 use slot_steps::segment_slot;
 use std::alloc::{AllocError, Global};
+use store_fault::StoreFault;
 
 /// What a store holds.
 #[derive(Drop)]

@@ -21,11 +21,12 @@ use crate::survey::{Survey, survey_store};
 use checkpoint::Image;
 use disk::{Disk, DiskFault};
 use image::image_is_of_state;
-use journal::{Segment, StoreFault};
+use journal::Segment;
 use kernel::Kernel;
 use slot_steps::segment_slot;
 use std::alloc::{AllocError, Global};
 use std::marker::Model;
+use store_fault::StoreFault;
 
 /// A store that is open: the state that it stands for, its disk, and the segment in use, from which it goes on.
 #[derive(Drop)]

@@ -12,10 +12,11 @@ ghost use Rattle.recover.specs.Replayed.{Replays, ReplaysAll};
 use crate::behind::both;
 use disk::{Disk, Slot};
 use ipc_model::Record;
-use journal::{PIECE, RecordReader, StoreFault};
+use journal::{PIECE, RecordReader};
 use kernel::{Kernel, ReplayFault};
 use slot_steps::SEGMENT_HEADER;
 use std::alloc::Global;
+use store_fault::StoreFault;
 
 /// The state after a record.
 ///

@@ -9,7 +9,7 @@ ghost use Rattle.recover.specs.Headers.{IsForeign, SayAll, TellAll};
 ghost use Rattle.recover.specs.Surveyed.{Adjoins, FitsNext, IsLatestOf, Surveys};
 
 use crate::headers::{Header, Headers};
-use journal::StoreFault;
+use store_fault::StoreFault;
 
 /// What a store is, by the headers of its slots.
 #[derive(Clone, Copy)]

@@ -3,9 +3,9 @@
 //! function that owns it.
 
 use disk::{Disk, MemDisk, Slot, Torn};
-use journal::StoreFault;
 use server::{Alone, open, serve};
 use std::alloc::Global;
+use store_fault::StoreFault;
 
 /// A disk that crashes as planned.
 pub trait Device {

@@ -1,7 +1,7 @@
 use disk::Torn;
-use journal::StoreFault;
 use std::alloc::AllocError;
 use std::fmt;
+use store_fault::StoreFault;
 
 /// Why a frame has no reply.
 #[derive(Clone, Copy)]

@@ -9,8 +9,8 @@ use Rattle.ipc_model.specs.declared.call.Reply.{Reply}
 use Rattle.ipc_model.specs.state.State.{State}
 use Rattle.ipc_model.specs.encodings.Encodings.{FitsCall, canonical_record, IsRecord}
 use Rattle.journal.specs.Batch.{BatchValue, Holds}
-use Rattle.journal.specs.declared.fault.StoreFault.{StoreFault}
-use Rattle.journal.specs.declared.fault.StoreFault.TheVariants.{Device, NoMemory}
+use Rattle.store_fault.specs.declared.fault.StoreFault.{StoreFault}
+use Rattle.store_fault.specs.declared.fault.StoreFault.TheVariants.{Device, NoMemory}
 use Rattle.journal.specs.declared.segment.Segment.{Segment}
 use Rattle.system.specs.Passed.{IsReadyBatch, with_more}
 use Rattle.system.specs.Passed.{Keeps}

@@ -1,6 +1,6 @@
 -- How a run of the program for many connections ends.
 use Rattle.std.specs.Prelude.{ℕ, List, codes}
-use Rattle.journal.specs.declared.fault.StoreFault.TheVariants.{Device}
+use Rattle.store_fault.specs.declared.fault.StoreFault.TheVariants.{Device}
 use Rattle.server.specs.Program as lone
 use Rattle.server.specs.declared.ending.SocketEnd.{SocketEnd}
 use Rattle.server.specs.declared.ending.SocketEnd.TheVariants.{Socket, InUse, Unlockable, Store}

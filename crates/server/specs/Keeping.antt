@@ -10,8 +10,8 @@ use Rattle.ipc_model.specs.state.State.{State}
 use Rattle.ipc_model.specs.state.StateCode.{state_code}
 use Rattle.ipc_model.specs.calls.Step.{Step, has_record}
 use Rattle.ipc_model.specs.history.History.{space_after}
-use Rattle.journal.specs.declared.fault.StoreFault.{StoreFault}
-use Rattle.journal.specs.declared.fault.StoreFault.TheVariants.{Device, Failed}
+use Rattle.store_fault.specs.declared.fault.StoreFault.{StoreFault}
+use Rattle.store_fault.specs.declared.fault.StoreFault.TheVariants.{Device, Failed}
 use Rattle.ipc_model.specs.store.Recovery.{Recovered}
 use Rattle.store_layout.specs.Standing.{as_written}
 use Rattle.system.specs.GoingOn.{GoesOn, TakesMemory}

@@ -1,9 +1,9 @@
 -- How a run of the program for one connection ends: its status, its line of errors, and what was read and written.
 use Rattle.std.specs.Prelude.{◌≡◌, ◌≢◌, ◌⊎◌, ℕ, false, List, [], ◌++◌, Option, Some, Result, Ok, Err, codes}
 use Rattle.disk.specs.Moments.{View}
-use Rattle.journal.specs.Fault as store
-use Rattle.journal.specs.declared.fault.StoreFault.{StoreFault}
-use Rattle.journal.specs.declared.fault.StoreFault.TheVariants.{Device}
+use Rattle.store_fault.specs.Fault as store
+use Rattle.store_fault.specs.declared.fault.StoreFault.{StoreFault}
+use Rattle.store_fault.specs.declared.fault.StoreFault.TheVariants.{Device}
 use Rattle.server.specs.Keeping.{AloneValue, AnswersKept, BreaksKept, FailsKept, IsHeld, RestsKept}
 use Rattle.frame_service.specs.Serving.{Ends}
 use Rattle.server.specs.declared.program.LoneEnd.{LoneEnd}

@@ -13,15 +13,15 @@ ghost use Rattle.ipc_model.specs.calls.Step.{has_record, succeeded};
 ghost use Rattle.ipc_model.specs.encodings.Encodings.{reply_encoding};
 ghost use Rattle.ipc_model.specs.declared.call.Call.{Call};
 ghost use Rattle.ipc_model.specs.declared.call.Reply.{Reply};
-ghost use Rattle.journal.specs.declared.fault.StoreFault.{StoreFault};
+ghost use Rattle.store_fault.specs.declared.fault.StoreFault.{StoreFault};
 
 use codes::{CHECKPOINT_RECORDS, FIRST_SPACE, MAX_FRAME_CONTENT};
 use disk::Disk;
 use frame_service::{Caller, shortage};
 use ipc_model::{Call, Reply};
-use journal::StoreFault;
 use std::alloc::Global;
 use std::marker::Model;
+use store_fault::StoreFault;
 use system::{CallFault, Opened, System};
 
 /// The caller of a single connection: the core over an opened store that nobody else uses.

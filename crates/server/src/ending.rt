@@ -4,8 +4,8 @@ ghost use Rattle.server.specs.Ending.{line_of};
 ghost use Rattle.wire.specs.Writing.{AppendsPart};
 
 use crate::{LoneEnd, ServeFault};
-use journal::StoreFault;
 use std::io::Write;
+use store_fault::StoreFault;
 use wire::{WireFault, write_bytes};
 
 /// How a run of the program for many connections ends.

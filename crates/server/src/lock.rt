@@ -5,10 +5,10 @@ ghost use Rattle.server.specs.Ending as socket;
 
 use crate::{LoneEnd, ServeFault, SocketEnd};
 use disk::FileDisk;
-use journal::StoreFault;
 use std::alloc::Global;
 use std::fs::{File, TryLockError};
 use std::rt::Files;
+use store_fault::StoreFault;
 use system::{Opened, open};
 
 /// An open file that can be locked against other processes. The lock goes with the file, and with the process.

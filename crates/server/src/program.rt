@@ -5,10 +5,10 @@ ghost use Rattle.wire.specs.Writing.{AppendsPart};
 
 use crate::{Alone, LockFile, ServeFault, lock_folder, serve};
 use disk::{Disk, FileDisk};
-use journal::StoreFault;
 use std::alloc::Global;
 use std::io::{Read, Write};
 use std::rt::Files;
+use store_fault::StoreFault;
 use system::{Opened, open};
 use wire::{WireFault, write_bytes};
 

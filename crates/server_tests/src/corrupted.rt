@@ -6,8 +6,8 @@ use crate::inspected::{are_alike, lines_of, listed};
 use crate::store::Store;
 use disk::{Disk, MemDisk, Slot};
 use inspect::ListFault;
-use journal::StoreFault;
 use std::alloc::Global;
+use store_fault::StoreFault;
 use system::{Opened, open};
 
 /// How many corrupted stores can be opened, how many are damaged, and how many are of another version; and how many the

@@ -7,8 +7,6 @@ mod asking;
 #[cfg(test)]
 mod batches;
 #[cfg(test)]
-mod checkpoint_phases;
-#[cfg(test)]
 mod checkpoints;
 #[cfg(test)]
 mod corrupted;
@@ -20,6 +18,8 @@ mod failures;
 mod frames;
 #[cfg(test)]
 mod full_log;
+#[cfg(test)]
+mod image_phases;
 #[cfg(test)]
 mod inspected;
 #[cfg(test)]

@@ -4,9 +4,9 @@ use crate::frames::{ALLOCATED, Run, caller, serve_on, three_calls};
 use crate::store::Store;
 use disk::MemDisk;
 use ipc_model::{Call, Reply};
-use journal::StoreFault;
 use server::{Caller, ServeFault, serve};
 use std::alloc::Global;
+use store_fault::StoreFault;
 
 /// The answer to the second allocation: the name 0x101.
 const ALLOCATED_NEXT: [u8; 16] = [12, 0, 0, 0, 5, 0, 0, 0, 0, 0, 0, 0, 1, 1, 0, 0];

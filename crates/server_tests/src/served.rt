@@ -2,9 +2,9 @@ use crate::expect::same_in_row;
 use crate::frames::{ALLOCATE, ALLOCATED, served};
 use crate::store::Store;
 use disk::{MemDisk, Slot, Torn};
-use journal::StoreFault;
 use server::ServeFault;
 use std::alloc::Global;
+use store_fault::StoreFault;
 use wire::WireFault;
 
 fn after_allocation(alloc: Global, tail: &[u8]) -> Option<Vec<u8>> {

@@ -7,7 +7,7 @@ use Rattle.history.proofs.Beginnings.{begins_records, begins_records_length}
 use Rattle.history.specs.Entries.{Begins, records_of}
 use Rattle.history.specs.declared.entry.Entry.{Entry}
 use Rattle.ipc_laws.specs.HistoryLaws.{legal_is_in_order, legal_stays_legal}
-use Rattle.ipc_model.specs.calls.LoopStep.{Run}
+use Rattle.ipc_model.specs.calls.Step.{Run}
 use Rattle.ipc_model.specs.declared.record.Record.{Record}
 use Rattle.ipc_model.specs.history.History.{Session, Sessions, AllLegal, AreAll, AreApart, Legal, places_of}
 use Rattle.ipc_model.specs.state.State.{State}

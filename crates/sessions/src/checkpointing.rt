@@ -4,10 +4,10 @@ use crate::gate::{Gate, LoopStep};
 use crate::shared::Shared;
 use codes::MAX_RECORDS;
 use disk::Disk;
-use journal::StoreFault;
 use kernel_keeper::{End, EntryBlock, Founding};
 use std::sync::{Arc, Wait};
 use std::time::Clock;
+use store_fault::StoreFault;
 use store_half::Finished;
 use store_keeper::NotBegun;
 

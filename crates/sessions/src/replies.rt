@@ -44,7 +44,7 @@ impl Replies {
 
     /// How many records are stored.
     pub(crate) fn stored(&self) -> u64 {
-        self.store_changed
+        self.stored
     }
 
     /// A batch was taken to be stored. `taken` records were, it included.
@@ -55,7 +55,7 @@ impl Replies {
 
     /// The batch that was taken last is stored, and with it `stored` records. Returns the side of its callers.
     pub(crate) fn store(&mut self, stored: u64) -> Side {
-        self.store_changed = self.store_changed.max(stored);
+        self.stored = self.stored.max(stored);
         self.side
     }
 
@@ -66,7 +66,7 @@ impl Replies {
 
     /// Whether a call that saw `seen` records still waits for its reply.
     pub(crate) fn is_awaited(&self, seen: u64) -> bool {
-        !self.is_over && self.store_changed < seen
+        !self.is_over && self.stored < seen
     }
 
     /// The side at which a call that saw `seen` records waits: that of the batch that was taken last, or of the next one.

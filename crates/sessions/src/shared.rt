@@ -11,7 +11,6 @@ use crate::replies::{Replies, Side};
 use crate::seat::{Bell, Peer, Seat};
 use disk::Disk;
 use ipc_model::{Call, Reply};
-use journal::StoreFault;
 use kernel_keeper::{
     EntryBlock, Founding, KernelKeeper, MOST_SESSIONS, Past, Session, SessionFault,
 };
@@ -20,6 +19,7 @@ use std::sync::ledger::Blank;
 use std::sync::{Arc, Condvar, Mutex, MutexGuard, Wait};
 use std::thread;
 use std::time::{Clock, Duration};
+use store_fault::StoreFault;
 use store_keeper::StoreKeeper;
 use system::{Opened, SubmitFault, Ticket};
 

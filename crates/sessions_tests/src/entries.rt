@@ -26,7 +26,7 @@ pub(crate) fn add_to_both<L: FirstBlock>(
     other: &mut Past<L>,
     space: u32,
 ) -> Option<Result<(), AddFault>> {
-    if past.rows() != other.rows() {
+    if past.blocks() != other.blocks() {
         return None;
     }
     if past.len() != other.len() {

@@ -16,7 +16,7 @@ use ipc_model::{Reply, RightKind, Sequence};
 use std::alloc::{AllocError, Global};
 use words::take_word;
 
-#[tactic(auto, unfolding(ipc_model::specs::texts::Texts::reply_encoding))]
+#[tactic(auto, unfolding(ipc_model::specs::encodings::Encodings::reply_encoding))]
 /// The names of a space, after their number.
 fn read_name_row(alloc: Global, results: &[u8]) -> Result<Option<Reply>, AllocError>
     ensures { IfOk result (λ found. IfSome found
@@ -36,7 +36,7 @@ fn read_name_row(alloc: Global, results: &[u8]) -> Result<Option<Reply>, AllocEr
     }))
 }
 
-#[tactic(auto, unfolding(ipc_model::specs::texts::Texts::reply_encoding))]
+#[tactic(auto, unfolding(ipc_model::specs::encodings::Encodings::reply_encoding))]
 /// The members of a set, after their number.
 fn read_member_row(alloc: Global, results: &[u8]) -> Result<Option<Reply>, AllocError>
     ensures { IfOk result (λ found. IfSome found
@@ -56,7 +56,7 @@ fn read_member_row(alloc: Global, results: &[u8]) -> Result<Option<Reply>, Alloc
     }))
 }
 
-#[tactic(auto, unfolding(ipc_model::specs::texts::Texts::reply_encoding))]
+#[tactic(auto, unfolding(ipc_model::specs::encodings::Encodings::reply_encoding))]
 /// The reply to a call with this number that was done and has one number or two, or nothing, as its results.
 fn read_plain(number: u32, results: &[u8]) -> Option<Reply>
     requires { number ≢ MACH_MSG }
@@ -104,7 +104,7 @@ fn has_no_results(number: u32) -> bool
     !matches!(number, 1 | 2 | 5 | 8 | 13 | 14 | 16 | 18 | 19 | 20)
 }
 
-#[tactic(auto, unfolding(ipc_model::specs::texts::Texts::reply_encoding))]
+#[tactic(auto, unfolding(ipc_model::specs::encodings::Encodings::reply_encoding))]
 /// The reply to a call with this number that was done and has no results.
 fn read_done(number: u32, results: &[u8]) -> Option<Reply>
     ensures { IfSome result (IsReplyTo number (done_encoding number results.now)) }
@@ -115,7 +115,7 @@ fn read_done(number: u32, results: &[u8]) -> Option<Reply>
     None
 }
 
-#[tactic(auto, unfolding(ipc_model::specs::texts::Texts::reply_encoding))]
+#[tactic(auto, unfolding(ipc_model::specs::encodings::Encodings::reply_encoding))]
 /// The reply to a call with this number that was refused.
 fn read_refusal(number: u32, code: KernReturn, results: &[u8]) -> Option<Reply>
     requires number { number ≢ MACH_MSG }
@@ -136,7 +136,7 @@ fn keep(alloc: Global, message: &[u8]) -> Result<Sequence<u8>, AllocError>
     Ok(Sequence::new(Vec::from_slice(alloc, message)?))
 }
 
-#[tactic(auto, unfolding(ipc_model::specs::texts::Texts::reply_encoding))]
+#[tactic(auto, unfolding(ipc_model::specs::encodings::Encodings::reply_encoding))]
 /// The reply to a `mach_msg`, after its code.
 fn read_message(
     alloc: Global,

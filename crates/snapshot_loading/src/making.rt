@@ -70,7 +70,7 @@ pub fn restore(alloc: Global, snapshot: &Snapshot) -> Result<IpcState, SnapshotF
     let mut state = IpcState::new(alloc);
     match fill(alloc, &mut state, snapshot) {
         Ok(()) => {
-            state.keep();
+            state.commit();
             Ok(state)
         }
         Err(fault) => {

@@ -2,7 +2,7 @@
 use Rattle.std.proofs.Common.{◌≡◌, ◌⊎◌, ℕ, List, [], Option, refl, sym, subst, inl, inr}
 use Rattle.std.proofs.KnownBytes.{Appends-nil, Keeps-refl}
 use Rattle.socket_server.specs.Reporting.{HasReported, ready_line}
-use Rattle.journal.specs.declared.fault.StoreFault.TheVariants.{NoMemory}
+use Rattle.store_fault.specs.declared.fault.StoreFault.TheVariants.{NoMemory}
 use Rattle.server.specs.declared.ending.SocketEnd.{SocketEnd}
 use Rattle.server.specs.declared.ending.SocketEnd.TheVariants.{Socket, Store}
 

@@ -1,7 +1,7 @@
 -- What a server on a socket has written to its output when it ends.
 use Rattle.std.specs.Prelude.{◌≡◌, ◌⊎◌, ℕ, List, Option, codes}
 use Rattle.std.specs.Io.KnownBytes.{Appends, Keeps}
-use Rattle.journal.specs.declared.fault.StoreFault.TheVariants.{NoMemory}
+use Rattle.store_fault.specs.declared.fault.StoreFault.TheVariants.{NoMemory}
 use Rattle.server.specs.declared.ending.SocketEnd.{SocketEnd}
 use Rattle.server.specs.declared.ending.SocketEnd.TheVariants.{Socket, InUse, Unlockable, Store}
 use Rattle.wire.specs.Writing.{AppendsPart}

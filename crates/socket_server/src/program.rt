@@ -9,7 +9,6 @@ use crate::threads::{accept, start_loops};
 use crate::watch::start_watch;
 use codes::MAX_RECORDS;
 use disk::Disk;
-use journal::StoreFault;
 use server::SocketEnd;
 use sessions::{EntryBlock, Founding, MOST_SESSIONS, OpenGate, Shared};
 use std::alloc::{AllocGlobal, Global};
@@ -22,6 +21,7 @@ use std::sync::ledger::Blank;
 use std::sync::{Arc, Wait};
 use std::thread::Threads;
 use std::time::Clock;
+use store_fault::StoreFault;
 use system::Opened;
 use wire::{WireFault, write_bytes};
 

@@ -4,7 +4,6 @@ use crate::watch::Watch;
 use codes::CHECKPOINT_RECORDS;
 use disk::Disk;
 use frame_service::serve_asked;
-use journal::StoreFault;
 use sessions::{Founding, OpenGate, Seat, Shared};
 use socket_session::{Connected, SocketPeer};
 use std::alloc::{AllocGlobal, Global};
@@ -14,6 +13,7 @@ use std::os::unix::net::{UnixListener, UnixStream};
 use std::sync::{Arc, Wait};
 use std::thread::{self, Threads};
 use std::time::{Clock, Duration};
+use store_fault::StoreFault;
 
 /// How many seconds a peer may leave unread what it was sent before its connection is closed.
 const PATIENCE_SECONDS: u64 = 5;

@@ -11,11 +11,11 @@ use codes::KernReturn;
 use disk::Disk;
 use frame_service::Asker;
 use ipc_model::{Call, Reply};
-use journal::StoreFault;
 use sessions::{Founding, Peer, Seat, Session, Shared, Waited};
 use std::marker::Model;
 use std::sync::Wait;
 use std::time::Clock;
+use store_fault::StoreFault;
 use system::Ticket;
 
 /// The caller of a connection among others: a session of a shared store.

@@ -7,9 +7,9 @@ use Rattle.std.specs.FinMap.{empty, get, insert, remove, get-empty, get-insert, 
 use Rattle.ipc_model.specs.declared.entry.Entry.{Entry}
 use Rattle.ipc_model.specs.state.State.{Names, is_number, request_of, received_port}
 use Rattle.ipc_laws.specs.MapSums.{key_is}
-use Rattle.place_index.specs.Places.{Numbers, moved, IsNext}
-use Rattle.place_index.specs.Indexed.{IsIndexed, nothing_indexed, place_moved, alike_indexed}
-use Rattle.pair_counts.specs.Counts.{Counts}
+use Rattle.port_indexes.specs.Places.{Numbers, moved, IsNext}
+use Rattle.port_indexes.specs.Indexed.{IsIndexed, nothing_indexed, place_moved, alike_indexed}
+use Rattle.port_indexes.specs.Counts.{Counts}
 use Rattle.spaces.specs.Counting.{AreWords, SpacesAreCounted, entry_fewer, entry_more, moved_counted, nothing_counted}
 use Rattle.spaces.specs.declared.indexes.NameIndexes.{NameIndexes}
 use Rattle.spaces.specs.Laws.{get_names_changed}

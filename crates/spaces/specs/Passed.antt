@@ -1,7 +1,7 @@
 -- What the crates above use of the libraries below, so that they name only one of them.
-pub use Rattle.pair_counts.specs.Rights.{right_weight}
-pub use Rattle.place_index.specs.Indexed.{IsIndexed, alike_indexed, nothing_indexed, place_moved}
-pub use Rattle.place_index.specs.Places.{IsNext, Numbers, moved, stands_at}
+pub use Rattle.port_indexes.specs.Rights.{right_weight}
+pub use Rattle.port_indexes.specs.Indexed.{IsIndexed, alike_indexed, nothing_indexed, place_moved}
+pub use Rattle.port_indexes.specs.Places.{IsNext, Numbers, moved, stands_at}
 pub use Rattle.port_space.specs.References.{AreFewReferences}
 pub use Rattle.port_space.specs.Renaming.{under_other_name}
 pub use Rattle.port_space.specs.Walking.{

@@ -3,7 +3,7 @@ ghost use Rattle.std.specs.Prelude.{◌≡◌, ◌<◌, ◌^◌, OnOk};
 ghost use Rattle.spaces.specs.Counting.{AreWords, IsWordIfSome, entry_fewer, entry_more, send_fewer, send_more, target_fewer, target_more};
 
 use ipc_model::{Entry, RightKind};
-use pair_counts::PairCounts;
+use port_indexes::PairCounts;
 use std::alloc::AllocError;
 
 /// Counts what a name stands for, and no longer what it stood for.

@@ -8,8 +8,7 @@ ghost use Rattle.tracked_map.specs.Tracked.{at_rest};
 
 use crate::counting::{are_words, count_anew};
 use ipc_model::Entry;
-use pair_counts::PairCounts;
-use place_index::PlaceIndex;
+use port_indexes::{PairCounts, PlaceIndex};
 use std::alloc::{AllocError, Global};
 
 /// The places of names, each a space's number and the name as one number: by the port whose receive right a name holds,

@@ -14,6 +14,6 @@ mod spaces;
 mod table;
 mod walks;
 
-pub use place_index::PlaceIndex;
+pub use port_indexes::PlaceIndex;
 pub use spaces::Spaces;
 pub use table::SpaceTable;

@@ -6,8 +6,8 @@ use Rattle.disk.specs.Slots.{Slots, slot_of, with_slot}
 use Rattle.ipc_model.specs.store.Store.{IsClosed, IsMidAppend, closed_gate, epoch_encoding, open_gate, with_batch}
 use Rattle.ipc_model.specs.world.World.{pieces_of}
 use Rattle.journal.specs.Batch.{BatchValue, content_of}
-use Rattle.journal.specs.declared.fault.StoreFault.{StoreFault}
-use Rattle.journal.specs.declared.fault.StoreFault.TheVariants.{Device, Failed, NoMemory}
+use Rattle.store_fault.specs.declared.fault.StoreFault.{StoreFault}
+use Rattle.store_fault.specs.declared.fault.StoreFault.TheVariants.{Device, Failed, NoMemory}
 use Rattle.slot_steps.specs.Steps.{HasSomeGate, IsClosing, IsShut, IsStillClosed, image_slot, segment_slot}
 use Rattle.store_half.specs.Values.{CheckpointValue, StoreValue}
 

@@ -1,8 +1,8 @@
 -- How a device's count of failures grows by a step: by one where the step says that the device failed, else not at all.
 use Rattle.std.specs.Prelude.{ℕ, Result, Ok, Err}
 use Rattle.disk.specs.Moments.{one_more}
-use Rattle.journal.specs.declared.fault.StoreFault.{StoreFault}
-use Rattle.journal.specs.declared.fault.StoreFault.TheVariants.{Device, Full, Damaged, NoMemory, Failed, Version}
+use Rattle.store_fault.specs.declared.fault.StoreFault.{StoreFault}
+use Rattle.store_fault.specs.declared.fault.StoreFault.TheVariants.{Device, Full, Damaged, NoMemory, Failed, Version}
 
 abbrev pub counted_fault : StoreFault → ℕ → ℕ
 counted_fault Device failures = one_more failures

@@ -11,9 +11,10 @@ use crate::receipt::{Finished, Receipt};
 use crate::under_way::{Checkpoint, Cut, Making};
 use checkpoint::Image;
 use disk::Disk;
-use journal::{Batch, Segment, StoreFault, roll_close, roll_head, roll_open};
+use journal::{Batch, Segment, roll_close, roll_head, roll_open};
 use std::alloc::Global;
 use std::marker::Model;
+use store_fault::StoreFault;
 
 /// The half of the core that stores. It knows of calls only what batches and snapshots bring.
 pub struct StoreHalf<D: Disk> {

@@ -6,14 +6,14 @@ use Rattle.ipc_laws.specs.StepsKeep.{one_run}
 use Rattle.ipc_model.specs.calls.Step.{Run}
 use Rattle.ipc_model.specs.state.State.{State}
 use Rattle.history.specs.Entries.{records_of}
-use Rattle.journal.specs.declared.fault.StoreFault.{StoreFault}
+use Rattle.store_fault.specs.declared.fault.StoreFault.{StoreFault}
 use Rattle.checkpoint_phases.proofs.Images.{image_close_keeps, image_close_passes, image_close_fails, piece_keeps, piece_passes, piece_fails, finish_keeps, finish_passes, finish_fails}
 use Rattle.checkpoint_phases.proofs.Rolls.{roll_close_keeps, roll_close_passes, roll_close_fails, roll_head_keeps, roll_head_passes, roll_head_fails, roll_open_keeps, roll_open_passes, roll_open_fails}
 use Rattle.store_keeper.specs.Storing.{IsStoreKeeper, KeptAt, StoreKeeperValue}
 use Rattle.store_keeper.proofs.Storers.{Breaks, Goes, Stepped, stepped}
 use Rattle.store_half.specs.Changes.{CanFinish, CanOpen, ClosesImage, FailsToCloseImage, FailsToFinish, FailsToRollClose, FailsToRollHead, FailsToRollOpen, FailsToWritePiece, Finishes, HasImaged, HasPieceLeft, IsFault, IsFaultOrShortage, IsNotNow, IsRolled, RollsClose, RollsHead, RollsOpen, WritesPiece}
 use Rattle.store_half.specs.Values.{StoreValue}
-use Rattle.system.proofs.Blocks.{fit_take}
+use Rattle.system.proofs.Logs.{fit_take}
 
 module _ {D : Type 0} (honest : Type 0) (view : D → View) (base : State) (old : StoreKeeperValue D)
     (new : StoreValue D) where

@@ -19,8 +19,8 @@ use Rattle.ipc_model.specs.state.State.{State}
 use Rattle.ipc_model.specs.store.Recovery.{Recovered}
 use Rattle.ipc_model.specs.store.Store.{IsMidAppend}
 use Rattle.journal.specs.Batch.{Holds, content_of}
-use Rattle.journal.specs.declared.fault.StoreFault.{StoreFault}
-use Rattle.journal.specs.declared.fault.StoreFault.TheVariants.{Device, Failed, Full}
+use Rattle.store_fault.specs.declared.fault.StoreFault.{StoreFault}
+use Rattle.store_fault.specs.declared.fault.StoreFault.TheVariants.{Device, Failed, Full}
 use Rattle.journal.specs.declared.segment.Segment.{Segment}
 use Rattle.checkpoint_phases.proofs.Appends.{append_keeps, append_mid, begin_keeps, kept_recovered, kept_synced}
 use Rattle.checkpoint_phases.proofs.Passed.{run_join}
@@ -36,7 +36,7 @@ use Rattle.store_layout.specs.Standing.{as_written}
 use Rattle.store_half.specs.Changes.{IsAppended, PassesAppend}
 use Rattle.store_half.specs.Values.{CheckpointValue, StoreValue, begun}
 use Rattle.system.proofs.Lists.{take_long, take_sum, drop_long}
-use Rattle.system.proofs.Blocks.{fit_take, fit_drop, are_take, are_drop}
+use Rattle.system.proofs.Logs.{fit_take, fit_drop, are_take, are_drop}
 use Rattle.system.proofs.Simulation.{no_time}
 
 -- lists: parts of a prefix are parts of the whole

@@ -1,6 +1,6 @@
 -- Why a load isn't stored.
 use Rattle.std.specs.Prelude.{◌≡◌, ◌⊎◌, ⊤}
-use Rattle.journal.specs.declared.fault.StoreFault.TheVariants.{Device, Failed, Full}
+use Rattle.store_fault.specs.declared.fault.StoreFault.TheVariants.{Device, Failed, Full}
 use Rattle.store_keeper.specs.declared.fault.NotStored.{NotStored}
 use Rattle.store_keeper.specs.declared.fault.NotStored.TheVariants.{NotNow, NoMemory, Store}
 

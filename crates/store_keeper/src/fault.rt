@@ -1,4 +1,4 @@
-use journal::StoreFault;
+use store_fault::StoreFault;
 
 /// Why a load wasn't stored.
 #[derive(Clone, Copy, Debug, PartialEq, Eq)]

@@ -6,7 +6,7 @@ ghost use Rattle.history.specs.Entries.{Begins, records_of};
 ghost use Rattle.ipc_model.specs.state.Circular.{Acyclic};
 ghost use Rattle.ipc_model.specs.state.Lawful.{Lawful};
 ghost use Rattle.checkpoint_phases.specs.Passed.{IsKept};
-ghost use Rattle.journal.specs.declared.fault.StoreFault.{StoreFault};
+ghost use Rattle.store_fault.specs.declared.fault.StoreFault.{StoreFault};
 ghost use Rattle.store_keeper.specs.Faults.{IsWhyNotStored};
 ghost use Rattle.store_keeper.specs.Storing.{CanBegin, IsNext, IsRecorded, LosesNothing, StandsFor};
 ghost use Rattle.store_half.specs.Values.{begun};

@@ -7,8 +7,8 @@ ghost use Rattle.store_half.specs.Counting.{counted};
 use crate::StoreKeeper;
 use disk::Disk;
 use history::Founding;
-use journal::StoreFault;
 use std::alloc::Global;
+use store_fault::StoreFault;
 use store_half::Finished;
 
 impl<L: Founding, D: Disk> StoreKeeper<L, D> {

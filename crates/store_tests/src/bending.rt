@@ -2,8 +2,9 @@
 use crate::store::{Store, are_receive, disk_of, keeps};
 use crate::written::{image_of_name, segment_of_name};
 use disk::Slot;
-use journal::{OPEN_GATE, StoreFault};
+use journal::OPEN_GATE;
 use std::alloc::{AllocError, Global};
+use store_fault::StoreFault;
 
 /// The epochs of image 0, image 1, segment 0 and segment 1. A slot without one is empty.
 pub(crate) type Epochs = [Option<u64>; 4];

@@ -3,9 +3,9 @@
 use crate::bending::{Bend, DAMAGED, Epochs, FIVE, FOUR, FOUR_TO_FIVE, Found, NEW, tried};
 use crate::expect::same_in_row;
 use disk::{MemDisk, Slot};
-use journal::StoreFault;
 use std::alloc::Global;
 use std::process::Abort;
+use store_fault::StoreFault;
 
 const VERSION: Found = Err(StoreFault::Version);
 

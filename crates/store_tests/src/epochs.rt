@@ -6,9 +6,10 @@ use crate::making::{SEGMENT, append_allocations, append_from};
 use crate::store::{Store, disk_of, keeps};
 use crate::written::{image_of_name, image_of_none, opened_slot};
 use disk::{Disk, MemDisk, Slot, Torn};
-use journal::{Segment, StoreFault, roll_close, roll_head, roll_open};
+use journal::{Segment, roll_close, roll_head, roll_open};
 use slot_steps::segment_slot;
 use std::alloc::{AllocError, Global};
+use store_fault::StoreFault;
 
 // An epoch's segment. Its slot isn't empty once it is closed.
 fn next_segment<D: Disk>(disk: &mut D, epoch: u64) -> Result<Segment, StoreFault> {

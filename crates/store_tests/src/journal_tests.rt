@@ -4,8 +4,9 @@ use crate::store::{Store, disk_with};
 use crate::streams::{Read, long_segment, records_of};
 use disk::{Disk, MemDisk, Slot};
 use ipc_model::{Call, Reply};
-use journal::{LONGEST_STEP, PIECE, Segment, StoreFault};
+use journal::{LONGEST_STEP, PIECE, Segment};
 use std::alloc::Global;
+use store_fault::StoreFault;
 
 // Appends batches with these numbers of records.
 fn append_all<D: Disk>(

@@ -2,9 +2,9 @@
 use crate::expect::same;
 use crate::store::Store;
 use disk::{Disk, MemDisk};
-use journal::StoreFault;
 use recover::look;
 use std::alloc::Global;
+use store_fault::StoreFault;
 
 /// What a look reports of a store: its epoch, its records, the next serial, and how many spaces it has.
 pub(crate) fn looked<D: Disk>(

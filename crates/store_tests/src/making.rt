@@ -5,10 +5,11 @@ ghost use Rattle.ipc_model.specs.encodings.Encodings.{call_encoding, reply_encod
 
 use disk::Disk;
 use ipc_model::{Call, Record, Reply};
-use journal::{Batch, Segment, StoreFault};
+use journal::{Batch, Segment};
 use record::push_record;
 use slot_steps::segment_slot;
 use std::alloc::Global;
+use store_fault::StoreFault;
 
 /// A segment of epoch 0 with one batch: that of record 0, which is the allocation of the name 0x100.
 pub(crate) static SEGMENT: [u8; 70] = [
@@ -21,7 +22,7 @@ pub(crate) static SEGMENT: [u8; 70] = [
 pub(crate) static NEW_SEGMENT: [u8; 17] = [0x5a, 1, 0, 0, 0, 0, 0, 0, 0, 0, 0, 0, 0, 0, 0, 0, 0];
 
 /// The allocation of a name, done.
-#[tactic(auto, unfolding(ipc_model::specs::encodings::Texts::call_encoding, ipc_model::specs::encodings::Texts::reply_encoding))]
+#[tactic(auto, unfolding(ipc_model::specs::encodings::Encodings::call_encoding, ipc_model::specs::encodings::Encodings::reply_encoding))]
 fn allocation(name: u32) -> Record
     ensures call { length (call_encoding result.call) < 2 ^ 32 }
     ensures reply { length (reply_encoding result.reply) < 2 ^ 32 }

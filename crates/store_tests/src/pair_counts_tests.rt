@@ -1,5 +1,5 @@
 use crate::expect::same;
-use pair_counts::PairCounts;
+use port_indexes::PairCounts;
 
 /// Two of (5, 9), and one of (5, 7) and of (6, 1).
 static COUNTED: [(u64, u64); 4] = [(5, 9), (5, 7), (6, 1), (5, 9)];

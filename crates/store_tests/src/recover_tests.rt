@@ -4,9 +4,10 @@ use crate::making::{NEW_SEGMENT, SEGMENT, append_allocations, segment_of};
 use crate::store::{Store, disk_with};
 use crate::streams::long_segment;
 use disk::{MemDisk, Slot, Torn};
-use journal::{OPEN_GATE, StoreFault};
+use journal::OPEN_GATE;
 use std::alloc::{AllocError, Global};
 use std::process::Abort;
+use store_fault::StoreFault;
 
 // The image of the opening state, epoch 0.
 static IMAGE: [u8; 48] = [

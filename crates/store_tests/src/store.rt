@@ -4,9 +4,10 @@
 
 use disk::{Disk, MemDisk, Slot, Torn};
 use ipc_model::Reply;
-use journal::{Segment, StoreFault};
+use journal::Segment;
 use recover::{Opened, open};
 use std::alloc::Global;
+use store_fault::StoreFault;
 
 /// What is seen of an opened store.
 #[derive(Clone, Copy)]

@@ -6,8 +6,9 @@ ghost use Rattle.journal.specs.Windows.{IsOver};
 use crate::making::SEGMENT;
 use disk::{Disk, Slot};
 use ipc_model::Record;
-use journal::{LONGEST_STEP, RecordReader, StoreFault};
+use journal::{LONGEST_STEP, RecordReader};
 use std::alloc::{AllocError, Global};
+use store_fault::StoreFault;
 
 /// What was read of a segment: its records, and where the last one ends.
 #[derive(Drop)]

@@ -25,7 +25,7 @@ use Rattle.system.specs.Core.{BatchBetween, Between, Checkpoints, HasPlace, IsBe
 use Rattle.system.specs.Halves.{TakenValue}
 use Rattle.system.proofs.Between.{batch_is_out, none_to_append, one_more_receipt, some_is}
 use Rattle.system.proofs.Lists.{drop_long, drop_sum, take_long, take_sum}
-use Rattle.system.proofs.Rows.{are_drop, are_take, fit_drop, fit_take}
+use Rattle.system.proofs.Logs.{are_drop, are_take, fit_drop, fit_take}
 use Rattle.system.proofs.Simulation.{Shows, from_stored, from_told, shows_device, stored_within, unfailed_first, unmoved}
 
 -- which segment is in use, by cases

@@ -16,8 +16,8 @@ use Rattle.ipc_model.specs.encodings.Encodings.{record_encoding}
 use Rattle.journal.specs.Batch.{BatchValue, empty_batch, with_encoding}
 use Rattle.journal.specs.declared.segment.Segment.{Segment}
 use Rattle.slot_steps.specs.Steps.{segment_slot}
-use Rattle.journal.specs.declared.fault.StoreFault.{StoreFault}
-use Rattle.journal.specs.declared.fault.StoreFault.TheVariants.{Device, Failed, Full}
+use Rattle.store_fault.specs.declared.fault.StoreFault.{StoreFault}
+use Rattle.store_fault.specs.declared.fault.StoreFault.TheVariants.{Device, Failed, Full}
 use Rattle.checkpoint_phases.specs.Passed.{unrecorded_step}
 use Rattle.system.specs.Calling.{Calls, CallFails, FailsToStoreAll, IsAlone, IsResting, IsStored, StoresAll}
 use Rattle.store_half.specs.Changes.{IsAppended, PassesAppend}

@@ -26,7 +26,7 @@ use Rattle.system.specs.Core.{Checkpoints, HasPlace, IsBeforeEpoch, IsFinishedCh
 use Rattle.system.specs.Halves.{CanCut, Cuts, KernelValue, next_log}
 use Rattle.system.proofs.Between.{between_with, handed_within, one_finished_more, some_is}
 use Rattle.system.proofs.Lists.{take_end, take_long}
-use Rattle.system.proofs.Rows.{drop_past, fit_take, holds_as, holds_none}
+use Rattle.system.proofs.Logs.{drop_past, fit_take, holds_as, holds_none}
 use Rattle.system.proofs.Simulation.{Shows, and_false, from_stored, from_told, shows_device, shows_failed, shown, unfailed_first, unmoved}
 
 -- The abstract specification's checkpoint, and the store's.

@@ -4,8 +4,8 @@ use Rattle.std.specs.Prelude.{MatchBool, is_some}
 use Rattle.disk.specs.Moments.{View, Passes}
 use Rattle.ipc_model.specs.state.State.{State}
 use Rattle.journal.specs.Batch.{empty_batch}
-use Rattle.journal.specs.declared.fault.StoreFault.{StoreFault}
-use Rattle.journal.specs.declared.fault.StoreFault.TheVariants.{Device, NoMemory}
+use Rattle.store_fault.specs.declared.fault.StoreFault.{StoreFault}
+use Rattle.store_fault.specs.declared.fault.StoreFault.TheVariants.{Device, NoMemory}
 use Rattle.journal.specs.declared.segment.Segment.{Segment}
 use Rattle.checkpoint_phases.specs.Phases.{Keeps}
 use Rattle.checkpoint_phases.proofs.Appends.{begin_keeps}

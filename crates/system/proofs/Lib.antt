@@ -8,7 +8,7 @@ pub mod Lists
 mod OrderLaws
 mod Making
 pub mod Passed
-pub mod Rows
+pub mod Logs
 mod Runs
 pub mod Simulation
 mod Stored

@@ -28,7 +28,7 @@ use Rattle.system.specs.declared.event.Outcome.{Outcome}
 use Rattle.system.specs.Halves.{CannotTake, Gives, KernelValue, TakenValue, TicketValue, with_receipt}
 use Rattle.system.proofs.Between.{append_first, between_with, finish_first, handed_within, nothing_out, receipt_is_out, some_batch, some_is}
 use Rattle.system.proofs.Lists.{answered_here, answered_long, answered_other, drop_long, got_last, got_other, seen_answered, seen_given, take_long}
-use Rattle.system.proofs.Rows.{Grows, drop_at_end, drop_past, drop_take, grown, empty_holds, holds_as, holds_none, take_rest}
+use Rattle.system.proofs.Logs.{Grows, drop_at_end, drop_past, drop_take, grown, empty_holds, holds_as, holds_none, take_rest}
 
 -- small facts
 

@@ -3,8 +3,8 @@ use Rattle.std.proofs.Common.{◌≡◌, ◌⊎◌, inl, inr, ℕ, ◌+◌, ◌<
 use Rattle.codes.specs.declared.limits.TheConstants.{MAX_RECORDS}
 use Rattle.disk.specs.Moments.{View, IsSynced}
 use Rattle.journal.specs.Batch.{BatchValue}
-use Rattle.journal.specs.declared.fault.StoreFault.{StoreFault}
-use Rattle.journal.specs.declared.fault.StoreFault.TheVariants.{Device, Failed, Full}
+use Rattle.store_fault.specs.declared.fault.StoreFault.{StoreFault}
+use Rattle.store_fault.specs.declared.fault.StoreFault.TheVariants.{Device, Failed, Full}
 use Rattle.journal.specs.declared.segment.Segment.{Segment}
 use Rattle.slot_steps.specs.Steps.{segment_slot}
 use Rattle.store_half.specs.Changes.{IsAppended, PassesAppend}

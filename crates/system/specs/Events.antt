@@ -2,8 +2,8 @@
 use Rattle.ipc_model.specs.declared.call.Reply.{Reply}
 use Rattle.ipc_model.specs.store.Faults as fault
 use Rattle.ipc_model.specs.world.World as world
-use Rattle.journal.specs.declared.fault.StoreFault.{StoreFault}
-use Rattle.journal.specs.declared.fault.StoreFault.TheVariants.{Device, Full, Damaged, NoMemory, Failed, Version}
+use Rattle.store_fault.specs.declared.fault.StoreFault.{StoreFault}
+use Rattle.store_fault.specs.declared.fault.StoreFault.TheVariants.{Device, Full, Damaged, NoMemory, Failed, Version}
 use Rattle.system.specs.declared.event.Event.{Event}
 use Rattle.system.specs.declared.event.Event.TheVariants as event
 use Rattle.system.specs.declared.event.Outcome.{Outcome}

@@ -2,7 +2,7 @@
 use Rattle.std.specs.Prelude.{◌≡◌, ℕ}
 use Rattle.disk.specs.Moments.{View}
 use Rattle.ipc_model.specs.declared.call.Call.{Call}
-use Rattle.journal.specs.declared.fault.StoreFault.TheVariants.{Device}
+use Rattle.store_fault.specs.declared.fault.StoreFault.TheVariants.{Device}
 use Rattle.system.specs.Calling.{CallFails}
 use Rattle.system.specs.Core.{SystemValue}
 use Rattle.system.specs.declared.system.CallFault.{CallFault}

@@ -7,8 +7,8 @@ ghost use Rattle.system.specs.Halves.{CanCut};
 
 use crate::system::System;
 use disk::Disk;
-use journal::StoreFault;
 use std::alloc::AllocError;
+use store_fault::StoreFault;
 
 impl<D: Disk> System<D> {
     /// Begins the next epoch, with a snapshot of the state after all calls, and a checkpoint that makes it the epoch's

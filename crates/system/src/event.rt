@@ -1,5 +1,5 @@
 use ipc_model::{Call, Reply};
-use journal::StoreFault;
+use store_fault::StoreFault;
 
 /// What can happen to the core.
 #[derive(Drop)]

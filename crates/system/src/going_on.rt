@@ -4,14 +4,14 @@ ghost use Rattle.disk.specs.Moments.{Passes};
 ghost use Rattle.ipc_model.specs.state.State.{State};
 ghost use Rattle.checkpoint_phases.specs.Phases.{Keeps};
 ghost use Rattle.system.specs.Calling.{IsResting};
-ghost use Rattle.journal.specs.declared.fault.StoreFault.{StoreFault};
+ghost use Rattle.store_fault.specs.declared.fault.StoreFault.{StoreFault};
 ghost use Rattle.store_half.specs.Changes.{HasImaged};
 ghost use Rattle.system.specs.Counting.{counted};
 ghost use Rattle.system.specs.GoingOn.{GoesOn, GoesOnImage, GoesOnPieces, IsFirstStep, IsRolledOver, IsStanding, Recovers, RollsOver, TakesMemory};
 
 use crate::system::System;
 use disk::Disk;
-use journal::StoreFault;
+use store_fault::StoreFault;
 
 impl<D: Disk> System<D> {
     /// What is done between two calls. If the segment in use has at least `records` records and no checkpoint is under

@@ -16,9 +16,9 @@ use crate::ticket::Tickets;
 use checkpoint_phases::Opened;
 use disk::Disk;
 use ipc_model::{Call, Reply};
-use journal::StoreFault;
 use std::alloc::Global;
 use std::marker::Model;
+use store_fault::StoreFault;
 use store_half::{Finished, Receipt, StoreHalf};
 
 /// Why a call of a single caller wasn't answered.

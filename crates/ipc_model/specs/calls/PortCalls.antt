@@ -6,8 +6,8 @@ use Rattle.std.specs.FinMap as finmap
 use Rattle.codes.specs.declared.notification.TheConstants.{MACH_NOTIFY_PORT_DESTROYED, MACH_NOTIFY_NO_SENDERS, MACH_NOTIFY_DEAD_NAME}
 use Rattle.codes.specs.declared.kern_return.KernReturn.{KernReturn}
 use Rattle.codes.specs.declared.kern_return.KernReturn.TheVariants.{NoSpace, InvalidArgument, Failure, ResourceShortage, NotInSet, NameExists, InvalidName, InvalidTask, InvalidRight, InvalidValue, UrefsOverflow, InvalidCapability, RightExists}
-use Rattle.codes.specs.declared.limits.TheConstants.{MAX_NAMES, MAX_SPACES, MAX_SEND_REFERENCES, MAX_DEAD_REFERENCES}
-use Rattle.codes.specs.declared.name.TheConstants.{MACH_PORT_NULL, MAX_QUEUE_LIMIT, FIRST_SPACE}
+use Rattle.codes.specs.declared.limits.TheConstants.{MAX_NAMES, MAX_SPACES, MAX_SEND_REFERENCES, MAX_DEAD_REFERENCES, MAX_QUEUE_LIMIT}
+use Rattle.codes.specs.declared.name.TheConstants.{MACH_PORT_NULL, FIRST_SPACE}
 use Rattle.codes.specs.declared.right.Right.{Right}
 use Rattle.codes.specs.declared.right.Right.TheVariants as right
 use Rattle.codes.specs.Right.{number_of}

@@ -3,8 +3,8 @@
 use Rattle.std.specs.Prelude.{false, ◌∷◌, ◌≡◌, ◌≢◌, ◌⊎◌, ℕ, ◌%◌, ◌^◌, ◌<◌, ◌≤◌, true, ◌==◌, ◌&&◌, List, [], ◌++◌, length, map, flat_map, replicate, All, Contains, count_by, Option, None, Some, Ok, if◌then◌else◌, MatchBool}
 use Rattle.std.specs.Ordering.{nat_cmp}
 use Rattle.std.specs.FinMap as finmap
-use Rattle.codes.specs.declared.limits.TheConstants.{MAX_NAMES, MAX_PORTS, MAX_SPACES, MAX_MESSAGE_SIZE, MAX_MESSAGE_PORTS, MAX_SEND_REFERENCES, MAX_DEAD_REFERENCES}
-use Rattle.codes.specs.declared.name.TheConstants.{MACH_PORT_DEAD, MAX_QUEUE_LIMIT, FIRST_SPACE}
+use Rattle.codes.specs.declared.limits.TheConstants.{MAX_NAMES, MAX_PORTS, MAX_SPACES, MAX_MESSAGE_SIZE, MAX_MESSAGE_PORTS, MAX_SEND_REFERENCES, MAX_DEAD_REFERENCES, MAX_QUEUE_LIMIT}
+use Rattle.codes.specs.declared.name.TheConstants.{MACH_PORT_DEAD, FIRST_SPACE}
 use Rattle.ipc_model.specs.declared.entry.Entry.{Entry}
 use Rattle.ipc_model.specs.declared.entry.Entry.TheVariants.{Port, SendOnce, Set, Dead}
 use Rattle.ipc_model.specs.declared.message.CarriedRight.{CarriedRight}

@@ -3,8 +3,8 @@
 use Rattle.std.specs.Prelude.{◌≡◌, ℕ, ◌+◌, ◌-◌, ◌^◌, ◌<◌, Bool, false, ◌||◌, ◌&&◌, ◌==◌, not, nat_le, List, [], map, filter, find, Option, None, Some, is_some, option_and_then, option_map, if◌then◌else◌}
 use Rattle.std.specs.Ordering.{nat_cmp}
 use Rattle.std.specs.FinMap as finmap
-use Rattle.codes.specs.declared.limits.TheConstants.{MAX_PORTS}
-use Rattle.codes.specs.declared.name.TheConstants.{MACH_PORT_NULL, MACH_PORT_DEAD, DEFAULT_QUEUE_LIMIT, FIRST_SPACE}
+use Rattle.codes.specs.declared.limits.TheConstants.{MAX_PORTS, DEFAULT_QUEUE_LIMIT}
+use Rattle.codes.specs.declared.name.TheConstants.{MACH_PORT_NULL, MACH_PORT_DEAD, FIRST_SPACE}
 use Rattle.codes.specs.Right.{type_bit}
 use Rattle.codes.specs.declared.right.Right.TheVariants as right
 use Rattle.ipc_model.specs.declared.entry.Entry.{Entry}

@@ -1,6 +1,6 @@
 use Rattle.std.proofs.lemmas.Result.{err_from_is_err_and}
 use Rattle.std.proofs.Common.{Err, ap}
-use Rattle.journal.specs.declared.fault.StoreFault.TheVariants.{Damaged}
+use Rattle.store_fault.specs.declared.fault.StoreFault.TheVariants.{Damaged}
 use Rattle.inspect.specs.declared.fault.ListFault.{ListFault}
 use Rattle.inspect.proofs.Copied.{is_copy, told_of_list}
 use Rattle.inspect.proofs.copying.copy.Goals as goal

@@ -3,8 +3,8 @@ use Rattle.disk.specs.Slots.{Slots}
 use Rattle.inspect.specs.Looked.{of_looking}
 use Rattle.inspect.specs.declared.fault.ListFault.TheVariants.{Store}
 use Rattle.ipc_model.specs.store.Recovery.{IsDamaged}
-use Rattle.journal.specs.declared.fault.StoreFault.{StoreFault}
-use Rattle.journal.specs.declared.fault.StoreFault.TheVariants as store
+use Rattle.store_fault.specs.declared.fault.StoreFault.{StoreFault}
+use Rattle.store_fault.specs.declared.fault.StoreFault.TheVariants as store
 use Rattle.recover.specs.Found.{Reads}
 use Rattle.store_layout.specs.Standing.{as_written}
 use Rattle.inspect.proofs.looking.look_still.Goals as goal

@@ -1,6 +1,6 @@
 use Rattle.std.proofs.Common.{◌≡◌, ℕ, ◌<◌, ◌^◌, ◌==◌, false}
 use Rattle.std.specs.FinMap.{len}
-use Rattle.pair_counts.specs.Counts.{count_at}
+use Rattle.port_indexes.specs.Counts.{count_at}
 use Rattle.ports.proofs.burials.clear_carriers.Given as goal
 
 abbrev pub invariant-loop-outer : goal.invariant-loop-outer

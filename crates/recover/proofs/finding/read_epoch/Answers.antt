@@ -6,7 +6,7 @@ use Rattle.ipc_model.specs.store.Recovery.{HoldsImage, IsOfEpoch}
 use Rattle.ipc_model.specs.store.Store.{EncodesBatches}
 use Rattle.recover.specs.Replayed.{ReplaysAll}
 use Rattle.slot_steps.specs.Steps.{image_slot, segment_slot}
-use Rattle.journal.specs.declared.fault.StoreFault.TheVariants as fault
+use Rattle.store_fault.specs.declared.fault.StoreFault.TheVariants as fault
 use Rattle.recover.proofs.Faults.{none_at_error, none_in_error}
 use Rattle.recover.proofs.Ways.{no_run, reads_one}
 use Rattle.slot_steps.proofs.Moments.{unchanged_then}

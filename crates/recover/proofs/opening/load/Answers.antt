@@ -9,7 +9,7 @@ use Rattle.recover.specs.Surveyed.{IsInUse as Uses, IsUnused, Surveys}
 use Rattle.store_layout.specs.Standing.{as_written}
 use Rattle.recover.proofs.Faults.{device_no_damage, never_version, none_at_error, none_in_error, one_of_four, right_err, untouched_then}
 use Rattle.disk.specs.Moments.{one_more}
-use Rattle.journal.specs.declared.fault.StoreFault.TheVariants.{Device}
+use Rattle.store_fault.specs.declared.fault.StoreFault.TheVariants.{Device}
 use Rattle.recover.proofs.Joined.{device_err, leaves_same}
 use Rattle.recover.proofs.opening.load.Goals as goal
 

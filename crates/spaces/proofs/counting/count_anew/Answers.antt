@@ -1,5 +1,5 @@
 use Rattle.std.proofs.Common.{◌∙◌, ap}
-use Rattle.pair_counts.specs.Counts.{Counts}
+use Rattle.port_indexes.specs.Counts.{Counts}
 use Rattle.spaces.specs.Counting.{entry_fewer}
 use Rattle.spaces.proofs.counting.count_anew.Goals as goal
 

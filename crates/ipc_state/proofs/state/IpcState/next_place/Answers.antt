@@ -15,14 +15,14 @@ pub returns-then-from : goal.returns-then-from
 returns-then-from c =
     subst (λ (r : Running). IsNextPlace r.current c.args.space c.args.set c.args.from None) c.self.view_is
     (past_names c.self.inside.spaces.current c.self.inside.ports.current c.self.inside.members.current c.args.space
-    c.args.set c.args.from (omega (arith, c.ranges.space.fits)) c.self.invariant.1 c.are_small.ensures
+    c.args.set c.args.from (omega (arith, c.ranges.space.fits)) c.self.invariant.1 c.show_counts_small.ensures
     (omega (arith, c.if-from.true, c.from.ensures)))
 
 pub returns-in_default : goal.returns-in_default
 returns-in_default c =
     subst (λ (r : Running). IsNextPlace r.current c.args.space c.args.set c.args.from None) c.self.view_is
     (none_found c.self.inside.spaces.current c.self.inside.ports.current c.self.inside.members.current c.args.space
-    c.args.set c.args.from (omega (arith, c.ranges.space.fits)) c.self.invariant.1 c.are_small.ensures
+    c.args.set c.args.from (omega (arith, c.ranges.space.fits)) c.self.invariant.1 c.show_counts_small.ensures
     (at_places c.self.inside.members.current c.place.result c.place-first.result (place c.args.space c.args.set)
     (place c.args.space c.args.from) None c.place.ensures c.place-first.ensures c.in_default.ensures))
 
@@ -31,7 +31,7 @@ returns c =
     subst (λ (r : Running). IsNextPlace r.current c.args.space c.args.set c.args.from (Some (c.in-Some.found % 2 ^ 32)))
     c.self.view_is
     (name_found c.self.inside.spaces.current c.self.inside.ports.current c.self.inside.members.current c.args.space
-    c.args.set c.args.from (omega (arith, c.ranges.space.fits)) c.self.invariant.1 c.are_small.ensures
+    c.args.set c.args.from (omega (arith, c.ranges.space.fits)) c.self.invariant.1 c.show_counts_small.ensures
     c.in-Some.found (omega (arith, c.if-from.false, c.from.ensures))
     (at_places c.self.inside.members.current c.place.result c.place-first.result (place c.args.space c.args.set)
     (place c.args.space c.args.from) (Some c.in-Some.found) c.place.ensures c.place-first.ensures c.in-Some.ensures)

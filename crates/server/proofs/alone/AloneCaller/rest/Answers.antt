@@ -1,5 +1,5 @@
 use Rattle.std.proofs.Common.{rules, ◌≡◌, inl, inr, refl, subst, sym}
-use Rattle.journal.specs.declared.fault.StoreFault.TheVariants.{NoMemory}
+use Rattle.store_fault.specs.declared.fault.StoreFault.TheVariants.{NoMemory}
 use Rattle.system.specs.Calling.{IsResting}
 use Rattle.system.specs.GoingOn.{IsStanding}
 use Rattle.server.proofs.Keeping.{is_of_device, is_wanted, kept_held, no_time}

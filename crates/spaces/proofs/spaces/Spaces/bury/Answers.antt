@@ -18,7 +18,7 @@ loop-place-preserved c =
       notified =
           one_told c.args.port c.args.self.now.current c.loop-place.self.current c.loop-place.at
           c.loop-place.invariant.buried c.in-Some.place c.in-Some-checked_add.next c.loop-place.effects
-          c.bury_at.new.effects _ c.are_small.ensures next c.in-Some.ensures.0 c.in-Some.ensures.1
+          c.bury_at.new.effects _ c.show_counts_small.ensures next c.in-Some.ensures.0 c.in-Some.ensures.1
           c.in-Some.ensures.2 c.in_ok-bury_at.ensures.notified c.loop-place.invariant.notified;
       before = done.1 ∙ c.loop-place.invariant.before;
       fits = omega (arith, c.in-Some-checked_add.ensures);
@@ -32,8 +32,8 @@ returns-in_default-checked_add-clause-ok c =
     c.in-Some.place (2 ^ 64) last c.in-Some.ensures.0 c.in-Some.ensures.1 c.in-Some.ensures.2
     c.in_ok-bury_at.ensures.ok c.loop-place.invariant.buried in
     both _ _ _ _ (done.1 ∙ c.loop-place.invariant.before)
-    (all_buried c.args.port c.args.self.now.current c.bury_at.new.self.current c.are_small.ensures
-    c.are_small-in_default-checked_add.ensures done.0)
+    (all_buried c.args.port c.args.self.now.current c.bury_at.new.self.current c.show_counts_small.ensures
+    c.show_counts_small-in_default-checked_add.ensures done.0)
 
 pub returns-clause-ok : goal.returns-clause-ok
 returns-clause-ok c =
@@ -42,16 +42,16 @@ returns-clause-ok c =
     (omega (arith, c.loop-place.invariant.fits))
     (omega arith) c.in_default.ensures c.loop-place.invariant.buried in
     both _ _ _ _ c.loop-place.invariant.before
-    (all_buried c.args.port c.args.self.now.current c.loop-place.self.current c.are_small.ensures
-    c.are_small-2.ensures all)
+    (all_buried c.args.port c.args.self.now.current c.loop-place.self.current c.show_counts_small.ensures
+    c.show_counts_small-2.ensures all)
 
 pub returns-in_default-checked_add-clause-notified : goal.returns-in_default-checked_add-clause-notified
 returns-in_default-checked_add-clause-notified c =
     let last : 2 ^ 64 ≡ c.in-Some.place + 1 = omega (arith, c.in_default-checked_add.ensures, c.in-Some.ensures.1) in
-    last_told c.args.port c.args.self.now.current c.args.effects.now c.bury_at.new.effects c.are_small.ensures
+    last_told c.args.port c.args.self.now.current c.args.effects.now c.bury_at.new.effects c.show_counts_small.ensures
     (one_told c.args.port c.args.self.now.current c.loop-place.self.current c.loop-place.at
     c.loop-place.invariant.buried c.in-Some.place
-    (2 ^ 64) c.loop-place.effects c.bury_at.new.effects _ c.are_small.ensures last c.in-Some.ensures.0
+    (2 ^ 64) c.loop-place.effects c.bury_at.new.effects _ c.show_counts_small.ensures last c.in-Some.ensures.0
     c.in-Some.ensures.1 c.in-Some.ensures.2 c.in_ok-bury_at.ensures.notified
     c.loop-place.invariant.notified)
     ∙ ap (λ (xs : List Effect). c.args.effects.now ++ xs) (notices_first c.args.port c.args.self.now.current)
@@ -59,5 +59,5 @@ returns-in_default-checked_add-clause-notified c =
 pub returns-clause-notified : goal.returns-clause-notified
 returns-clause-notified c =
     all_told c.args.port c.args.self.now.current c.loop-place.self.current c.loop-place.at c.loop-place.invariant.buried
-    c.args.effects.now c.loop-place.effects c.are_small.ensures c.in_default.ensures c.loop-place.invariant.notified
+    c.args.effects.now c.loop-place.effects c.show_counts_small.ensures c.in_default.ensures c.loop-place.invariant.notified
     ∙ ap (λ (xs : List Effect). c.args.effects.now ++ xs) (notices_first c.args.port c.args.self.now.current)

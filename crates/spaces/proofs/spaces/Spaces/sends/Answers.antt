@@ -1,6 +1,6 @@
 use Rattle.std.proofs.Common.{ap, ◌∙◌}
 use Rattle.ipc_model.specs.declared.message.RightKind.TheVariants as kind
-use Rattle.pair_counts.specs.Rights.{right_weight}
+use Rattle.port_indexes.specs.Rights.{right_weight}
 use Rattle.spaces.specs.Counting.{spaces_weigh}
 use Rattle.spaces.specs.Slots.{TrackedSpaces}
 use Rattle.spaces.proofs.spaces.Spaces.sends.Goals as goal

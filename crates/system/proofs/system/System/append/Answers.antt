@@ -1,7 +1,7 @@
 use Rattle.std.proofs.Common.{◌≡◌, ◌⊎◌, true, Some, sym, ap, subst, ◌∙◌}
 use Rattle.system.specs.Changes.{FailsToStore, FindsFull, Stores}
 use Rattle.system.specs.Core.{SystemValue}
-use Rattle.journal.specs.declared.fault.StoreFault.TheVariants.{Device, Failed, Full}
+use Rattle.store_fault.specs.declared.fault.StoreFault.TheVariants.{Device, Failed, Full}
 use Rattle.system.proofs.Stored.{fails, fails_in_order, stores}
 use Rattle.system.proofs.system.System.append.Goals as goal
 

@@ -3,8 +3,8 @@ use Rattle.system.specs.declared.event.Event.TheVariants as event
 use Rattle.system.specs.declared.event.Outcome.TheVariants as outcome
 use Rattle.std.proofs.Common.{inl, inr, refl, sym, subst}
 use Rattle.ipc_model.specs.world.World as world
-use Rattle.journal.specs.declared.fault.StoreFault.{StoreFault}
-use Rattle.journal.specs.declared.fault.StoreFault.TheVariants.{Device, Failed}
+use Rattle.store_fault.specs.declared.fault.StoreFault.{StoreFault}
+use Rattle.store_fault.specs.declared.fault.StoreFault.TheVariants.{Device, Failed}
 use Rattle.system.specs.Core.{Steps}
 use Rattle.system.proofs.Calls.{match_false, match_true}
 use Rattle.system.proofs.Checkpoints.{failed_step, shows_finish, shows_finish_fails, shows_no_finish}

@@ -1,0 +1,4 @@
+pub mod Counts
+pub mod Indexed
+pub mod Places
+pub mod Rights
