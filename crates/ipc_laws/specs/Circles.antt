@@ -2,7 +2,7 @@
 use Rattle.std.specs.Prelude.{◌≡◌, ℕ, zero, suc, ◌<◌, ◌↔◌, Bool, true, false, ◌||◌, ◌==◌, [], Option, None, Some}
 use Rattle.std.proofs.Common.{refl, subst}
 use Rattle.std.specs.FinMap as finmap
-use Rattle.ipc_model.specs.state.Circular.{carrier_of, meets, is_circular, Carries, Acyclic}
+use Rattle.ipc_model.specs.state.Circular.{carrier_of, meets, is_circular, Carries, Acyclic, LeadsUp, IsCircular}
 use Rattle.ipc_model.specs.state.Lawful.{Lawful}
 use Rattle.ipc_model.specs.state.State.{State}
 use Rattle.ipc_laws.specs.EffectRanks.{travels_once}
@@ -10,27 +10,18 @@ use Rattle.ipc_laws.specs.LawfulLaws.{lawful_is_at_rest}
 use Rattle.ipc_laws.specs.Others.{number_same}
 use Rattle.ipc_laws.specs.Ranks.{carrier_carries, few_above, meets_itself, met_more, one_carrier, TravelsOnce}
 
--- This many hops, each from a port to one whose queue holds its receive right, lead up from one port to another.
-abbrev pub LeadsUp : State → ℕ → ℕ → ℕ → Type 0
-LeadsUp state zero top serial = serial ≡ top
-LeadsUp state (suc hops) top serial = (carrier : ℕ) × Carries state carrier serial × LeadsUp state hops top carrier
-
--- some hops lead up
-abbrev pub IsBelow : State → ℕ → ℕ → Type 0
-IsBelow state top serial = (hops : ℕ) × LeadsUp state hops top serial
-
-leads : (state : State) (hops top serial : ℕ) → meets state hops top serial ≡ true → IsBelow state top serial
+leads : (state : State) (hops top serial : ℕ) → meets state hops top serial ≡ true → IsCircular state top serial
 leads state zero top serial met = (zero, number_same serial top met)
 leads state (suc hops) top serial met =
     elim (serial == top) as (λ (b : Bool). (serial == top) ≡ b
     → (b || elim (carrier_of state serial) as (λ _. Bool)
-    [ None ↦ false | Some carrier ↦ meets state hops top carrier ]) ≡ true → IsBelow state top serial) [
+    [ None ↦ false | Some carrier ↦ meets state hops top carrier ]) ≡ true → IsCircular state top serial) [
       | true ↦ λ (same : _) (_ : _). (zero, number_same serial top same)
       | false ↦ λ (_ : _) (later : _).
           elim (carrier_of state serial)
           as (λ (o : Option ℕ). carrier_of state serial ≡ o
           → elim o as (λ _. Bool) [ None ↦ false | Some carrier ↦ meets state hops top carrier ] ≡ true
-          → IsBelow state top serial) [
+          → IsCircular state top serial) [
             | None ↦ λ (_ : _) (e : _). absurd (cc e)
             | Some carrier ↦ λ (is : _) (e : _).
                 let up = leads state hops top carrier e in
@@ -49,12 +40,12 @@ module _ (rank : ℕ → ℕ) (state : State) (once : TravelsOnce state)
       (met_more rank state grows (finmap.len state.ports) from serial carrier (few_above rank (rank from) state) met
       (one_carrier state once serial carrier carries)) up
 
--- In a lawful and acyclic state, a receive right can't be put into a queue from which hops lead up to its port, and it
--- can be put into any other.
+-- In a lawful and acyclic state what is computed agrees with the definition: a receive right can't be put into a queue
+-- from which a path leads up to its port, and it can be put into any other.
 abbrev pub CirclesLeadUp : Type 0
 CirclesLeadUp =
     (state : State) (serial queue : ℕ) → Lawful state → Acyclic state
-    → (is_circular state serial queue ≡ true) ↔ IsBelow state serial queue
+    → (is_circular state serial queue ≡ true) ↔ IsCircular state serial queue
 
 pub circles_lead_up : CirclesLeadUp
 unfolding is_circular

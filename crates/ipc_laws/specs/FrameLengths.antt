@@ -5,6 +5,7 @@ use Rattle.std.proofs.Common.{refl, sym, ap, subst, ◌∙◌, arith, length-app
 use Rattle.std.proofs.lemmas.List.Sums.{length-filter, count_by-le-length}
 use Rattle.std.specs.FinMap as finmap
 use Rattle.std.specs.FinMap.{len-entries}
+use Rattle.codes.specs.declared.call_number.TheConstants.{ATTACH, MACH_PORT_NAMES, MACH_PORT_TYPE, MACH_PORT_RENAME, MACH_PORT_ALLOCATE_NAME, MACH_PORT_ALLOCATE, MACH_PORT_DESTROY, MACH_PORT_DEALLOCATE, MACH_PORT_GET_REFS, MACH_PORT_MOD_REFS, MACH_PORT_SET_QLIMIT, MACH_PORT_SET_MSCOUNT, MACH_PORT_SET_SEQNO, MACH_PORT_GET_RECEIVE_STATUS, MACH_PORT_GET_SET_STATUS, MACH_PORT_MOVE_MEMBER, MACH_PORT_REQUEST_NOTIFICATION, MACH_PORT_INSERT_RIGHT, MACH_PORT_EXTRACT_RIGHT, MACH_MSG, SPACE_CREATE, SPACE_DESTROY}
 use Rattle.codes.specs.KernReturn.{number_of}
 use Rattle.codes.specs.declared.kern_return.KernReturn.{KernReturn}
 use Rattle.codes.specs.declared.limits.TheConstants.{MAX_NAMES}
@@ -88,26 +89,34 @@ unfolding reply_encoding
 short_within (reply.Refused number code) short = record { bytes = omega (arith, two_words number (number_of code)) }
 short_within (reply.Done number) short = record { bytes = omega (arith, done_length number []) }
 short_within (reply.Names names) short = absurd (cc short)
-short_within (reply.Type bits) short = record { bytes = omega (arith, done_length 2 (word bits), length-word bits) }
-short_within (reply.Allocate name) short = record { bytes = omega (arith, done_length 5 (word name), length-word name) }
+short_within (reply.Type bits) short =
+    record { bytes = omega (arith, done_length MACH_PORT_TYPE (word bits), length-word bits) }
+short_within (reply.Allocate name) short =
+    record { bytes = omega (arith, done_length MACH_PORT_ALLOCATE (word name), length-word name) }
 short_within (reply.References count) short =
-    record { bytes = omega (arith, done_length 8 (word count), length-word count) }
+    record { bytes = omega (arith, done_length MACH_PORT_GET_REFS (word count), length-word count) }
 short_within (reply.ReceiveStatus status) short =
-    record { bytes = omega (arith, done_length 13 (status_encoding status), status_length status) }
+    record {
+      bytes = omega (
+        arith,
+        done_length MACH_PORT_GET_RECEIVE_STATUS (status_encoding status),
+        status_length status,
+      );
+    }
 short_within (reply.SetStatus members) short = absurd (cc short)
 short_within (reply.PreviousTarget name) short =
-    record { bytes = omega (arith, done_length 16 (word name), length-word name) }
+    record { bytes = omega (arith, done_length MACH_PORT_REQUEST_NOTIFICATION (word name), length-word name) }
 short_within (reply.Extracted name kind) short =
     record {
       bytes = omega (
         arith,
-        done_length 18 (word name ++ word (number_of_kind kind)),
+        done_length MACH_PORT_EXTRACT_RIGHT (word name ++ word (number_of_kind kind)),
         two_words name (number_of_kind kind),
       );
     }
 short_within (reply.Message code size member message) short = absurd (cc short)
 short_within (reply.SpaceCreated space name) short =
-    record { bytes = omega (arith, done_length 20 (word space ++ word name), two_words space name) }
+    record { bytes = omega (arith, done_length SPACE_CREATE (word space ++ word name), two_words space name) }
 
 wider : (less most : ℕ) (answer : Reply) → less ≤ most → IsWithin less answer → IsWithin most answer
 wider less most answer le is = record { bytes = omega (arith, le, is.bytes) }
@@ -136,7 +145,7 @@ listed_within names few =
     record {
       bytes = omega (
         arith,
-        done_length 1 (word (length names) ++ pairs),
+        done_length MACH_PORT_NAMES (word (length names) ++ pairs),
         length-append (word (length names)) pairs,
         length-word (length names),
         flat_length 8 (λ (n : NamedType). word n.name ++ word n.bits) named_length names,
@@ -150,7 +159,7 @@ members_within members few =
     record {
       bytes = omega (
         arith,
-        done_length 14 (word (length members) ++ flat_map word members),
+        done_length MACH_PORT_GET_SET_STATUS (word (length members) ++ flat_map word members),
         length-append (word (length members)) (flat_map word members),
         length-word (length members),
         flat_length 4 word length-word members,
@@ -183,15 +192,15 @@ is_listing call.Names = true
 is_listing (call.GetSetStatus name) = true
 is_listing c = false
 
-no_listing_1 : (c : Call) → is_listing c ≡ false → number_of_call c ≢ 1
-no_listing_1 call.Names is = absurd (cc is)
-no_listing_1 (call.GetSetStatus name) is = absurd (cc is)
-no_listing_1 c is = λ same. absurd (omega (arith, same))
+no_listing_names : (c : Call) → is_listing c ≡ false → number_of_call c ≢ MACH_PORT_NAMES
+no_listing_names call.Names is = absurd (cc is)
+no_listing_names (call.GetSetStatus name) is = absurd (cc is)
+no_listing_names c is = λ same. absurd (omega (arith, same))
 
-no_listing_14 : (c : Call) → is_listing c ≡ false → number_of_call c ≢ 14
-no_listing_14 call.Names is = absurd (cc is)
-no_listing_14 (call.GetSetStatus name) is = absurd (cc is)
-no_listing_14 c is = λ same. absurd (omega (arith, same))
+no_listing_members : (c : Call) → is_listing c ≡ false → number_of_call c ≢ MACH_PORT_GET_SET_STATUS
+no_listing_members call.Names is = absurd (cc is)
+no_listing_members (call.GetSetStatus name) is = absurd (cc is)
+no_listing_members c is = λ same. absurd (omega (arith, same))
 
 pub wide : (answer : Reply) → IsWithin 44 answer → IsWithin 32780 answer
 wide answer is = wider 44 32780 answer (omega arith) is
@@ -200,7 +209,7 @@ short_done : (old : State) (space : ℕ) (names : Names) (c : Call) (answer : Re
     → is_listing c ≡ false → Done old space names c answer new effects → IsWithin 32780 answer
 short_done old space names c answer new effects is acts =
     wide answer (short_within answer
-    ((answers_done old space names c answer new effects acts).short (no_listing_1 c is) (no_listing_14 c is)))
+    ((answers_done old space names c answer new effects acts).short (no_listing_names c is) (no_listing_members c is)))
 
 done_within : (old : State) (space : ℕ) (names : Names) (c : Call) (answer : Reply) (new : State)
     (effects : List Effect) → finmap.len names ≤ MAX_NAMES → Done old space names c answer new effects
@@ -228,11 +237,11 @@ message_within code =
     record {
       bytes = omega (
         arith,
-        length-append (word 19) (word (number_of code) ++ results),
+        length-append (word MACH_MSG) (word (number_of code) ++ results),
         length-append (word (number_of code)) results,
         length-append (word 0) (word 0 ++ []),
         length-append (word 0) [],
-        length-word 19,
+        length-word MACH_MSG,
         length-word (number_of code),
         length-word 0,
       );
@@ -281,31 +290,32 @@ six_words a b c d e f = omega (arith, three_more a b c (word d ++ (word e ++ wor
 -- a call of at most five arguments
 pub arguments_within : (c : Call) → is_port_call c ≡ true → length (call_encoding c) ≤ 24
 unfolding call_encoding
-arguments_within (call.Attach space) port = omega (arith, two_words 0 space)
-arguments_within call.Names port = omega (arith, one_word 1)
-arguments_within (call.Type name) port = omega (arith, two_words 2 name)
-arguments_within (call.Rename from to) port = omega (arith, three_words 3 from to)
-arguments_within (call.AllocateName kind name) port = omega (arith, three_words 4 kind name)
-arguments_within (call.Allocate kind) port = omega (arith, two_words 5 kind)
-arguments_within (call.Destroy name) port = omega (arith, two_words 6 name)
-arguments_within (call.Deallocate name) port = omega (arith, two_words 7 name)
-arguments_within (call.GetRefs name kind) port = omega (arith, three_words 8 name kind)
-arguments_within (call.ModRefs name kind delta) port = omega (arith, four_words 9 name kind delta)
-arguments_within (call.SetQlimit name limit) port = omega (arith, three_words 10 name limit)
-arguments_within (call.SetMscount name count) port = omega (arith, three_words 11 name count)
-arguments_within (call.SetSeqno name seqno) port = omega (arith, three_words 12 name seqno)
-arguments_within (call.GetReceiveStatus name) port = omega (arith, two_words 13 name)
-arguments_within (call.GetSetStatus name) port = omega (arith, two_words 14 name)
-arguments_within (call.MoveMember member after) port = omega (arith, three_words 15 member after)
+arguments_within (call.Attach space) port = omega (arith, two_words ATTACH space)
+arguments_within call.Names port = omega (arith, one_word MACH_PORT_NAMES)
+arguments_within (call.Type name) port = omega (arith, two_words MACH_PORT_TYPE name)
+arguments_within (call.Rename from to) port = omega (arith, three_words MACH_PORT_RENAME from to)
+arguments_within (call.AllocateName kind name) port = omega (arith, three_words MACH_PORT_ALLOCATE_NAME kind name)
+arguments_within (call.Allocate kind) port = omega (arith, two_words MACH_PORT_ALLOCATE kind)
+arguments_within (call.Destroy name) port = omega (arith, two_words MACH_PORT_DESTROY name)
+arguments_within (call.Deallocate name) port = omega (arith, two_words MACH_PORT_DEALLOCATE name)
+arguments_within (call.GetRefs name kind) port = omega (arith, three_words MACH_PORT_GET_REFS name kind)
+arguments_within (call.ModRefs name kind delta) port = omega (arith, four_words MACH_PORT_MOD_REFS name kind delta)
+arguments_within (call.SetQlimit name limit) port = omega (arith, three_words MACH_PORT_SET_QLIMIT name limit)
+arguments_within (call.SetMscount name count) port = omega (arith, three_words MACH_PORT_SET_MSCOUNT name count)
+arguments_within (call.SetSeqno name seqno) port = omega (arith, three_words MACH_PORT_SET_SEQNO name seqno)
+arguments_within (call.GetReceiveStatus name) port = omega (arith, two_words MACH_PORT_GET_RECEIVE_STATUS name)
+arguments_within (call.GetSetStatus name) port = omega (arith, two_words MACH_PORT_GET_SET_STATUS name)
+arguments_within (call.MoveMember member after) port = omega (arith, three_words MACH_PORT_MOVE_MEMBER member after)
 arguments_within (call.RequestNotification name variant sync notify_name disposition) port =
-    omega (arith, six_words 16 name variant sync notify_name disposition)
+    omega (arith, six_words MACH_PORT_REQUEST_NOTIFICATION name variant sync notify_name disposition)
 arguments_within (call.InsertRight name right_name disposition) port =
-    omega (arith, four_words 17 name right_name disposition)
-arguments_within (call.ExtractRight name disposition) port = omega (arith, three_words 18 name disposition)
+    omega (arith, four_words MACH_PORT_INSERT_RIGHT name right_name disposition)
+arguments_within (call.ExtractRight name disposition) port =
+    omega (arith, three_words MACH_PORT_EXTRACT_RIGHT name disposition)
 arguments_within (call.Send message) port = absurd (cc port)
 arguments_within (call.Receive limit large name waited) port = absurd (cc port)
-arguments_within (call.SpaceCreate name disposition) port = omega (arith, three_words 20 name disposition)
-arguments_within call.SpaceDestroy port = omega (arith, one_word 21)
+arguments_within (call.SpaceCreate name disposition) port = omega (arith, three_words SPACE_CREATE name disposition)
+arguments_within call.SpaceDestroy port = omega (arith, one_word SPACE_DESTROY)
 
 -- A send's frame, and those of a receive and of what it brings.
 pub send_length : (message : List ℕ) → length (call_encoding (call.Send message)) ≡ 20 + length message
@@ -314,7 +324,7 @@ send_length message =
     let behind : List ℕ = word 0 ++ (word 0 ++ message) in
     omega (
       arith,
-      three_more 19 1 0 behind,
+      three_more MACH_MSG 1 0 behind,
       length-append (word 0) (word 0 ++ message),
       length-append (word 0) message,
       length-word 0,
@@ -326,7 +336,7 @@ unfolding call_encoding
 receive_length limit name large waited =
     omega (
       arith,
-      three_more 19 (receive_option large) limit (word name ++ word (number_of_bool waited)),
+      three_more MACH_MSG (receive_option large) limit (word name ++ word (number_of_bool waited)),
       two_words name (number_of_bool waited),
     )
 
@@ -336,7 +346,7 @@ unfolding reply_encoding
 message_length code size member message =
     omega (
       arith,
-      three_more 19 (number_of code) size (word member ++ message),
+      three_more MACH_MSG (number_of code) size (word member ++ message),
       length-append (word member) message,
       length-word member,
     )

@@ -7,7 +7,7 @@ use Rattle.words.specs.Numbers.{little_number, little_bytes, little_from-lt, lit
 use Rattle.codes.specs.declared.kern_return.KernReturn.{KernReturn}
 use Rattle.codes.specs.declared.kern_return.KernReturn.TheVariants.{SendMsgTooSmall, SendInvalidMemory, SendInvalidType}
 use Rattle.ipc_laws.specs.CallsKeep.{first_passes}
-use Rattle.ipc_model.specs.messages.Items.{Item, items_of, items_within, item_of, item_encoding, items_encoding, after_item, is_long_form, is_inline, has_other_bit, type_name_in, bits_in, number_in, descriptor_length, descriptor_encoding, data_length, padded, is_port_type, IsItem, AreItems, Tile, name_bound, number_bound}
+use Rattle.ipc_model.specs.messages.Items.{Item, items_of, items_within, item_of, item_encoding, items_encoding, after_item, is_long_form, is_inline, has_other_bit, short_fields_are_zero, has_short_fields, has_odd_ports, type_name_in, bits_in, number_in, descriptor_length, descriptor_encoding, data_length, padded, is_port_type, IsItem, AreItems, Tile, name_bound, number_bound}
 use Rattle.ipc_model.specs.calls.Tests.{Tests, first_failing, and_then, unless_failing}
 use Rattle.words.specs.WordLaws.{little_number-word, length-word, word-little_number}
 use Rattle.words.specs.Words.{AreBytes, word}
@@ -60,8 +60,7 @@ tests_with w long bytes =
     ∷ (long && nat_lt (length bytes) 12, SendMsgTooSmall)
     ∷ (not (is_inline w), SendInvalidMemory)
     ∷ (
-      has_other_bit w || (long && not (w % 2 ^ 28 == 0)) ||
-          (is_port_type (type_name_in bytes long) && not (bits_in bytes long == 32)),
+      has_other_bit w || has_short_fields w long || has_odd_ports (type_name_in bytes long) (bits_in bytes long),
       SendInvalidType,
     )
     ∷ (nat_lt (length bytes) (descriptor_length long + data_length bytes long), SendMsgTooSmall)
@@ -320,7 +319,7 @@ record Passed (w : ℕ) (bytes : List ℕ) (long : Bool) : Type 0 where
   is_inline : is_inline w ≡ true
   deallocate : ((w / 2 ^ 30) % 2 == 1) ≡ false
   unused : ((w / 2 ^ 31) % 2 == 1) ≡ false
-  plain : long ≡ true → (w % 2 ^ 28 == 0) ≡ true
+  plain : long ≡ true → short_fields_are_zero w ≡ true
   ports : is_port_type (type_name_in bytes long) ≡ true → bits_in bytes long ≡ 32
   enough : descriptor_length long + data_length bytes long ≤ length bytes
 
@@ -328,8 +327,8 @@ passed : (w : ℕ) (long : Bool) (bytes : List ℕ) → first_failing (tests_wit
 passed w long bytes passes =
     let last : Tests =
     (nat_lt (length bytes) (descriptor_length long + data_length bytes long), SendMsgTooSmall) ∷ [] in
-    let filled : Bool = long && not (w % 2 ^ 28 == 0) in
-    let odd : Bool = is_port_type (type_name_in bytes long) && not (bits_in bytes long == 32) in
+    let filled : Bool = has_short_fields w long in
+    let odd : Bool = has_odd_ports (type_name_in bytes long) (bits_in bytes long) in
     let one =
     first_passes (nat_lt (length bytes) 4, SendMsgTooSmall)
     ((long && nat_lt (length bytes) 12, SendMsgTooSmall) ∷ (not (is_inline w), SendInvalidMemory) ∷
@@ -353,7 +352,7 @@ passed w long bytes passes =
       is_inline = not_false (is_inline w) three.0;
       deallocate = bits.0;
       unused = bits.1;
-      plain = λ (is : _). bits_of_port long (w % 2 ^ 28 == 0) word_tests.1 is;
+      plain = λ (is : _). bits_of_port long (short_fields_are_zero w) word_tests.1 is;
       ports =
           λ (is : _). eqb-true (bits_in bytes long) 32
           (bits_of_port (is_port_type (type_name_in bytes long)) (bits_in bytes long == 32) type_tests.1 is);

@@ -36,6 +36,7 @@ pub mod ReceiveKeep
 pub mod ReceiveLaws
 pub mod RecordedMessages
 pub mod RecordedReceives
+pub mod RecordedReplies
 pub mod RecordedSteps
 pub mod RecoveryLaws
 pub mod ReferencesKeep

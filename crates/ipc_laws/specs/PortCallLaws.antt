@@ -3,6 +3,7 @@
 use Rattle.std.specs.Prelude.{◌≡◌, ◌≢◌, ℕ, Bool, true, false, not, ◌||◌, ◌==◌, List, [], Option, None, Some, if◌then◌else◌}
 use Rattle.std.proofs.Common.{refl, sym, ap, subst, ◌∙◌}
 use Rattle.std.specs.FinMap as finmap
+use Rattle.codes.specs.declared.call_number.TheConstants.{ATTACH, MACH_PORT_NAMES, MACH_PORT_TYPE, MACH_PORT_RENAME, MACH_PORT_ALLOCATE_NAME, MACH_PORT_ALLOCATE, MACH_PORT_DESTROY, MACH_PORT_DEALLOCATE, MACH_PORT_GET_REFS, MACH_PORT_MOD_REFS, MACH_PORT_SET_QLIMIT, MACH_PORT_SET_MSCOUNT, MACH_PORT_SET_SEQNO, MACH_PORT_GET_RECEIVE_STATUS, MACH_PORT_GET_SET_STATUS, MACH_PORT_MOVE_MEMBER, MACH_PORT_REQUEST_NOTIFICATION, MACH_PORT_INSERT_RIGHT, MACH_PORT_EXTRACT_RIGHT, MACH_MSG, SPACE_CREATE, SPACE_DESTROY}
 use Rattle.codes.specs.declared.kern_return.KernReturn.{KernReturn}
 use Rattle.codes.specs.declared.right.Right.TheVariants as right
 use Rattle.ipc_model.specs.declared.call.Call.{Call}
@@ -46,19 +47,23 @@ is_short answer = true
 
 -- by the numbers of calls
 abbrev number_has_none : ℕ → Bool
-number_has_none n = not (n == 5 || n == 16 || n == 18 || n == 19 || n == 20)
+number_has_none n =
+    not (
+    n == MACH_PORT_ALLOCATE || n == MACH_PORT_REQUEST_NOTIFICATION || n == MACH_PORT_EXTRACT_RIGHT ||
+    n == MACH_MSG || n == SPACE_CREATE
+    )
 
 none_by_number : (c : Call) → has_no_results c ≡ number_has_none (number_of_call c)
 none_by_number (call.Allocate kind) = refl
 none_by_number c = refl
 
 -- A call that is done answers with a reply of its number and with its results, and no refusal. Only the lists of names
--- and members, of calls 1 and 14, are long.
+-- and of a set's members are long.
 pub record Answered (number : ℕ) (answer : Reply) : Type 0 where
   pub success : (c : Call) → succeeded c answer ≡ true
   pub number_is : number_of_reply answer ≡ number
   pub results : (c : Call) → number_of_call c ≡ number → HasItsResults c answer
-  pub short : (number ≢ 1) → (number ≢ 14) → is_short answer ≡ true
+  pub short : (number ≢ MACH_PORT_NAMES) → (number ≢ MACH_PORT_GET_SET_STATUS) → is_short answer ≡ true
 
 done_answers : (number : ℕ) → number_has_none number ≡ true → Answered number (reply.Done number)
 done_answers number none =
@@ -86,93 +91,97 @@ by_choice number true one other a b = a
 by_choice number false one other a b = b
 
 deallocated_answers : (state : State) (space : ℕ) (names : Names) (name : ℕ) (entry : Entry)
-    → Answered 7 (actions.deallocated state space names name entry).answer
-deallocated_answers state space names name (Port rights) = done_answers 7 refl
-deallocated_answers state space names name (SendOnce port target) = done_answers 7 refl
-deallocated_answers state space names name Set = done_answers 7 refl
-deallocated_answers state space names name (Dead references) = done_answers 7 refl
+    → Answered MACH_PORT_DEALLOCATE (actions.deallocated state space names name entry).answer
+deallocated_answers state space names name (Port rights) = done_answers MACH_PORT_DEALLOCATE refl
+deallocated_answers state space names name (SendOnce port target) = done_answers MACH_PORT_DEALLOCATE refl
+deallocated_answers state space names name Set = done_answers MACH_PORT_DEALLOCATE refl
+deallocated_answers state space names name (Dead references) = done_answers MACH_PORT_DEALLOCATE refl
 
 modified_answers : (state : State) (space : ℕ) (names : Names) (name : ℕ) (entry : Entry) (kind delta : ℕ)
-    → Answered 9 (actions.modified state space names name entry kind delta).answer
+    → Answered MACH_PORT_MOD_REFS (actions.modified state space names name entry kind delta).answer
 modified_answers state space names name (Port rights) kind delta =
-    by_choice 9 (is_right kind right.Send) _ _ (done_answers 9 refl)
-    (by_choice 9 (delta == minus_one) _ _ (done_answers 9 refl) (done_answers 9 refl))
+    by_choice MACH_PORT_MOD_REFS (is_right kind right.Send) _ _ (done_answers MACH_PORT_MOD_REFS refl)
+    (by_choice MACH_PORT_MOD_REFS (delta == minus_one) _ _ (done_answers MACH_PORT_MOD_REFS refl)
+    (done_answers MACH_PORT_MOD_REFS refl))
 modified_answers state space names name (SendOnce port target) kind delta =
-    by_choice 9 (delta == minus_one) _ _ (done_answers 9 refl) (done_answers 9 refl)
+    by_choice MACH_PORT_MOD_REFS (delta == minus_one) _ _ (done_answers MACH_PORT_MOD_REFS refl)
+    (done_answers MACH_PORT_MOD_REFS refl)
 modified_answers state space names name Set kind delta =
-    by_choice 9 (delta == minus_one) _ _ (done_answers 9 refl) (done_answers 9 refl)
-modified_answers state space names name (Dead references) kind delta = done_answers 9 refl
+    by_choice MACH_PORT_MOD_REFS (delta == minus_one) _ _ (done_answers MACH_PORT_MOD_REFS refl)
+    (done_answers MACH_PORT_MOD_REFS refl)
+modified_answers state space names name (Dead references) kind delta = done_answers MACH_PORT_MOD_REFS refl
 
 status_answers : (state : State) (port : Option PortState) (serial : ℕ)
-    → Answered 13 (actions.status_action state port serial).answer
-status_answers state None serial = done_answers 13 refl
+    → Answered MACH_PORT_GET_RECEIVE_STATUS (actions.status_action state port serial).answer
+status_answers state None serial = done_answers MACH_PORT_GET_RECEIVE_STATUS refl
 status_answers state (Some port) serial =
     record { success = λ c. refl; number_is = refl; results = λ _ _. tt; short = λ _ _. refl }
 
-status_of_answers : (state : State) (serial : Option ℕ) → Answered 13 (actions.status_action_of state serial).answer
-status_of_answers state None = done_answers 13 refl
+status_of_answers : (state : State) (serial : Option ℕ)
+    → Answered MACH_PORT_GET_RECEIVE_STATUS (actions.status_action_of state serial).answer
+status_of_answers state None = done_answers MACH_PORT_GET_RECEIVE_STATUS refl
 status_of_answers state (Some serial) = status_answers state (finmap.get state.ports serial) serial
 
 extracted_answers : (taken : Option Taken) (space : ℕ) (answer : Reply) (new : State) (effects : List Effect)
-    → actions.Extracted taken space answer new effects → Answered 18 answer
+    → actions.Extracted taken space answer new effects → Answered MACH_PORT_EXTRACT_RIGHT answer
 extracted_answers None space answer new effects acts = absurd acts
 extracted_answers (Some taken) space answer new effects acts =
-    by_answer 18 (reply.Extracted acts.0 taken.right.kind) answer acts.1
+    by_answer MACH_PORT_EXTRACT_RIGHT (reply.Extracted acts.0 taken.right.kind) answer acts.1
     (record { success = λ c. refl; number_is = refl; results = λ _ _. tt; short = λ _ _. refl })
 
 created_answers : (taken : Option Taken) (answer : Reply) (new : State) (effects : List Effect)
-    → actions.Created taken answer new effects → Answered 20 answer
+    → actions.Created taken answer new effects → Answered SPACE_CREATE answer
 created_answers None answer new effects acts = absurd acts
 created_answers (Some taken) answer new effects acts =
-    by_answer 20 (reply.SpaceCreated acts.0 acts.1) answer acts.3
+    by_answer SPACE_CREATE (reply.SpaceCreated acts.0 acts.1) answer acts.3
     (record { success = λ c. refl; number_is = refl; results = λ _ _. tt; short = λ _ _. refl })
 
 pub answers_done : (old : State) (space : ℕ) (names : Names) (c : Call) (answer : Reply) (new : State)
     (effects : List Effect) → Done old space names c answer new effects → Answered (number_of_call c) answer
 unfolding Done
 answers_done old space names (call.Attach other) answer new effects acts =
-    by_answer 0 _ answer acts.0 (done_answers 0 refl)
+    by_answer ATTACH _ answer acts.0 (done_answers ATTACH refl)
 answers_done old space names call.Names answer new effects acts =
-    by_answer 1 _ answer acts.0
+    by_answer MACH_PORT_NAMES _ answer acts.0
     (record { success = λ c. refl; number_is = refl; results = λ _ _. tt; short = λ other _. absurd (other refl) })
 answers_done old space names (call.Type name) answer new effects acts =
-    by_action 2 _ _ answer new effects
+    by_action MACH_PORT_TYPE _ _ answer new effects
     (λ e. record { success = λ c. refl; number_is = refl; results = λ _ _. tt; short = λ _ _. refl }) acts
 answers_done old space names (call.Rename from to) answer new effects acts =
-    by_action 3 _ _ answer new effects (λ e. done_answers 3 refl) acts
+    by_action MACH_PORT_RENAME _ _ answer new effects (λ e. done_answers MACH_PORT_RENAME refl) acts
 answers_done old space names (call.AllocateName kind name) answer new effects acts =
-    by_answer 4 _ answer acts.0 (done_answers 4 refl)
+    by_answer MACH_PORT_ALLOCATE_NAME _ answer acts.0 (done_answers MACH_PORT_ALLOCATE_NAME refl)
 answers_done old space names (call.Allocate kind) answer new effects acts =
-    by_answer 5 (reply.Allocate acts.0) answer acts.2
+    by_answer MACH_PORT_ALLOCATE (reply.Allocate acts.0) answer acts.2
     (record { success = λ c. refl; number_is = refl; results = λ _ _. tt; short = λ _ _. refl })
 answers_done old space names (call.Destroy name) answer new effects acts =
-    by_action 6 _ _ answer new effects (λ e. done_answers 6 refl) acts
+    by_action MACH_PORT_DESTROY _ _ answer new effects (λ e. done_answers MACH_PORT_DESTROY refl) acts
 answers_done old space names (call.Deallocate name) answer new effects acts =
-    by_action 7 _ _ answer new effects (deallocated_answers old space names name) acts
+    by_action MACH_PORT_DEALLOCATE _ _ answer new effects (deallocated_answers old space names name) acts
 answers_done old space names (call.GetRefs name kind) answer new effects acts =
-    by_action 8 _ _ answer new effects
+    by_action MACH_PORT_GET_REFS _ _ answer new effects
     (λ e. record { success = λ c. refl; number_is = refl; results = λ _ _. tt; short = λ _ _. refl }) acts
 answers_done old space names (call.ModRefs name kind delta) answer new effects acts =
-    by_action 9 _ _ answer new effects (λ e. modified_answers old space names name e kind delta) acts
+    by_action MACH_PORT_MOD_REFS _ _ answer new effects (λ e. modified_answers old space names name e kind delta) acts
 answers_done old space names (call.SetQlimit name limit) answer new effects acts =
-    by_action 10 _ _ answer new effects (λ e. done_answers 10 refl) acts
+    by_action MACH_PORT_SET_QLIMIT _ _ answer new effects (λ e. done_answers MACH_PORT_SET_QLIMIT refl) acts
 answers_done old space names (call.SetMscount name count) answer new effects acts =
-    by_action 11 _ _ answer new effects (λ e. done_answers 11 refl) acts
+    by_action MACH_PORT_SET_MSCOUNT _ _ answer new effects (λ e. done_answers MACH_PORT_SET_MSCOUNT refl) acts
 answers_done old space names (call.SetSeqno name seqno) answer new effects acts =
-    by_action 12 _ _ answer new effects (λ e. done_answers 12 refl) acts
+    by_action MACH_PORT_SET_SEQNO _ _ answer new effects (λ e. done_answers MACH_PORT_SET_SEQNO refl) acts
 answers_done old space names (call.GetReceiveStatus name) answer new effects acts =
-    by_action 13 _ _ answer new effects (λ e. status_of_answers old (received_port e)) acts
+    by_action MACH_PORT_GET_RECEIVE_STATUS _ _ answer new effects (λ e. status_of_answers old (received_port e)) acts
 answers_done old space names (call.GetSetStatus name) answer new effects acts =
-    by_answer 14 _ answer acts.0
+    by_answer MACH_PORT_GET_SET_STATUS _ answer acts.0
     (record { success = λ c. refl; number_is = refl; results = λ _ _. tt; short = λ _ other. absurd (other refl) })
 answers_done old space names (call.MoveMember member after) answer new effects acts =
-    by_action 15 _ _ answer new effects (λ e. done_answers 15 refl) acts
+    by_action MACH_PORT_MOVE_MEMBER _ _ answer new effects (λ e. done_answers MACH_PORT_MOVE_MEMBER refl) acts
 answers_done old space names (call.RequestNotification name variant sync notify_name disposition) answer new effects
     acts =
-    by_answer 16 (reply.PreviousTarget acts.0) answer acts.1
+    by_answer MACH_PORT_REQUEST_NOTIFICATION (reply.PreviousTarget acts.0) answer acts.1
     (record { success = λ c. refl; number_is = refl; results = λ _ _. tt; short = λ _ _. refl })
 answers_done old space names (call.InsertRight name right_name disposition) answer new effects acts =
-    by_answer 17 _ answer acts.0 (done_answers 17 refl)
+    by_answer MACH_PORT_INSERT_RIGHT _ answer acts.0 (done_answers MACH_PORT_INSERT_RIGHT refl)
 answers_done old space names (call.ExtractRight name disposition) answer new effects acts =
     extracted_answers _ space answer new effects acts
 answers_done old space names (call.Send message) answer new effects acts = absurd acts
@@ -180,7 +189,7 @@ answers_done old space names (call.Receive limit large name waited) answer new e
 answers_done old space names (call.SpaceCreate name disposition) answer new effects acts =
     created_answers _ answer new effects acts
 answers_done old space names call.SpaceDestroy answer new effects acts =
-    by_answer 21 _ answer acts.0 (done_answers 21 refl)
+    by_answer SPACE_DESTROY _ answer acts.0 (done_answers SPACE_DESTROY refl)
 
 -- a reply to a call that is no send and no receive has the call's number
 called_number : (refusal : Option KernReturn) (old : State) (space : ℕ) (names : Names) (c : Call) (answer : Reply)

@@ -32,8 +32,7 @@ use Rattle.ipc_laws.specs.LawfulLaws.{LawfulAtRest}
 use Rattle.ipc_laws.specs.MapLaws.{get-here}
 use Rattle.ipc_laws.specs.MapSums.{weigh, weigh-append, insert-insert, insert-same}
 use Rattle.ipc_laws.specs.Others.{number_same, with_port_spaces}
-use Rattle.ipc_laws.specs.ReceiveLaws.{Takes}
-use Rattle.ipc_model.specs.messages.Receiving.{Receipt, Receives, TakesOut, TooLarge, Received, receive_refusal, message_size, lacks_names, without_oldest, destination_consumed, arriving, reply_right, without_message}
+use Rattle.ipc_model.specs.messages.Receiving.{ReceiveArguments, Receives, TakesMessage, TakesOut, TooLarge, Received, receive_refusal, message_size, lacks_names, without_oldest, destination_consumed, arriving, reply_right, without_message}
 use Rattle.ipc_model.specs.state.State.{State, Names, with_names, with_port, next_count, name_of_port}
 use Rattle.ipc_laws.specs.Takes.{Quiet, with_right, next_fits}
 use Rattle.ipc_laws.specs.Weights.{Weight, carried_weigh, reply_weigh, message_weigh, port_weigh, effect_weigh, receive_of, any_of}
@@ -331,38 +330,39 @@ too_large_kept old member serial port message later false answer new effects law
 
 -- A receive.
 
-taken_out_kept : (old : State) (space member serial : ℕ) (names : Names) (receipt : Receipt) (port : PortState)
+taken_out_kept : (old : State) (space member serial : ℕ) (names : Names) (arguments : ReceiveArguments)
+    (port : PortState)
     (message : Message) (later : List Message) (answer : Reply) (new : State) (effects : List Effect) → LawfulAtRest old
     → Acyclic old → finmap.get old.spaces space ≡ Some names
     → finmap.get old.ports serial ≡ Some port → port.messages ≡ message ∷ later
-    → TakesOut old space names receipt member serial port message answer new effects → Kept new effects
-taken_out_kept old space member serial names receipt port message later answer new effects lawful acyclic there at is
+    → TakesOut old space names arguments member serial port message answer new effects → Kept new effects
+taken_out_kept old space member serial names arguments port message later answer new effects lawful acyclic there at is
     takes =
-    elim (nat_lt receipt.limit (message_size message))
-    as (λ (b : Bool). MatchBool b (TooLarge old member serial message receipt.large answer new effects)
+    elim (nat_lt arguments.limit (message_size message))
+    as (λ (b : Bool). MatchBool b (TooLarge old member serial message arguments.large answer new effects)
     (MatchBool (lacks_names names message)
     ((answer ≡ without_message RcvHeaderErrorSpace 0 0) × (new ≡ old) × (effects ≡ []))
     (Received old space names member serial port message answer new effects)) → Kept new effects) [
-      | true ↦ λ (large : _). too_large_kept old member serial port message later receipt.large answer new effects
+      | true ↦ λ (large : _). too_large_kept old member serial port message later arguments.large answer new effects
           lawful acyclic at is large
       | false ↦ elim (lacks_names names message)
           as (λ (b : Bool). lacks_names names message ≡ b
           → MatchBool b ((answer ≡ without_message RcvHeaderErrorSpace 0 0) × (new ≡ old) × (effects ≡ []))
           (Received old space names member serial port message answer new effects) → Kept new effects) [
             | true ↦ λ (_ : _) (refused : _). kept_as old new effects lawful acyclic refused.1 refused.2
-            | false ↦ λ (room : _) (received : _). received_kept old space member serial names port message later answer new
-                effects lawful acyclic there at is room received
+            | false ↦ λ (room : _) (received : _). received_kept old space member serial names port message later answer
+                new effects lawful acyclic there at is room received
           ] refl
     ] takes
 
-pub receive_kept : (old : State) (space : ℕ) (names : Names) (receipt : Receipt) (answer : Reply) (new : State)
-    (effects : List Effect) → LawfulAtRest old → Acyclic old → finmap.get old.spaces space ≡ Some names
-    → Receives old space names receipt answer new effects → Kept new effects
-receive_kept old space names receipt answer new effects lawful acyclic there receives =
-    elim (receive_refusal old names receipt)
-    as (λ (o : Option KernReturn). MatchOption o (Takes old space names receipt answer new effects)
+pub receive_kept : (old : State) (space : ℕ) (names : Names) (arguments : ReceiveArguments) (answer : Reply)
+    (new : State) (effects : List Effect) → LawfulAtRest old → Acyclic old → finmap.get old.spaces space ≡ Some names
+    → Receives old space names arguments answer new effects → Kept new effects
+receive_kept old space names arguments answer new effects lawful acyclic there receives =
+    elim (receive_refusal old names arguments)
+    as (λ (o : Option KernReturn). MatchOption o (TakesMessage old space names arguments answer new effects)
     (λ code. (answer ≡ without_message code 0 0) × (new ≡ old) × (effects ≡ [])) → Kept new effects) [
-      | None ↦ λ (taken : _). taken_out_kept old space taken.0 taken.1 names receipt taken.2 taken.3 taken.4 answer new
-          effects lawful acyclic there taken.7 taken.8 taken.9
+      | None ↦ λ (taken : _). taken_out_kept old space taken.member taken.serial names arguments taken.port
+          taken.message taken.later answer new effects lawful acyclic there taken.live taken.first taken.takes
       | Some code ↦ λ (refused : _). kept_as old new effects lawful acyclic refused.1 refused.2
     ] receives

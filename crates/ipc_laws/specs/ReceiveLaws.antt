@@ -1,5 +1,5 @@
 -- A receive's reply determines what it left.
-use Rattle.std.specs.Prelude.{◌≡◌, ℕ, ◌<◌, Bool, true, false, nat_lt, All, Contains, List, [], ◌∷◌, length, Option, None, Some, MatchBool, MatchOption}
+use Rattle.std.specs.Prelude.{◌≡◌, ℕ, ◌<◌, Bool, true, false, nat_lt, All, List, [], ◌∷◌, length, Option, None, Some, MatchBool, MatchOption}
 use Rattle.std.proofs.Common.{sym, ◌∙◌, ap, subst, arith}
 use Rattle.std.specs.FinMap as finmap
 use Rattle.codes.specs.declared.kern_return.KernReturn.{KernReturn}
@@ -14,7 +14,7 @@ use Rattle.ipc_model.specs.state.Lawful.{LawfulMessage}
 use Rattle.ipc_laws.specs.LawfulLaws.{LawfulAtRest}
 use Rattle.ipc_laws.specs.ListLaws.{some_same}
 use Rattle.ipc_laws.specs.ReceiveArgumentLaws.{one_arrival, one_choice, as_many_names, encoding_told}
-use Rattle.ipc_model.specs.messages.Receiving.{Receipt, Receives, TakesOut, TooLarge, Received, HoldsReceiveRight, received_encoding, receive_refusal, lacks_names, message_size, arriving, source_names, sources, without_message, without_oldest}
+use Rattle.ipc_model.specs.messages.Receiving.{ReceiveArguments, Receives, TakesMessage, TakesOut, TooLarge, Received, HoldsReceiveRight, received_encoding, receive_refusal, lacks_names, message_size, arriving, without_message, without_oldest}
 use Rattle.ipc_model.specs.rights.CopyOut.{Arrives}
 use Rattle.ipc_model.specs.state.State.{State, Names, received_port, with_names}
 
@@ -31,19 +31,6 @@ message_shown : Reply → List ℕ
 message_shown (reply.Message code size member message) = message
 message_shown _ = []
 
--- one receive: the message that was taken or looked at, and what became of it
-pub record Taking (old : State) (space : ℕ) (names : Names) (receipt : Receipt) (answer : Reply) (new : State)
-    (effects : List Effect) : Type 0 where
-  pub member : ℕ
-  pub serial : ℕ
-  pub port : PortState
-  pub message : Message
-  pub later : List Message
-  pub holds : HoldsReceiveRight names member serial
-  pub live : finmap.get old.ports serial ≡ Some port
-  pub first : port.messages ≡ message ∷ later
-  pub takes : TakesOut old space names receipt member serial port message answer new effects
-
 one_serial : (names : Names) (member serial other : ℕ) → HoldsReceiveRight names member serial
     → HoldsReceiveRight names member other → serial ≡ other
 one_serial names member serial other here there =
@@ -51,31 +38,31 @@ one_serial names member serial other here there =
     some_same serial other (sym here.2 ∙ ap received_port entry ∙ there.2)
 
 -- the code of a receive says whether the message was too large, or lacked names, or was received
-pub data Outcomes (old : State) (space : ℕ) (names : Names) (receipt : Receipt) (member serial : ℕ) (port : PortState)
-    (message : Message) (answer : Reply) (new : State) (effects : List Effect) : Type 0 where
-  was_large : TooLarge old member serial message receipt.large answer new effects
-      → Outcomes old space names receipt member serial port message answer new effects
+pub data Outcomes (old : State) (space : ℕ) (names : Names) (arguments : ReceiveArguments) (member serial : ℕ)
+    (port : PortState) (message : Message) (answer : Reply) (new : State) (effects : List Effect) : Type 0 where
+  was_large : TooLarge old member serial message arguments.large answer new effects
+      → Outcomes old space names arguments member serial port message answer new effects
   was_lacking : answer ≡ without_message RcvHeaderErrorSpace 0 0 → new ≡ old → effects ≡ []
-      → Outcomes old space names receipt member serial port message answer new effects
+      → Outcomes old space names arguments member serial port message answer new effects
   was_received : Received old space names member serial port message answer new effects
-      → Outcomes old space names receipt member serial port message answer new effects
+      → Outcomes old space names arguments member serial port message answer new effects
 
-pub outcome_of : (old : State) (space : ℕ) (names : Names) (receipt : Receipt) (member serial : ℕ) (port : PortState)
-    (message : Message) (answer : Reply) (new : State) (effects : List Effect)
-    → TakesOut old space names receipt member serial port message answer new effects
-    → Outcomes old space names receipt member serial port message answer new effects
-outcome_of old space names receipt member serial port message answer new effects takes =
-    elim (nat_lt receipt.limit (message_size message))
-    as (λ (b : Bool). MatchBool b (TooLarge old member serial message receipt.large answer new effects)
+pub outcome_of : (old : State) (space : ℕ) (names : Names) (arguments : ReceiveArguments) (member serial : ℕ)
+    (port : PortState) (message : Message) (answer : Reply) (new : State) (effects : List Effect)
+    → TakesOut old space names arguments member serial port message answer new effects
+    → Outcomes old space names arguments member serial port message answer new effects
+outcome_of old space names arguments member serial port message answer new effects takes =
+    elim (nat_lt arguments.limit (message_size message))
+    as (λ (b : Bool). MatchBool b (TooLarge old member serial message arguments.large answer new effects)
     (MatchBool (lacks_names names message)
     ((answer ≡ without_message RcvHeaderErrorSpace 0 0) × (new ≡ old) × (effects ≡ []))
     (Received old space names member serial port message answer new effects))
-    → Outcomes old space names receipt member serial port message answer new effects) [
+    → Outcomes old space names arguments member serial port message answer new effects) [
       | true ↦ λ (here : _). was_large here
       | false ↦ λ (here : _). elim (lacks_names names message) as (λ (b : Bool).
           MatchBool b ((answer ≡ without_message RcvHeaderErrorSpace 0 0) × (new ≡ old) × (effects ≡ []))
           (Received old space names member serial port message answer new effects)
-          → Outcomes old space names receipt member serial port message answer new effects) [
+          → Outcomes old space names arguments member serial port message answer new effects) [
             | true ↦ λ (short : _). was_lacking short.0 short.1 short.2
             | false ↦ λ (whole : _). was_received whole
           ] here
@@ -86,11 +73,20 @@ pub record SameLeft (one other : State) (effects others : List Effect) : Type 0 
   pub state : one ≡ other
   pub effects_are : effects ≡ others
 
+-- a reply to a receive whose message was too large reports it, whether it stayed or was destroyed
+pub large_answer : (old : State) (member serial : ℕ) (message : Message) (keeps : Bool) (answer : Reply) (new : State)
+    (effects : List Effect) → TooLarge old member serial message keeps answer new effects
+    → answer ≡ without_message RcvTooLarge (message_size message) member
+large_answer old member serial message true answer new effects large = large.0
+large_answer old member serial message false answer new effects large = large.0
+
 same_large : (old : State) (member serial : ℕ) (message : Message) (keeps : Bool) (answer : Reply) (one other : State)
     (effects others : List Effect)
     → TooLarge old member serial message keeps answer one effects
     → TooLarge old member serial message keeps answer other others → SameLeft one other effects others
-same_large old member serial message keeps answer one other effects others here there =
+same_large old member serial message true answer one other effects others here there =
+    record { state = here.1 ∙ sym there.1; effects_are = here.2 ∙ sym there.2 }
+same_large old member serial message false answer one other effects others here there =
     record { state = here.1 ∙ sym there.1; effects_are = here.2 ∙ sym there.2 }
 
 same_received : (old : State) (space : ℕ) (names : Names) (member serial : ℕ) (port : PortState) (message : Message)
@@ -124,14 +120,14 @@ first_or : Message → List Message → Message
 first_or d [] = d
 first_or d (message ∷ messages) = message
 
-same_message_of : (old : State) (space : ℕ) (names : Names) (receipt : Receipt) (answer : Reply) (one other : State)
-    (effects others : List Effect)
-    (here : Taking old space names receipt answer one effects)
-    (there : Taking old space names receipt answer other others)
+same_message_of : (old : State) (space : ℕ) (names : Names) (arguments : ReceiveArguments) (answer : Reply)
+    (one other : State) (effects others : List Effect)
+    (here : TakesMessage old space names arguments answer one effects)
+    (there : TakesMessage old space names arguments answer other others)
     → here.member ≡ there.member → SameMessage old here.serial there.serial here.port there.port here.message
     there.message
 unfolding first_or
-same_message_of old space names receipt answer one other effects others here there member =
+same_message_of old space names arguments answer one other effects others here there member =
     let serial : here.serial ≡ there.serial =
     one_serial names here.member here.serial there.serial here.holds
     (subst (λ (m : ℕ). HoldsReceiveRight names m there.serial) (sym member) there.holds) in
@@ -144,37 +140,40 @@ same_message_of old space names receipt answer one other effects others here the
           ap (first_or here.message) (sym here.first ∙ ap (λ (p : PortState). p.messages) port ∙ there.first);
     }
 
-same_large_of : (old : State) (space : ℕ) (names : Names) (receipt : Receipt) (answer : Reply) (one other : State)
-    (effects others : List Effect)
-    (here : Taking old space names receipt answer one effects)
-    (there : Taking old space names receipt answer other others)
-    → TooLarge old here.member here.serial here.message receipt.large answer one effects
-    → TooLarge old there.member there.serial there.message receipt.large answer other others
+same_large_of : (old : State) (space : ℕ) (names : Names) (arguments : ReceiveArguments) (answer : Reply)
+    (one other : State) (effects others : List Effect)
+    (here : TakesMessage old space names arguments answer one effects)
+    (there : TakesMessage old space names arguments answer other others)
+    → TooLarge old here.member here.serial here.message arguments.large answer one effects
+    → TooLarge old there.member there.serial there.message arguments.large answer other others
     → SameLeft one other effects others
 unfolding member_shown
-same_large_of old space names receipt answer one other effects others here there first second =
-    let member : here.member ≡ there.member = ap member_shown (sym first.0 ∙ second.0) in
-    let same = same_message_of old space names receipt answer one other effects others here there member in
-    let moved : TooLarge old here.member here.serial here.message receipt.large answer other others =
-    subst (λ (m : ℕ). TooLarge old m here.serial here.message receipt.large answer other others) (sym member)
-    (subst (λ (s : ℕ). TooLarge old there.member s here.message receipt.large answer other others)
+same_large_of old space names arguments answer one other effects others here there first second =
+    let member : here.member ≡ there.member =
+    ap member_shown
+    (sym (large_answer old here.member here.serial here.message arguments.large answer one effects first)
+    ∙ large_answer old there.member there.serial there.message arguments.large answer other others second) in
+    let same = same_message_of old space names arguments answer one other effects others here there member in
+    let moved : TooLarge old here.member here.serial here.message arguments.large answer other others =
+    subst (λ (m : ℕ). TooLarge old m here.serial here.message arguments.large answer other others) (sym member)
+    (subst (λ (s : ℕ). TooLarge old there.member s here.message arguments.large answer other others)
     (sym same.same_serial)
-    (subst (λ (m : Message). TooLarge old there.member there.serial m receipt.large answer other others)
+    (subst (λ (m : Message). TooLarge old there.member there.serial m arguments.large answer other others)
     (sym same.same_message) second)) in
-    same_large old here.member here.serial here.message receipt.large answer one other effects others first moved
+    same_large old here.member here.serial here.message arguments.large answer one other effects others first moved
 
-same_received_of : (old : State) (space : ℕ) (names : Names) (receipt : Receipt) (answer : Reply) (one other : State)
-    (effects others : List Effect)
-    (here : Taking old space names receipt answer one effects)
-    (there : Taking old space names receipt answer other others)
+same_received_of : (old : State) (space : ℕ) (names : Names) (arguments : ReceiveArguments) (answer : Reply)
+    (one other : State) (effects others : List Effect)
+    (here : TakesMessage old space names arguments answer one effects)
+    (there : TakesMessage old space names arguments answer other others)
     → LawfulMessage here.message
     → Received old space names here.member here.serial here.port here.message answer one effects
     → Received old space names there.member there.serial there.port there.message answer other others
     → SameLeft one other effects others
 unfolding member_shown
-same_received_of old space names receipt answer one other effects others here there lawful first second =
+same_received_of old space names arguments answer one other effects others here there lawful first second =
     let member : here.member ≡ there.member = ap member_shown (sym first.3 ∙ second.3) in
-    let same = same_message_of old space names receipt answer one other effects others here there member in
+    let same = same_message_of old space names arguments answer one other effects others here there member in
     let moved : Received old space names here.member here.serial here.port here.message answer other others =
     subst (λ (m : ℕ). Received old space names m here.serial here.port here.message answer other others) (sym member)
     (subst (λ (s : ℕ). Received old space names there.member s here.port here.message answer other others)
@@ -200,101 +199,96 @@ received_code : (answer : Reply) (size member : ℕ) (encoding : List ℕ)
 unfolding code_shown
 received_code answer size member encoding is = ap code_shown is
 
-outcomes_same : (old : State) (space : ℕ) (names : Names) (receipt : Receipt) (answer : Reply) (one other : State)
-    (effects others : List Effect)
-    (here : Taking old space names receipt answer one effects)
-    (there : Taking old space names receipt answer other others)
+outcomes_same : (old : State) (space : ℕ) (names : Names) (arguments : ReceiveArguments) (answer : Reply)
+    (one other : State) (effects others : List Effect)
+    (here : TakesMessage old space names arguments answer one effects)
+    (there : TakesMessage old space names arguments answer other others)
     → LawfulMessage here.message
-    → Outcomes old space names receipt here.member here.serial here.port here.message answer one effects
-    → Outcomes old space names receipt there.member there.serial there.port there.message answer other others
+    → Outcomes old space names arguments here.member here.serial here.port here.message answer one effects
+    → Outcomes old space names arguments there.member there.serial there.port there.message answer other others
     → SameLeft one other effects others
-outcomes_same old space names receipt answer one other effects others here there lawful (was_large first)
+outcomes_same old space names arguments answer one other effects others here there lawful (was_large first)
     (was_large second) =
-    same_large_of old space names receipt answer one other effects others here there first second
-outcomes_same old space names receipt answer one other effects others here there lawful (was_large first)
+    same_large_of old space names arguments answer one other effects others here there first second
+outcomes_same old space names arguments answer one other effects others here there lawful (was_large first)
     (was_lacking is as_before none) =
-    absurd (omega (arith, large_code answer _ _ first.0, lacking_code answer is))
-outcomes_same old space names receipt answer one other effects others here there lawful (was_large first)
+    absurd (omega (
+      arith,
+      large_code answer _ _
+          (large_answer old here.member here.serial here.message arguments.large answer one effects first),
+      lacking_code answer is,
+    ))
+outcomes_same old space names arguments answer one other effects others here there lawful (was_large first)
     (was_received second) =
-    absurd (omega (arith, large_code answer _ _ first.0, received_code answer _ _ _ second.3))
-outcomes_same old space names receipt answer one other effects others here there lawful (was_lacking is as_before none)
-    (was_large second) =
-    absurd (omega (arith, large_code answer _ _ second.0, lacking_code answer is))
-outcomes_same old space names receipt answer one other effects others here there lawful (was_lacking is as_before none)
-    (was_lacking is_too as_before_too none_too) =
+    absurd (omega (
+      arith,
+      large_code answer _ _
+          (large_answer old here.member here.serial here.message arguments.large answer one effects first),
+      received_code answer _ _ _ second.3,
+    ))
+outcomes_same old space names arguments answer one other effects others here there lawful
+    (was_lacking is as_before none) (was_large second) =
+    absurd (omega (
+      arith,
+      large_code answer _ _
+          (large_answer old there.member there.serial there.message arguments.large answer other others second),
+      lacking_code answer is,
+    ))
+outcomes_same old space names arguments answer one other effects others here there lawful
+    (was_lacking is as_before none) (was_lacking is_too as_before_too none_too) =
     record { state = as_before ∙ sym as_before_too; effects_are = none ∙ sym none_too }
-outcomes_same old space names receipt answer one other effects others here there lawful (was_lacking is as_before none)
-    (was_received second) =
+outcomes_same old space names arguments answer one other effects others here there lawful
+    (was_lacking is as_before none) (was_received second) =
     absurd (omega (arith, lacking_code answer is, received_code answer _ _ _ second.3))
-outcomes_same old space names receipt answer one other effects others here there lawful (was_received first)
+outcomes_same old space names arguments answer one other effects others here there lawful (was_received first)
     (was_large second) =
-    absurd (omega (arith, received_code answer _ _ _ first.3, large_code answer _ _ second.0))
-outcomes_same old space names receipt answer one other effects others here there lawful (was_received first)
+    absurd (omega (
+      arith,
+      received_code answer _ _ _ first.3,
+      large_code answer _ _
+          (large_answer old there.member there.serial there.message arguments.large answer other others second),
+    ))
+outcomes_same old space names arguments answer one other effects others here there lawful (was_received first)
     (was_lacking is as_before none) =
     absurd (omega (arith, received_code answer _ _ _ first.3, lacking_code answer is))
-outcomes_same old space names receipt answer one other effects others here there lawful (was_received first)
+outcomes_same old space names arguments answer one other effects others here there lawful (was_received first)
     (was_received second) =
-    same_received_of old space names receipt answer one other effects others here there lawful first second
+    same_received_of old space names arguments answer one other effects others here there lawful first second
 
 -- a receive as its definition has it, whatever the test of its sources said
-abbrev pub Takes : State → ℕ → Names → Receipt → Reply → State → List Effect → Type 0
-Takes old space names receipt answer new effects =
-    (member : ℕ) × (serial : ℕ) × (port : PortState) × (message : Message) × (later : List Message)
-    × Contains (source_names (sources old names receipt.name (finmap.get names receipt.name))) member
-    × HoldsReceiveRight names member serial × (finmap.get old.ports serial ≡ Some port)
-    × (port.messages ≡ message ∷ later)
-    × TakesOut old space names receipt member serial port message answer new effects
-
-abbrev pub Refuses : Option KernReturn → State → ℕ → Names → Receipt → Reply → State → List Effect → Type 0
-Refuses refusal old space names receipt answer new effects =
-    MatchOption refusal (Takes old space names receipt answer new effects)
+abbrev pub Refuses : Option KernReturn → State → ℕ → Names → ReceiveArguments → Reply → State → List Effect → Type 0
+Refuses refusal old space names arguments answer new effects =
+    MatchOption refusal (TakesMessage old space names arguments answer new effects)
     (λ code. (answer ≡ without_message code 0 0) × (new ≡ old) × (effects ≡ []))
-
-pub taking_of : (old : State) (space : ℕ) (names : Names) (receipt : Receipt) (answer : Reply) (new : State)
-    (effects : List Effect)
-    → Takes old space names receipt answer new effects → Taking old space names receipt answer new effects
-taking_of old space names receipt answer new effects takes =
-    record {
-      member = takes.0;
-      serial = takes.1;
-      port = takes.2;
-      message = takes.3;
-      later = takes.4;
-      holds = takes.6;
-      live = takes.7;
-      first = takes.8;
-      takes = takes.9;
-    }
 
 -- two receives with one reply leave one state and one list of effects
 zero_less : (first : Message) (later : List Message) → 0 < length (first ∷ later)
 zero_less first later = omega arith
 
-pub same_taking : (old : State) (space : ℕ) (names : Names) (receipt : Receipt) (answer : Reply) (one other : State)
-    (effects others : List Effect)
-    → LawfulAtRest old → Taking old space names receipt answer one effects
-    → Taking old space names receipt answer other others → SameLeft one other effects others
-same_taking old space names receipt answer one other effects others lawful here there =
+pub same_taking : (old : State) (space : ℕ) (names : Names) (arguments : ReceiveArguments) (answer : Reply)
+    (one other : State) (effects others : List Effect)
+    → LawfulAtRest old → TakesMessage old space names arguments answer one effects
+    → TakesMessage old space names arguments answer other others → SameLeft one other effects others
+same_taking old space names arguments answer one other effects others lawful here there =
     let port_is = (lawful.ports here.serial here.port here.live).2 in
     let first_is : LawfulMessage here.message =
     (subst (λ (l : List Message). All LawfulMessage l) here.first port_is.messages) 0 here.message
     (zero_less here.message here.later) in
-    outcomes_same old space names receipt answer one other effects others here there first_is
-    (outcome_of old space names receipt here.member here.serial here.port here.message answer one effects here.takes)
-    (outcome_of old space names receipt there.member there.serial there.port there.message answer other others
+    outcomes_same old space names arguments answer one other effects others here there first_is
+    (outcome_of old space names arguments here.member here.serial here.port here.message answer one effects here.takes)
+    (outcome_of old space names arguments there.member there.serial there.port there.message answer other others
     there.takes)
 
-pub same_receive : (old : State) (space : ℕ) (names : Names) (receipt : Receipt) (answer : Reply) (one other : State)
-    (effects others : List Effect)
-    → LawfulAtRest old → Receives old space names receipt answer one effects
-    → Receives old space names receipt answer other others → SameLeft one other effects others
-same_receive old space names receipt answer one other effects others lawful here there =
-    elim (receive_refusal old names receipt)
-    as (λ (r : Option KernReturn). Refuses r old space names receipt answer one effects
-    → Refuses r old space names receipt answer other others → SameLeft one other effects others) [
-      | None ↦ λ (first : _) (second : _). same_taking old space names receipt answer one other effects others lawful
-          (taking_of old space names receipt answer one effects first)
-          (taking_of old space names receipt answer other others second)
+pub same_receive : (old : State) (space : ℕ) (names : Names) (arguments : ReceiveArguments) (answer : Reply)
+    (one other : State) (effects others : List Effect)
+    → LawfulAtRest old → Receives old space names arguments answer one effects
+    → Receives old space names arguments answer other others → SameLeft one other effects others
+same_receive old space names arguments answer one other effects others lawful here there =
+    elim (receive_refusal old names arguments)
+    as (λ (r : Option KernReturn). Refuses r old space names arguments answer one effects
+    → Refuses r old space names arguments answer other others → SameLeft one other effects others) [
+      | None ↦ λ (first : _) (second : _). same_taking old space names arguments answer one other effects others lawful
+          first second
       | Some code ↦ λ (first : _) (second : _).
           record { state = first.1 ∙ sym second.1; effects_are = first.2 ∙ sym second.2 }
     ] here there

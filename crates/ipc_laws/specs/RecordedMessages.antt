@@ -14,7 +14,7 @@ use Rattle.ipc_model.specs.messages.Items.{Item, items_of, items_within, tests_o
 use Rattle.ipc_model.specs.messages.Messages.{UsedParts, used_parts}
 use Rattle.ipc_model.specs.messages.Receiving.{without_message}
 use Rattle.ipc_model.specs.messages.Sending as sending
-use Rattle.ipc_model.specs.messages.Sending.{TakenHeader, TakenReply, TakenRights, Ready, ready_to_send, ready_of_items, take_destination, take_reply, take_header, sent}
+use Rattle.ipc_model.specs.messages.Sending.{TakenDestination, TakenHeader, destination_at, TakenReply, TakenRights, Ready, ready_to_send, ready_of_items, take_destination, take_reply, take_header, sent}
 use Rattle.ipc_model.specs.rights.CopyIn.{Taken, copy_in}
 use Rattle.ipc_model.specs.rights.Dispositions.{Disposition}
 use Rattle.ipc_model.specs.state.State.{State, Names, is_null_or_dead}
@@ -60,11 +60,11 @@ destination_fails : (state : State) (space name : ℕ) (disposition : Dispositio
 destination_fails state space name disposition =
     and_then_fails (or_refused SendInvalidDest (copy_in state space name disposition))
     (λ (taken : Taken). and_then (or_refused SendInvalidDest (sending.live_port taken.right.port))
-    (λ (serial : ℕ). Ok (taken, serial)))
+    (λ (serial : ℕ). Ok (destination_at taken serial)))
     (or_fails SendInvalidDest (copy_in state space name disposition) refl) (λ (taken : Taken).
     and_then_fails (or_refused SendInvalidDest (sending.live_port taken.right.port))
-    (λ (serial : ℕ). Ok (taken, serial)) (or_fails SendInvalidDest (sending.live_port taken.right.port) refl)
-    (λ (serial : ℕ). fine (taken, serial)))
+    (λ (serial : ℕ). Ok (destination_at taken serial)) (or_fails SendInvalidDest
+    (sending.live_port taken.right.port) refl) (λ (serial : ℕ). fine (destination_at taken serial)))
 
 reply_fails : (state : State) (space name : ℕ) (disposition : Option Disposition)
     → Fails (take_reply state space name disposition)
@@ -81,10 +81,10 @@ header_fails state space remote destination local reply =
     (and_then_fails (take_reply state space local reply) _ (reply_fails state space local reply)
     (λ (first : TakenReply).
     and_then_fails (take_destination first.state space remote destination) _
-    (destination_fails first.state space remote destination) (λ (second : Taken × ℕ). fine _)))
+    (destination_fails first.state space remote destination) (λ (second : TakenDestination). fine _)))
     (and_then_fails (take_destination state space remote destination) _
-    (destination_fails state space remote destination) (λ (first : Taken × ℕ).
-    and_then_fails (take_reply first.0.state space local reply) _ (reply_fails first.0.state space local reply)
+    (destination_fails state space remote destination) (λ (first : TakenDestination).
+    and_then_fails (take_reply first.taken.state space local reply) _ (reply_fails first.taken.state space local reply)
     (λ (second : TakenReply). fine _)))
 
 within_fails : (n : ℕ) (bytes : List ℕ) → Fails (items_within n bytes)

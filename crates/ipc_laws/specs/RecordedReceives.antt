@@ -19,7 +19,7 @@ use Rattle.ipc_model.specs.declared.port.PortState.{PortState}
 use Rattle.ipc_model.specs.effects.Effects.{Effect}
 use Rattle.ipc_model.specs.messages.Items.{Item, item_encoding, items_encoding, items_of, filled, body_filled, is_port_item, padded, AreItems}
 use Rattle.ipc_model.specs.messages.Messages.{header_length, message_encoding}
-use Rattle.ipc_model.specs.messages.Receiving.{Receipt, Receives, TakesOut, TooLarge, Received, lacks_names, arriving, reply_right, reply_name, body_names, received_bits, received_body, received_encoding, receive_refusal, refusal_of_sources, sources, is_in_set, all_empty, message_size, without_message}
+use Rattle.ipc_model.specs.messages.Receiving.{ReceiveArguments, Receives, TakesMessage, TakesOut, TooLarge, Received, lacks_names, arriving, reply_right, reply_name, body_names, received_bits, received_body, received_encoding, receive_refusal, refusal_of_sources, sources, is_in_set, all_empty, message_size, without_message}
 use Rattle.ipc_model.specs.state.Lawful.{LawfulMessage, HoldsPorts}
 use Rattle.ipc_model.specs.state.State.{State, Names}
 use Rattle.ipc_model.specs.encodings.Encodings.{IsOfReceive}
@@ -27,7 +27,7 @@ use Rattle.ipc_laws.specs.ItemLaws.{item_length, items_read}
 use Rattle.ipc_laws.specs.LawfulLaws.{LawfulAtRest}
 use Rattle.ipc_laws.specs.ReceiveArgumentLaws.{as_many_names, length-kinds, length-words-take, port_count}
 use Rattle.ipc_laws.specs.ReceiveKeep.{oldest_lawful}
-use Rattle.ipc_laws.specs.ReceiveLaws.{Takes}
+use Rattle.ipc_laws.specs.ReceiveLaws.{large_answer}
 use Rattle.words.specs.WordLaws.{length-word}
 use Rattle.words.specs.Words.{word}
 
@@ -124,17 +124,17 @@ received_long message member seqno given lawful many =
     (body_long message (body_names message.reply given) lawful (names_left message.reply message.rights given many))
 
 -- A receive that has a record brings a message of its size, or destroyed one and brings none.
-pub record ReceiveDone (receipt : Receipt) (answer : Reply) : Type 0 where
+pub record ReceiveDone (arguments : ReceiveArguments) (answer : Reply) : Type 0 where
   pub code : KernReturn
   pub size : ℕ
   pub member : ℕ
   pub message : List ℕ
   pub answer_is : answer ≡ reply.Message code size member message
-  pub brings : IsOfReceive receipt.limit code size member message
+  pub brings : IsOfReceive arguments.limit code size member message
   pub small : length message ≤ MAX_MESSAGE_SIZE
 
-abbrev pub call_of : Receipt → Call
-call_of receipt = call.Receive receipt.limit receipt.large receipt.name receipt.waited
+abbrev pub call_of : ReceiveArguments → Call
+call_of arguments = call.Receive arguments.limit arguments.large arguments.name arguments.waited
 
 -- a receive that is refused with another code has no record
 abbrev HasNone : KernReturn → Type 0
@@ -170,17 +170,18 @@ either_none : (b : Bool) (one other : KernReturn) → HasNone one → HasNone ot
 either_none true one other a b = a
 either_none false one other a b = b
 
-refusals_none : (old : State) (names : Names) (receipt : Receipt) → IfSome (receive_refusal old names receipt) HasNone
-refusals_none old names receipt =
-    elim (sources old names receipt.name (finmap.get names receipt.name))
-    as (λ (o : Option (List ℕ)). IfSome (refusal_of_sources old names receipt o) HasNone) [
-      | None ↦ either_none receipt.waited RcvPortDied RcvInvalidName died_none invalid_none
-      | Some among ↦ elim (is_in_set old names receipt.name)
-          as (λ (b : Bool). IfSome (if b then Some (if receipt.waited then RcvPortChanged else RcvInSet)
+refusals_none : (old : State) (names : Names) (arguments : ReceiveArguments) → IfSome
+    (receive_refusal old names arguments) HasNone
+refusals_none old names arguments =
+    elim (sources old names arguments.name (finmap.get names arguments.name))
+    as (λ (o : Option (List ℕ)). IfSome (refusal_of_sources old names arguments o) HasNone) [
+      | None ↦ either_none arguments.waited RcvPortDied RcvInvalidName died_none invalid_none
+      | Some among ↦ elim (is_in_set old names arguments.name)
+          as (λ (b : Bool). IfSome (if b then Some (if arguments.waited then RcvPortChanged else RcvInSet)
           else if all_empty old names among then Some RcvTimedOut else None) HasNone) [
-            | true ↦ either_none receipt.waited RcvPortChanged RcvInSet changed_none in_set_none
-            | false ↦ elim (all_empty old names among) as (λ (b : Bool). IfSome (if b then Some RcvTimedOut else None) HasNone)
-                [ true ↦ timed_out_none | false ↦ tt ]
+            | true ↦ either_none arguments.waited RcvPortChanged RcvInSet changed_none in_set_none
+            | false ↦ elim (all_empty old names among) as (λ (b : Bool). IfSome
+                (if b then Some RcvTimedOut else None) HasNone) [ true ↦ timed_out_none | false ↦ tt ]
           ]
     ]
 
@@ -189,31 +190,31 @@ record Told (message : Message) (member : ℕ) : Type 0 where
   lawful : LawfulMessage message
   named : (MACH_PORT_NULL < member) × (member < MACH_PORT_DEAD)
 
-destroyed_done : (old : State) (member serial : ℕ) (receipt : Receipt) (message : Message) (answer : Reply)
+destroyed_done : (old : State) (member serial : ℕ) (arguments : ReceiveArguments) (message : Message) (answer : Reply)
     (new : State) (effects : List Effect) → Told message member
-    → nat_lt receipt.limit (message_size message) ≡ true
-    → TooLarge old member serial message receipt.large answer new effects → ReceiveDone receipt answer
-destroyed_done old member serial receipt message answer new effects told larger large =
+    → nat_lt arguments.limit (message_size message) ≡ true
+    → TooLarge old member serial message arguments.large answer new effects → ReceiveDone arguments answer
+destroyed_done old member serial arguments message answer new effects told larger large =
     record {
       code = RcvTooLarge;
       size = message_size message;
       member = member;
       message = [];
-      answer_is = large.0;
+      answer_is = large_answer old member serial message arguments.large answer new effects large;
       brings = (
         (omega arith, told.lawful.small, told.lawful.whole_words),
         told.named.0,
         told.named.1,
-        (ltb-true receipt.limit (message_size message) larger, refl),
+        (ltb-true arguments.limit (message_size message) larger, refl),
       );
       small = omega arith;
     }
 
-brought_done : (old : State) (space member serial : ℕ) (names : Names) (receipt : Receipt) (port : PortState)
+brought_done : (old : State) (space member serial : ℕ) (names : Names) (arguments : ReceiveArguments) (port : PortState)
     (message : Message) (answer : Reply) (new : State) (effects : List Effect) → Told message member
-    → nat_lt receipt.limit (message_size message) ≡ false
-    → Received old space names member serial port message answer new effects → ReceiveDone receipt answer
-brought_done old space member serial names receipt port message answer new effects told within
+    → nat_lt arguments.limit (message_size message) ≡ false
+    → Received old space names member serial port message answer new effects → ReceiveDone arguments answer
+brought_done old space member serial names arguments port message answer new effects told within
     (given, after, arrives, shown, same, are) =
     let long =
     received_long message member port.sequence_number given told.lawful
@@ -228,73 +229,76 @@ brought_done old space member serial names receipt port message answer new effec
         (omega arith, told.lawful.small, told.lawful.whole_words),
         told.named.0,
         told.named.1,
-        (ltb-false receipt.limit (message_size message) within, long),
+        (ltb-false arguments.limit (message_size message) within, long),
       );
       small = omega (arith, long, told.lawful.small);
     }
 
-taken_done : (old : State) (space member serial : ℕ) (names : Names) (receipt : Receipt) (port : PortState)
+taken_done : (old : State) (space member serial : ℕ) (names : Names) (arguments : ReceiveArguments) (port : PortState)
     (message : Message) (answer : Reply) (new : State) (effects : List Effect) → Told message member
-    → TakesOut old space names receipt member serial port message answer new effects
-    → has_record (call_of receipt) answer ≡ true → ReceiveDone receipt answer
-taken_done old space member serial names receipt port message answer new effects told takes recorded =
-    elim (nat_lt receipt.limit (message_size message))
-    as (λ (b : Bool). nat_lt receipt.limit (message_size message) ≡ b
-    → MatchBool b (TooLarge old member serial message receipt.large answer new effects)
+    → TakesOut old space names arguments member serial port message answer new effects
+    → has_record (call_of arguments) answer ≡ true → ReceiveDone arguments answer
+taken_done old space member serial names arguments port message answer new effects told takes recorded =
+    elim (nat_lt arguments.limit (message_size message))
+    as (λ (b : Bool). nat_lt arguments.limit (message_size message) ≡ b
+    → MatchBool b (TooLarge old member serial message arguments.large answer new effects)
     (MatchBool (lacks_names names message)
     ((answer ≡ without_message RcvHeaderErrorSpace 0 MACH_PORT_NULL) × (new ≡ old) × (effects ≡ []))
     (Received old space names member serial port message answer new effects))
-    → ReceiveDone receipt answer) [
-      | true ↦ λ (larger : _) (large : _). destroyed_done old member serial receipt message answer new effects told
+    → ReceiveDone arguments answer) [
+      | true ↦ λ (larger : _) (large : _). destroyed_done old member serial arguments message answer new effects told
           larger large
       | false ↦ λ (within : _) (here : _). elim (lacks_names names message) as (λ (b : Bool).
           MatchBool b ((answer ≡ without_message RcvHeaderErrorSpace 0 MACH_PORT_NULL) × (new ≡ old) × (effects ≡ []))
-          (Received old space names member serial port message answer new effects) → ReceiveDone receipt answer) [
+          (Received old space names member serial port message answer new effects) → ReceiveDone arguments answer) [
             | true ↦ λ (lacks : _). absurd
-                (lacking_none receipt.limit receipt.name receipt.large receipt.waited
-                (subst (λ (a : Reply). has_record (call_of receipt) a ≡ true) lacks.0 recorded))
-            | false ↦ λ (whole : _). brought_done old space member serial names receipt port message answer new effects
-                told within whole
+                (lacking_none arguments.limit arguments.name arguments.large arguments.waited
+                (subst (λ (a : Reply). has_record (call_of arguments) a ≡ true) lacks.0 recorded))
+            | false ↦ λ (whole : _). brought_done old space member serial names arguments port message answer new
+                effects told within whole
           ] here
     ] refl takes
 
-receipt_taken : (old : State) (space : ℕ) (names : Names) (receipt : Receipt) (answer : Reply) (new : State)
+message_taken : (old : State) (space : ℕ) (names : Names) (arguments : ReceiveArguments) (answer : Reply) (new : State)
     (effects : List Effect) → LawfulAtRest old → finmap.get old.spaces space ≡ Some names
-    → Takes old space names receipt answer new effects → has_record (call_of receipt) answer ≡ true
-    → ReceiveDone receipt answer
-receipt_taken old space names receipt answer new effects lawful there
-    (member, serial, port, message, later, among, holds, live, first, takes) recorded =
-    let named = (lawful.spaces space names there).2.named member holds.0 holds.1 in
-    taken_done old space member serial names receipt port message answer new effects
+    → TakesMessage old space names arguments answer new effects → has_record (call_of arguments) answer ≡ true
+    → ReceiveDone arguments answer
+message_taken old space names arguments answer new effects lawful there taken recorded =
+    let named = (lawful.spaces space names there).2.named taken.member taken.holds.0 taken.holds.1 in
+    taken_done old space taken.member taken.serial names arguments taken.port taken.message answer new effects
     (record {
-      lawful = oldest_lawful port message later (lawful.ports serial port live).2 first;
+      lawful =
+          oldest_lawful taken.port taken.message taken.later (lawful.ports taken.serial taken.port taken.live).2
+          taken.first;
       named = (named.0, named.1);
-    }) takes recorded
+    }) taken.takes recorded
 
-pub receive_done : (old : State) (space : ℕ) (names : Names) (receipt : Receipt) (answer : Reply) (new : State)
-    (effects : List Effect) → LawfulAtRest old → finmap.get old.spaces space ≡ Some names
-    → Receives old space names receipt answer new effects → has_record (call_of receipt) answer ≡ true
-    → ReceiveDone receipt answer
-receive_done old space names receipt answer new effects lawful there receives recorded =
-    elim (receive_refusal old names receipt)
+pub receive_done : (old : State) (space : ℕ) (names : Names) (arguments : ReceiveArguments) (answer : Reply)
+    (new : State) (effects : List Effect) → LawfulAtRest old → finmap.get old.spaces space ≡ Some names
+    → Receives old space names arguments answer new effects → has_record (call_of arguments) answer ≡ true
+    → ReceiveDone arguments answer
+receive_done old space names arguments answer new effects lawful there receives recorded =
+    elim (receive_refusal old names arguments)
     as (λ (o : Option KernReturn). IfSome o HasNone
-    → MatchOption o (Takes old space names receipt answer new effects)
+    → MatchOption o (TakesMessage old space names arguments answer new effects)
     (λ code. (answer ≡ without_message code 0 MACH_PORT_NULL) × (new ≡ old) × (effects ≡ []))
-    → ReceiveDone receipt answer) [
-      | None ↦ λ (_ : _) (takes : _). receipt_taken old space names receipt answer new effects lawful there takes
+    → ReceiveDone arguments answer) [
+      | None ↦ λ (_ : _) (takes : _). message_taken old space names arguments answer new effects lawful there takes
           recorded
       | Some code ↦ λ (none : _) (refused : _). absurd
-          (none receipt.limit receipt.name receipt.large receipt.waited
-          (subst (λ (a : Reply). has_record (call_of receipt) a ≡ true) refused.0 recorded))
-    ] (refusals_none old names receipt) receives
+          (none arguments.limit arguments.name arguments.large arguments.waited
+          (subst (λ (a : Reply). has_record (call_of arguments) a ≡ true) refused.0 recorded))
+    ] (refusals_none old names arguments) receives
 
 -- Receives that have records, from lawful states.
 abbrev pub RecordedReceivesAreDone : Type 0
 RecordedReceivesAreDone =
-    (old : State) (space : ℕ) (names : Names) (receipt : Receipt) (answer : Reply) (new : State) (effects : List Effect)
-    → LawfulAtRest old → finmap.get old.spaces space ≡ Some names → Receives old space names receipt answer new effects
-    → has_record (call_of receipt) answer ≡ true → ReceiveDone receipt answer
+    (old : State) (space : ℕ) (names : Names) (arguments : ReceiveArguments) (answer : Reply) (new : State)
+    (effects : List Effect)
+    → LawfulAtRest old → finmap.get old.spaces space ≡ Some names
+    → Receives old space names arguments answer new effects
+    → has_record (call_of arguments) answer ≡ true → ReceiveDone arguments answer
 
 pub recorded_receives : RecordedReceivesAreDone
-recorded_receives old space names receipt answer new effects lawful there receives recorded =
-    receive_done old space names receipt answer new effects lawful there receives recorded
+recorded_receives old space names arguments answer new effects lawful there receives recorded =
+    receive_done old space names arguments answer new effects lawful there receives recorded

@@ -19,7 +19,7 @@ use Rattle.ipc_laws.specs.ListLaws.{some_same}
 use Rattle.ipc_laws.specs.MapSums.{weigh, weigh-append}
 use Rattle.ipc_laws.specs.PortItems.{by_type, kinds_of_type, stored_kinds, no_kinds}
 use Rattle.ipc_model.specs.messages.Sending as sending
-use Rattle.ipc_model.specs.messages.Sending.{TakenRights, TakenHeader, TakenReply, passed, take_right, take_rights, take_item, take_items, take_destination, take_reply, take_header, live_port}
+use Rattle.ipc_model.specs.messages.Sending.{TakenRights, TakenDestination, destination_at, TakenHeader, TakenReply, passed, take_right, take_rights, take_item, take_items, take_destination, take_reply, take_reply_first, take_destination_first, take_header, live_port}
 use Rattle.ipc_model.specs.state.State.{State, Names, is_null_or_dead}
 use Rattle.ipc_laws.specs.Takes.{Quiet, quiet_none, quiet_both, taken_mid, kind_taken, with_right}
 use Rattle.ipc_model.specs.calls.Tests.{and_then, or_refused}
@@ -208,12 +208,12 @@ items_mid space hand wanted (item ∷ items) taken mid =
 
 -- The rights of a header.
 
-record MidDestination (space : ℕ) (hand : Hand) (taken : Taken × ℕ) : Type 0 where
-  mid : MidCall taken.0.state (λ w. hand w + w taken.0.right.kind taken.1)
-  quiet : Quiet taken.0.notices
+record MidDestination (space : ℕ) (hand : Hand) (destination : TakenDestination) : Type 0 where
+  mid : MidCall destination.taken.state (λ w. hand w + w destination.taken.right.kind destination.port)
+  quiet : Quiet destination.taken.notices
   names : Names
-  there : finmap.get taken.0.state.spaces space ≡ Some names
-  sends : taken.0.right.kind ≢ kind.Receive
+  there : finmap.get destination.taken.state.spaces space ≡ Some names
+  sends : destination.taken.right.kind ≢ kind.Receive
 
 record MidReply (space : ℕ) (hand : Hand) (taken : TakenReply) : Type 0 where
   mid : MidCall taken.state (λ w. hand w + reply_weigh w taken.reply)
@@ -242,13 +242,13 @@ destination_mid space name state hand names disposition sends mid there =
     elim (copy_in state space name disposition) as (λ (o : Option Taken). copy_in state space name disposition ≡ o
     → IfOk (and_then (or_refused SendInvalidDest o)
     (λ (taken : Taken). and_then (or_refused SendInvalidDest (live_port taken.right.port))
-    (λ (serial : ℕ). Ok (taken, serial)))) (MidDestination space hand)) [
+    (λ (serial : ℕ). Ok (destination_at taken serial)))) (MidDestination space hand)) [
       | None ↦ λ (_ : _). tt
       | Some taken ↦ λ (is : _).
           let took = taken_mid state hand space name names disposition taken mid there is in
           elim (live_port taken.right.port)
           as (λ (o : Option ℕ). live_port taken.right.port ≡ o
-          → IfOk (and_then (or_refused SendInvalidDest o) (λ (serial : ℕ). Ok (taken, serial)))
+          → IfOk (and_then (or_refused SendInvalidDest o) (λ (serial : ℕ). Ok (destination_at taken serial)))
           (MidDestination space hand)) [
             | None ↦ λ (_ : _). tt
             | Some serial ↦ λ (live : _).
@@ -327,15 +327,7 @@ reply_mid space name state hand names (Some disposition) by mid there =
 header_of_reply : (space remote local : ℕ) (state : State) (names : Names) (destination : Disposition)
     (reply : Option Disposition) → received_kind destination ≢ kind.Receive → RepliesBy reply → MidCall state empty_hand
     → finmap.get state.spaces space ≡ Some names
-    → IfOk (and_then (take_reply state space local reply) (λ (first : TakenReply).
-    and_then (take_destination first.state space remote destination) (λ (second : Taken × ℕ).
-    Ok (record {
-      kind = second.0.right.kind;
-      port = second.1;
-      reply = first.reply;
-      state = second.0.state;
-      notices = first.notices ++ second.0.notices;
-    })))) (MidHeader space)
+    → IfOk (take_reply_first state space remote destination local reply) (MidHeader space)
 header_of_reply space remote local state names destination reply sends by mid there =
     and_then_if (MidReply space empty_hand) (MidHeader space) (take_reply state space local reply) _
     (reply_mid space local state empty_hand names reply by mid there) (λ (first : TakenReply) (one : _).
@@ -343,11 +335,11 @@ header_of_reply space remote local state names destination reply sends by mid th
     (take_destination first.state space remote destination) _
     (destination_mid space remote first.state
     (λ w. empty_hand w + reply_weigh w first.reply) one.names destination sends one.mid one.there)
-    (λ (second : Taken × ℕ) (two : _). record {
+    (λ (second : TakenDestination) (two : _). record {
       mid =
-          mid_hand second.0.state _ (λ w. w second.0.right.kind second.1 + reply_weigh w first.reply) two.mid
+          mid_hand second.taken.state _ (λ w. w second.taken.right.kind second.port + reply_weigh w first.reply) two.mid
           (λ (q : ℕ). omega arith) (λ (q : ℕ) (dead : _). omega arith);
-      quiet = quiet_both first.notices second.0.notices one.quiet two.quiet;
+      quiet = quiet_both first.notices second.taken.notices one.quiet two.quiet;
       names = two.names;
       there = two.there;
       sends = two.sends;
@@ -357,28 +349,20 @@ header_of_reply space remote local state names destination reply sends by mid th
 header_of_destination : (space remote local : ℕ) (state : State) (names : Names) (destination : Disposition)
     (reply : Option Disposition) → received_kind destination ≢ kind.Receive → RepliesBy reply → MidCall state empty_hand
     → finmap.get state.spaces space ≡ Some names
-    → IfOk (and_then (take_destination state space remote destination) (λ (first : Taken × ℕ).
-    and_then (take_reply first.0.state space local reply) (λ (second : TakenReply).
-    Ok (record {
-      kind = first.0.right.kind;
-      port = first.1;
-      reply = second.reply;
-      state = second.state;
-      notices = first.0.notices ++ second.notices;
-    })))) (MidHeader space)
+    → IfOk (take_destination_first state space remote destination local reply) (MidHeader space)
 header_of_destination space remote local state names destination reply sends by mid there =
     and_then_if (MidDestination space empty_hand) (MidHeader space) (take_destination state space remote destination) _
     (destination_mid space remote state empty_hand names destination sends mid there)
-    (λ (first : Taken × ℕ) (one : _).
-    and_then_if (MidReply space (λ w. empty_hand w + w first.0.right.kind first.1)) (MidHeader space)
-    (take_reply first.0.state space local reply) _
-    (reply_mid space local first.0.state
-    (λ w. empty_hand w + w first.0.right.kind first.1) one.names reply by one.mid one.there)
+    (λ (first : TakenDestination) (one : _).
+    and_then_if (MidReply space (λ w. empty_hand w + w first.taken.right.kind first.port)) (MidHeader space)
+    (take_reply first.taken.state space local reply) _
+    (reply_mid space local first.taken.state
+    (λ w. empty_hand w + w first.taken.right.kind first.port) one.names reply by one.mid one.there)
     (λ (second : TakenReply) (two : _). record {
       mid =
-          mid_hand second.state _ (λ w. w first.0.right.kind first.1 + reply_weigh w second.reply) two.mid
+          mid_hand second.state _ (λ w. w first.taken.right.kind first.port + reply_weigh w second.reply) two.mid
           (λ (q : ℕ). omega arith) (λ (q : ℕ) (dead : _). omega arith);
-      quiet = quiet_both first.0.notices second.notices one.quiet two.quiet;
+      quiet = quiet_both first.taken.notices second.notices one.quiet two.quiet;
       names = two.names;
       there = two.there;
       sends = one.sends;

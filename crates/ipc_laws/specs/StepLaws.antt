@@ -202,9 +202,9 @@ same_send (Ok ready) old answer one other effects others here there =
 same_send (Err code) old answer one other effects others here there =
     record { state = here.1 ∙ sym there.1; effects_are = here.2 ∙ sym there.2 }
 
-of_receipt : (one other : State) (effects others : List Effect) → SameLeft one other effects others
+of_receive : (one other : State) (effects others : List Effect) → SameLeft one other effects others
     → SameOutcome one other effects others
-of_receipt one other effects others same = record { state = same.state; effects_are = same.effects_are }
+of_receive one other effects others same = record { state = same.state; effects_are = same.effects_are }
 
 same_acts_in : (old : State) (space : ℕ) (names : Names) (c : Call) (answer : Reply) (one other : State)
     (effects others : List Effect)
@@ -213,7 +213,7 @@ same_acts_in : (old : State) (space : ℕ) (names : Names) (c : Call) (answer : 
 same_acts_in old space names (call.Send message) answer one other effects others lawful here there =
     same_send (ready_to_send old space message) old answer one other effects others here there
 same_acts_in old space names (call.Receive limit large name waited) answer one other effects others lawful here there =
-    of_receipt one other effects others
+    of_receive one other effects others
     (same_receive old space names (record { limit = limit; large = large; name = name; waited = waited }) answer one
     other effects others lawful here there)
 same_acts_in old space names c answer one other effects others lawful here there =

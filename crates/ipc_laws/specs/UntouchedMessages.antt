@@ -13,10 +13,10 @@ use Rattle.ipc_model.specs.rights.Dispositions.{Disposition, disposition_of, rec
 use Rattle.ipc_model.specs.effects.Effects.{Outcome, Effect, queued, release, releases_of}
 use Rattle.ipc_model.specs.messages.Items.{Item, names_of_item}
 use Rattle.ipc_model.specs.messages.Messages.{UsedParts, used_parts}
-use Rattle.ipc_laws.specs.ReceiveLaws.{Outcomes, was_large, was_lacking, was_received, outcome_of, Refuses, taking_of}
-use Rattle.ipc_model.specs.messages.Receiving.{Receipt, Receives, Received, TooLarge, without_oldest, receive_refusal}
+use Rattle.ipc_laws.specs.ReceiveLaws.{Outcomes, was_large, was_lacking, was_received, outcome_of, Refuses}
+use Rattle.ipc_model.specs.messages.Receiving.{ReceiveArguments, Receives, Received, TooLarge, without_oldest, receive_refusal}
 use Rattle.ipc_model.specs.messages.Sending as sending
-use Rattle.ipc_model.specs.messages.Sending.{TakenRights, TakenHeader, TakenReply, Ready, ready_to_send, sent, take_right, take_rights, take_item, take_items, take_destination, take_reply, take_header, live_port, ready_of_items}
+use Rattle.ipc_model.specs.messages.Sending.{TakenRights, TakenDestination, TakenHeader, TakenReply, Ready, ready_to_send, sent, take_right, take_rights, take_item, take_items, take_destination, take_reply, take_header, live_port, ready_of_taken, ready_of_header, ready_of_items}
 use Rattle.ipc_model.specs.state.State.{State, Names, is_null_or_dead, next_count}
 use Rattle.ipc_model.specs.calls.Tests.{Tests, and_then, or_refused, unless_failing}
 use Rattle.ipc_laws.specs.Untouched.{Confined, nothing, follow, own_names, port_change, TakenConfined, copied_in}
@@ -115,16 +115,17 @@ items_there old space (item ∷ items) taken first =
 -- the rights of a header
 
 destination_there : (old state : State) (space name : ℕ) (disposition : Disposition) → Confined old state space
-    → IfOk (take_destination state space name disposition) (λ (t : Taken × ℕ). Confined old t.0.state space)
+    → IfOk (take_destination state space name disposition) (λ (t : TakenDestination). Confined old t.taken.state space)
 destination_there old state space name disposition first =
     and_then_if (λ (t : Taken). Confined state t.state space)
-    (λ (t : Taken × ℕ). Confined old t.0.state space)
+    (λ (t : TakenDestination). Confined old t.taken.state space)
     (or_refused SendInvalidDest (copy_in state space name disposition)) _
     (or_if (λ (t : Taken). Confined state t.state space) SendInvalidDest (copy_in state space name disposition)
     (copied_in state space name disposition))
     (λ (taken : Taken) (here : _).
     and_then_if (λ (serial : ℕ). Unit {0})
-    (λ (t : Taken × ℕ). Confined old t.0.state space) (or_refused SendInvalidDest (live_port taken.right.port)) _
+    (λ (t : TakenDestination). Confined old t.taken.state space)
+    (or_refused SendInvalidDest (live_port taken.right.port)) _
     (any_ok _) (λ (serial : ℕ) (_ : _). follow old state taken.state space first here))
 
 reply_there : (old state : State) (space name : ℕ) (disposition : Option Disposition) → Confined old state space
@@ -146,30 +147,21 @@ header_there old space remote destination local reply =
     (and_then_if (λ (t : TakenReply). Confined old t.state space)
     (λ (t : TakenHeader). Confined old t.state space) (take_reply old space local reply) _
     (reply_there old old space local reply (nothing old space))
-    (λ (first : TakenReply) (here : _). and_then_if (λ (t : Taken × ℕ). Confined old t.0.state space)
+    (λ (first : TakenReply) (here : _). and_then_if (λ (t : TakenDestination). Confined old t.taken.state space)
     (λ (t : TakenHeader). Confined old t.state space) (take_destination first.state space remote destination) _
-    (destination_there old first.state space remote destination here) (λ (second : Taken × ℕ) (there : _). there)))
-    (and_then_if (λ (t : Taken × ℕ). Confined old t.0.state space)
+    (destination_there old first.state space remote destination here)
+    (λ (second : TakenDestination) (there : _). there)))
+    (and_then_if (λ (t : TakenDestination). Confined old t.taken.state space)
     (λ (t : TakenHeader). Confined old t.state space) (take_destination old space remote destination) _
     (destination_there old old space remote destination (nothing old space))
-    (λ (first : Taken × ℕ) (here : _). and_then_if (λ (t : TakenReply). Confined old t.state space)
-    (λ (t : TakenHeader). Confined old t.state space) (take_reply first.0.state space local reply) _
-    (reply_there old first.0.state space local reply here) (λ (second : TakenReply) (there : _). there)))
+    (λ (first : TakenDestination) (here : _). and_then_if (λ (t : TakenReply). Confined old t.state space)
+    (λ (t : TakenHeader). Confined old t.state space) (take_reply first.taken.state space local reply) _
+    (reply_there old first.taken.state space local reply here) (λ (second : TakenReply) (there : _). there)))
 
 abbrev pub ReadyConfined : State → ℕ → Ready → Type 0
 ReadyConfined old space ready = Confined old ready.state space
 
 -- the steps from items to a message that is ready
-abbrev ready_of_taken : UsedParts → List Item → TakenHeader → TakenRights → Result Ready KernReturn
-ready_of_taken parts items header taken =
-    unless_failing (sending.tests_of_queue (sending.ready_message parts items header taken))
-    (Ok (sending.ready_message parts items header taken))
-
-abbrev ready_of_header : ℕ → UsedParts → List Item → TakenHeader → Result Ready KernReturn
-ready_of_header space parts items header =
-    and_then (or_refused SendInvalidRight
-    (take_items space items (record { rights = []; state = header.state; notices = [] })))
-    (ready_of_taken parts items header)
 
 of_taken_there : (old : State) (space : ℕ) (parts : UsedParts) (items : List Item) (header : TakenHeader)
     (taken : TakenRights) → Confined old taken.state space
@@ -254,10 +246,10 @@ taken_out old space serial =
 
 large_there : (old : State) (space member serial : ℕ) (message : Message) (keeps : Bool) (answer : Reply) (new : State)
     (effects : List Effect) → TooLarge old member serial message keeps answer new effects → Confined old new space
-large_there old space member serial message keeps answer new effects large =
-    subst (λ (s : State). Confined old s space) (sym large.1)
-    (elim keeps as (λ (b : Bool). Confined old (if b then old else without_oldest old serial) space)
-    [ true ↦ nothing old space | false ↦ taken_out old space serial ])
+large_there old space member serial message true answer new effects large =
+    subst (λ (s : State). Confined old s space) (sym large.1) (nothing old space)
+large_there old space member serial message false answer new effects large =
+    subst (λ (s : State). Confined old s space) (sym large.1) (taken_out old space serial)
 
 received_there : (old : State) (space : ℕ) (names : Names) (member serial : ℕ) (port : PortState) (message : Message)
     (answer : Reply) (new : State) (effects : List Effect)
@@ -267,26 +259,25 @@ received_there old space names member serial port message answer new effects rec
     (follow old (without_oldest old serial) _ space (taken_out old space serial)
     (own_names (without_oldest old serial) space received.1))
 
-outcome_there : (old : State) (space : ℕ) (names : Names) (receipt : Receipt) (member serial : ℕ) (port : PortState)
-    (message : Message) (answer : Reply) (new : State) (effects : List Effect)
-    → Outcomes old space names receipt member serial port message answer new effects → Confined old new space
-outcome_there old space names receipt member serial port message answer new effects (was_large large) =
-    large_there old space member serial message receipt.large answer new effects large
-outcome_there old space names receipt member serial port message answer new effects (was_lacking is as_before none) =
+outcome_there : (old : State) (space : ℕ) (names : Names) (arguments : ReceiveArguments) (member serial : ℕ)
+    (port : PortState) (message : Message) (answer : Reply) (new : State) (effects : List Effect)
+    → Outcomes old space names arguments member serial port message answer new effects → Confined old new space
+outcome_there old space names arguments member serial port message answer new effects (was_large large) =
+    large_there old space member serial message arguments.large answer new effects large
+outcome_there old space names arguments member serial port message answer new effects (was_lacking is as_before none) =
     subst (λ (s : State). Confined old s space) (sym as_before) (nothing old space)
-outcome_there old space names receipt member serial port message answer new effects (was_received whole) =
+outcome_there old space names arguments member serial port message answer new effects (was_received whole) =
     received_there old space names member serial port message answer new effects whole
 
-pub receive_there : (old : State) (space : ℕ) (names : Names) (receipt : Receipt) (answer : Reply) (new : State)
-    (effects : List Effect) → Receives old space names receipt answer new effects → Confined old new space
-receive_there old space names receipt answer new effects receives =
-    elim (receive_refusal old names receipt)
-    as (λ (r : Option KernReturn). Refuses r old space names receipt answer new effects → Confined old new space) [
-      | None ↦ λ (takes : _).
-          let taking = taking_of old space names receipt answer new effects takes in
-          outcome_there old space names receipt taking.member taking.serial taking.port taking.message answer new
-          effects
-          (outcome_of old space names receipt taking.member taking.serial taking.port taking.message answer new effects
-          taking.takes)
+pub receive_there : (old : State) (space : ℕ) (names : Names) (arguments : ReceiveArguments) (answer : Reply)
+    (new : State)
+    (effects : List Effect) → Receives old space names arguments answer new effects → Confined old new space
+receive_there old space names arguments answer new effects receives =
+    elim (receive_refusal old names arguments)
+    as (λ (r : Option KernReturn). Refuses r old space names arguments answer new effects → Confined old new space) [
+      | None ↦ λ (taken : _).
+          outcome_there old space names arguments taken.member taken.serial taken.port taken.message answer new effects
+          (outcome_of old space names arguments taken.member taken.serial taken.port taken.message answer new effects
+          taken.takes)
       | Some code ↦ λ (refused : _). subst (λ (s : State). Confined old s space) (sym refused.1) (nothing old space)
     ] receives

@@ -7,7 +7,7 @@ use Rattle.ipc_model.specs.declared.call.Call.{Call}
 use Rattle.ipc_model.specs.declared.call.Reply.{Reply}
 use Rattle.ipc_model.specs.state.State.{State}
 use Rattle.ipc_model.specs.store.Faults as fault
-use Rattle.ipc_model.specs.world.World.{Event, fails_first, Outcome, Ticket, Batch, Receipt, Checkpoint, World, Worlds, After, AfterPossible, AfterDone, CanAppend, CanReply, IsPossible, submit, take_batch, append, durable, ask_reply, cut, roll_close, roll_head, roll_open, image_close, piece, finish, given, replied, done, not_now, epoch_full, no_memory, store, of_append, of_finish, first_world, acknowledged, greatest_seen, is_after, next_batch, record_of, after_submit, after_take, after_append, after_durable, with_answered, after_cut, with_checkpoint}
+use Rattle.ipc_model.specs.world.World.{Event, fails_first, Outcome, Ticket, Batch, Receipt, Checkpoint, World, Worlds, After, AfterPossible, CanAppend, CanReply, IsPossible, submit, take_batch, append, durable, ask_reply, cut, roll_close, roll_head, roll_open, image_close, piece, finish, given, replied, done, not_now, epoch_full, no_memory, store, of_append, of_finish, first_world, acknowledged, greatest_seen, is_after, next_batch, record_of, after_submit, after_take, after_append, after_durable, with_answered, after_cut, with_checkpoint}
 
 -- how many records of a batch that is out aren't appended yet
 abbrev waiting : Option Batch → ℕ
@@ -300,41 +300,51 @@ failed_order world order =
       answered = order.answered;
     }
 
-done_order : (base : State) (world : World) (event : Event) (new : World) → IsPossible world event
-    → AfterDone base world event new → InOrder world → InOrder new
-done_order base world (submit space call) new possible after order = absurd after
-done_order base world take_batch new possible after order = subst InOrder (sym after) (took world possible order)
-done_order base world append new possible after order =
-    subst InOrder (sym after) (appended world world.batch refl possible order)
-done_order base world durable new possible after order =
-    subst InOrder (sym after) (handed_in world world.receipts refl order)
-done_order base world (ask_reply ticket) new possible after order = absurd after
-done_order base world cut new possible after order = subst InOrder (sym after.2) (cut_order world after.0 order)
-done_order base world roll_close new possible after order =
-    subst InOrder (sym after) (stepped world _ world.checkpoint order)
-done_order base world roll_head new possible after order =
-    subst InOrder (sym after) (stepped world _ world.checkpoint order)
-done_order base world roll_open new possible after order =
-    subst InOrder (sym after) (stepped world _ world.checkpoint order)
-done_order base world image_close new possible after order =
-    subst InOrder (sym after) (stepped world _ world.checkpoint order)
-done_order base world piece new possible after order =
-    subst InOrder (sym after) (stepped world _ world.checkpoint order)
-done_order base world finish new possible after order =
-    subst InOrder (sym after) (finished_order world order _ world.checkpoint)
-
 possible_order : (base : State) (world : World) (event : Event) (outcome : Outcome) (new : World)
     → IsPossible world event → AfterPossible base world event outcome new → InOrder world → InOrder new
 possible_order base world (submit space call) (given answer) new possible after order =
     subst InOrder (sym after.1) (submitted world space call answer order)
 possible_order base world (submit space call) epoch_full new possible after order = subst InOrder (sym after.1) order
+possible_order base world (submit space call) no_memory new possible after order = subst InOrder (sym after) order
+possible_order base world take_batch done new possible after order =
+    subst InOrder (sym after) (took world possible order)
+possible_order base world append done new possible after order =
+    subst InOrder (sym after) (appended world world.batch refl possible order)
+possible_order base world append (store fault.device) new possible after order =
+    subst InOrder (sym after) (failed_order world order)
+possible_order base world durable done new possible after order =
+    subst InOrder (sym after) (handed_in world world.receipts refl order)
 possible_order base world (ask_reply ticket) (replied answer) new possible after order =
     subst InOrder (sym after.3) (answered_order world ticket after.0 after.1 possible order)
-possible_order base world event done new possible after order = done_order base world event new possible after order
-possible_order base world event no_memory new possible after order = subst InOrder (sym after.1) order
-possible_order base world event (store fault.no_memory) new possible after order = subst InOrder (sym after.1) order
-possible_order base world event (store fault.device) new possible after order =
-    subst InOrder (sym after.1) (failed_order world order)
+possible_order base world cut done new possible after order =
+    subst InOrder (sym after.2) (cut_order world after.0 order)
+possible_order base world cut no_memory new possible after order = subst InOrder (sym after) order
+possible_order base world roll_close done new possible after order =
+    subst InOrder (sym after) (stepped world _ world.checkpoint order)
+possible_order base world roll_close (store fault.device) new possible after order =
+    subst InOrder (sym after) (failed_order world order)
+possible_order base world roll_head done new possible after order =
+    subst InOrder (sym after) (stepped world _ world.checkpoint order)
+possible_order base world roll_head (store fault.device) new possible after order =
+    subst InOrder (sym after) (failed_order world order)
+possible_order base world roll_open done new possible after order =
+    subst InOrder (sym after) (stepped world _ world.checkpoint order)
+possible_order base world roll_open (store fault.device) new possible after order =
+    subst InOrder (sym after) (failed_order world order)
+possible_order base world image_close done new possible after order =
+    subst InOrder (sym after) (stepped world _ world.checkpoint order)
+possible_order base world image_close (store fault.no_memory) new possible after order =
+    subst InOrder (sym after) order
+possible_order base world image_close (store fault.device) new possible after order =
+    subst InOrder (sym after) (failed_order world order)
+possible_order base world piece done new possible after order =
+    subst InOrder (sym after) (stepped world _ world.checkpoint order)
+possible_order base world piece (store fault.device) new possible after order =
+    subst InOrder (sym after) (failed_order world order)
+possible_order base world finish done new possible after order =
+    subst InOrder (sym after) (finished_order world order _ world.checkpoint)
+possible_order base world finish (store fault.device) new possible after order =
+    subst InOrder (sym after) (failed_order world order)
 possible_order base world _ _ new possible after order = absurd after
 
 after_order : (base : State) (world : World) (event : Event) (outcome : Outcome) (new : World)

@@ -10,7 +10,7 @@ use Rattle.ipc_model.specs.declared.record.Record.{Record}
 use Rattle.ipc_model.specs.calls.Step.{Step, Run, has_record}
 use Rattle.ipc_model.specs.state.State.{State}
 use Rattle.ipc_model.specs.store.Faults as fault
-use Rattle.ipc_model.specs.world.World.{Event, Outcome, Ticket, Batch, Receipt, Checkpoint, World, Worlds, After, AfterPossible, AfterDone, MayGive, IsStep, submit, take_batch, append, durable, ask_reply, cut, roll_close, roll_head, roll_open, image_close, piece, finish, given, replied, done, not_now, epoch_full, no_memory, store, of_append, of_finish, first_world, log_length, is_of_store, acknowledged, record_of, after_submit, after_append, after_durable, with_answered, with_checkpoint}
+use Rattle.ipc_model.specs.world.World.{Event, Outcome, Ticket, Batch, Receipt, Checkpoint, World, Worlds, After, AfterPossible, MayGive, IsStep, submit, take_batch, append, durable, ask_reply, cut, roll_close, roll_head, roll_open, image_close, piece, finish, given, replied, done, not_now, epoch_full, no_memory, store, of_append, of_finish, first_world, log_length, is_of_store, acknowledged, record_of, after_submit, after_append, after_durable, with_answered, with_checkpoint}
 use Rattle.ipc_laws.specs.RunLaws.{run-push}
 use Rattle.ipc_laws.specs.WorldLaws.{acknowledged_is_stored}
 
@@ -43,27 +43,11 @@ same_finished : (world : World) (change : Checkpoint → Checkpoint) (checkpoint
 same_finished world change None = record { applied = refl; tickets = inl refl; row = omega arith }
 same_finished world change (Some checkpoint) = record { applied = refl; tickets = inl refl; row = omega arith }
 
-unchanged_done : (base : State) (world : World) (event : Event) (new : World) → AfterDone base world event new
-    → Unchanged world new
-unchanged_done base world (submit space call) new after = absurd after
-unchanged_done base world take_batch new after =
-    subst (Unchanged world) (sym after) (record { applied = refl; tickets = inl refl; row = omega arith })
-unchanged_done base world append new after = subst (Unchanged world) (sym after) (same_append world world.batch)
-unchanged_done base world durable new after = subst (Unchanged world) (sym after) (same_durable world world.receipts)
-unchanged_done base world (ask_reply ticket) new after = absurd after
-unchanged_done base world cut new after =
-    subst (Unchanged world) (sym after.2) (record { applied = refl; tickets = inl refl; row = omega arith })
-unchanged_done base world roll_close new after =
-    subst (Unchanged world) (sym after) (same_stepped world _ world.checkpoint)
-unchanged_done base world roll_head new after =
-    subst (Unchanged world) (sym after) (same_stepped world _ world.checkpoint)
-unchanged_done base world roll_open new after =
-    subst (Unchanged world) (sym after) (same_stepped world _ world.checkpoint)
-unchanged_done base world image_close new after =
-    subst (Unchanged world) (sym after) (same_stepped world _ world.checkpoint)
-unchanged_done base world piece new after = subst (Unchanged world) (sym after) (same_stepped world _ world.checkpoint)
-unchanged_done base world finish new after =
-    subst (Unchanged world) (sym after) (same_finished world _ world.checkpoint)
+same_failed : (world : World) → Unchanged world (record world { failed = true })
+same_failed world = record { applied = refl; tickets = inl refl; row = omega arith }
+
+unchanged : {world : World} (made : World) {new : World} → new ≡ made → Unchanged world made → Unchanged world new
+unchanged {world = world} made after is = subst (Unchanged world) (sym after) is
 
 -- a ticket is given
 pub record IsGiven (base : State) (old new : World) : Type 0 where
@@ -77,17 +61,31 @@ changes_possible : (base : State) (world : World) (event : Event) (outcome : Out
     → AfterPossible base world event outcome new → IsGiven base world new ⊎ Unchanged world new
 changes_possible base world (submit space call) (given answer) new after =
     inl (record { space = space; call = call; answer = answer; may = after.0; after = after.1 })
-changes_possible base world (submit space call) epoch_full new after =
-    inr (subst (Unchanged world) (sym after.1) (same world))
+changes_possible base world (submit space call) epoch_full new after = inr (unchanged world after.1 (same world))
+changes_possible base world (submit space call) no_memory new after = inr (unchanged world after (same world))
+changes_possible base world take_batch done new after =
+    inr (unchanged _ after (record { applied = refl; tickets = inl refl; row = omega arith }))
+changes_possible base world append done new after = inr (unchanged _ after (same_append world world.batch))
+changes_possible base world append (store fault.device) new after = inr (unchanged _ after (same_failed world))
+changes_possible base world durable done new after = inr (unchanged _ after (same_durable world world.receipts))
 changes_possible base world (ask_reply ticket) (replied answer) new after =
-    inr (subst (Unchanged world) (sym after.3)
-    (record { applied = refl; tickets = inr (ticket, refl); row = omega arith }))
-changes_possible base world event done new after = inr (unchanged_done base world event new after)
-changes_possible base world event no_memory new after = inr (subst (Unchanged world) (sym after.1) (same world))
-changes_possible base world event (store fault.no_memory) new after =
-    inr (subst (Unchanged world) (sym after.1) (same world))
-changes_possible base world event (store fault.device) new after =
-    inr (subst (Unchanged world) (sym after.1) (record { applied = refl; tickets = inl refl; row = omega arith }))
+    inr (unchanged _ after.3 (record { applied = refl; tickets = inr (ticket, refl); row = omega arith }))
+changes_possible base world cut done new after =
+    inr (unchanged _ after.2 (record { applied = refl; tickets = inl refl; row = omega arith }))
+changes_possible base world cut no_memory new after = inr (unchanged world after (same world))
+changes_possible base world roll_close done new after = inr (unchanged _ after (same_stepped world _ world.checkpoint))
+changes_possible base world roll_close (store fault.device) new after = inr (unchanged _ after (same_failed world))
+changes_possible base world roll_head done new after = inr (unchanged _ after (same_stepped world _ world.checkpoint))
+changes_possible base world roll_head (store fault.device) new after = inr (unchanged _ after (same_failed world))
+changes_possible base world roll_open done new after = inr (unchanged _ after (same_stepped world _ world.checkpoint))
+changes_possible base world roll_open (store fault.device) new after = inr (unchanged _ after (same_failed world))
+changes_possible base world image_close done new after = inr (unchanged _ after (same_stepped world _ world.checkpoint))
+changes_possible base world image_close (store fault.no_memory) new after = inr (unchanged world after (same world))
+changes_possible base world image_close (store fault.device) new after = inr (unchanged _ after (same_failed world))
+changes_possible base world piece done new after = inr (unchanged _ after (same_stepped world _ world.checkpoint))
+changes_possible base world piece (store fault.device) new after = inr (unchanged _ after (same_failed world))
+changes_possible base world finish done new after = inr (unchanged _ after (same_finished world _ world.checkpoint))
+changes_possible base world finish (store fault.device) new after = inr (unchanged _ after (same_failed world))
 changes_possible base world _ _ new after = absurd after
 
 pub changes : (base : State) (world : World) (event : Event) (outcome : Outcome) (new : World)
@@ -293,31 +291,27 @@ stuck_durable n world [] stuck = stuck
 stuck_durable n world (of_append size ∷ receipts) stuck = record { failed = stuck.failed; stored = stuck.stored }
 stuck_durable n world (of_finish ∷ receipts) stuck = record { failed = stuck.failed; stored = stuck.stored }
 
-stuck_done : (n : ℕ) (base : State) (world : World) (event : Event) (new : World) → is_of_store event ≡ false
-    → AfterDone base world event new → IsStuck n world → IsStuck n new
-stuck_done n base world (submit space call) new other after stuck = absurd after
-stuck_done n base world take_batch new other after stuck =
-    subst (IsStuck n) (sym after) (record { failed = stuck.failed; stored = stuck.stored })
-stuck_done n base world durable new other after stuck =
-    subst (IsStuck n) (sym after) (stuck_durable n world world.receipts stuck)
-stuck_done n base world (ask_reply ticket) new other after stuck = absurd after
-stuck_done n base world cut new other after stuck =
-    subst (IsStuck n) (sym after.2) (record { failed = stuck.failed; stored = stuck.stored })
-stuck_done n base world event new other after stuck = absurd (cc other)
-
 stuck_possible : (n : ℕ) (base : State) (world : World) (event : Event) (outcome : Outcome) (new : World)
     → is_of_store event ≡ false → AfterPossible base world event outcome new → IsStuck n world → IsStuck n new
 stuck_possible n base world (submit space call) (given answer) new other after stuck =
     subst (IsStuck n) (sym after.1) (record { failed = stuck.failed; stored = stuck.stored })
 stuck_possible n base world (submit space call) epoch_full new other after stuck = subst (IsStuck n) (sym after.1) stuck
+stuck_possible n base world (submit space call) no_memory new other after stuck = subst (IsStuck n) (sym after) stuck
+stuck_possible n base world (submit space call) outcome new other after stuck = absurd after
+stuck_possible n base world take_batch done new other after stuck =
+    subst (IsStuck n) (sym after) (record { failed = stuck.failed; stored = stuck.stored })
+stuck_possible n base world take_batch outcome new other after stuck = absurd after
+stuck_possible n base world durable done new other after stuck =
+    subst (IsStuck n) (sym after) (stuck_durable n world world.receipts stuck)
+stuck_possible n base world durable outcome new other after stuck = absurd after
 stuck_possible n base world (ask_reply ticket) (replied answer) new other after stuck =
     subst (IsStuck n) (sym after.3) (record { failed = stuck.failed; stored = stuck.stored })
-stuck_possible n base world event done new other after stuck = stuck_done n base world event new other after stuck
-stuck_possible n base world event no_memory new other after stuck = subst (IsStuck n) (sym after.1) stuck
-stuck_possible n base world event (store fault.no_memory) new other after stuck = subst (IsStuck n) (sym after.1) stuck
-stuck_possible n base world event (store fault.device) new other after stuck =
-    subst (IsStuck n) (sym after.1) (record { failed = refl; stored = stuck.stored })
-stuck_possible n base world _ _ new other after stuck = absurd after
+stuck_possible n base world (ask_reply ticket) outcome new other after stuck = absurd after
+stuck_possible n base world cut done new other after stuck =
+    subst (IsStuck n) (sym after.2) (record { failed = stuck.failed; stored = stuck.stored })
+stuck_possible n base world cut no_memory new other after stuck = subst (IsStuck n) (sym after) stuck
+stuck_possible n base world cut outcome new other after stuck = absurd after
+stuck_possible n base world event outcome new other after stuck = absurd (cc other)
 
 stuck_after : (n : ℕ) (base : State) (world : World) (event : Event) (outcome : Outcome) (new : World)
     → After base world event outcome new → IsStuck n world → IsStuck n new

@@ -15,6 +15,7 @@ ghost use Rattle.ipc_laws.specs.OwnedPlaces.{RecordsAreOwned};
 ghost use Rattle.ipc_laws.specs.PortChanges.{PortMovesLawfully};
 ghost use Rattle.ipc_laws.specs.RecordedMessages.{RecordedSendsAreDone};
 ghost use Rattle.ipc_laws.specs.RecordedReceives.{RecordedReceivesAreDone};
+ghost use Rattle.ipc_laws.specs.RecordedReplies.{RepliesByCall};
 ghost use Rattle.ipc_laws.specs.RecordedSteps.{RecordedStepsAreRecords};
 ghost use Rattle.ipc_laws.specs.RecoveryLaws.{RecoversLawful, RecoversOnce, RecoversVersionOne, EncodesOnce};
 ghost use Rattle.ipc_laws.specs.RunLaws.{RecordsRunAsCanonical};
@@ -149,6 +150,11 @@ pub fn recorded_sends_are_done()
 /// returns a message of this size within its limit, or it destroyed one above the limit and returns nothing.
 pub fn recorded_receives_are_done()
     ensures { RecordedReceivesAreDone }
+{}
+
+/// The replies that a record of a call may have, as a table by call.
+pub fn replies_by_call()
+    ensures { RepliesByCall }
 {}
 
 /// What is kept of a step that has a record, from a lawful state, is a record that a segment may hold: no other

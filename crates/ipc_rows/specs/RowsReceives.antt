@@ -10,7 +10,7 @@ use Rattle.ipc_model.specs.declared.message.RightKind.TheVariants as kind
 use Rattle.ipc_model.specs.declared.port.PortState.{PortState}
 use Rattle.ipc_model.specs.rights.CopyOut.{names_needed}
 use Rattle.ipc_model.specs.effects.Effects.{release}
-use Rattle.ipc_model.specs.messages.Receiving.{Receipt, destination_consumed, lacks_names, message_size, without_oldest, without_message, receive_refusal, sources}
+use Rattle.ipc_model.specs.messages.Receiving.{ReceiveArguments, destination_consumed, lacks_names, message_size, without_oldest, without_message, receive_refusal, sources}
 use Rattle.ipc_rows.specs.RowRules.{rows}
 use Rattle.ipc_rows.specs.RowStates.{rights_to, names_of, in_space_1, with_queue, plain, live, queue_of, asking, hello}
 use Rattle.ipc_model.specs.state.State.{State, Names, new_port}
@@ -25,7 +25,7 @@ two_members = in_space_1 in_set
     ((1, record (with_queue (plain kind.SendOnce 7 [] ∷ [])) { set = Some 0x102 }) ∷
     (2, record (with_queue (plain kind.SendOnce 8 [] ∷ [])) { set = Some 0x102 }) ∷ [])
 
-abbrev pub attempt : ℕ → Bool → Receipt
+abbrev pub attempt : ℕ → Bool → ReceiveArguments
 attempt name waited = record { limit = 100; large = false; name = name; waited = waited }
 
 -- a receive from the set may take the message of either

@@ -93,18 +93,18 @@ hello_received =
 
 pub receive-acts : ActsFrom (one_port (hello ∷ [])) 1 (finmap.get (one_port (hello ∷ [])).spaces 1)
     (call.Receive 28 false 0x100 false) hello_received received_state (release kind.Send 1 ∷ [])
-receive-acts = simp rows (
-  0x100,
-  1,
-  with_queue (hello ∷ []),
-  hello,
-  [],
-  (0, omega arith, refl),
-  (rights_to 1 true 1, refl, refl),
-  refl,
-  refl,
-  ([], names_of ((0x100, rights_to 1 true 1) ∷ []), (refl, refl), refl, refl, refl),
-)
+receive-acts = simp rows (record {
+  member = 0x100;
+  serial = 1;
+  port = with_queue (hello ∷ []);
+  message = hello;
+  later = [];
+  is_source = simp rows (0, omega arith, refl);
+  holds = simp rows (rights_to 1 true 1, refl, refl);
+  live = simp rows;
+  first = refl;
+  takes = simp rows ([], names_of ((0x100, rights_to 1 true 1) ∷ []), (refl, refl), refl, refl, refl);
+})
 
 pub receive-released : (effect received_state (release kind.Send 1)).1 ≡ []
 unfolding effect placed

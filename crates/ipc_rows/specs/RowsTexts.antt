@@ -8,7 +8,7 @@ use Rattle.ipc_model.specs.declared.call.Call.TheVariants as call
 use Rattle.ipc_model.specs.declared.call.Reply.{Reply}
 use Rattle.ipc_model.specs.declared.call.Reply.TheVariants as reply
 use Rattle.ipc_model.specs.declared.record.Record.{Record}
-use Rattle.ipc_model.specs.messages.Kept.{canonical_message}
+use Rattle.ipc_model.specs.messages.Kept.{canonical_message, used_bits}
 use Rattle.ipc_model.specs.messages.Messages.{used_parts}
 use Rattle.ipc_model.specs.encodings.Images.{image_encoding}
 use Rattle.ipc_rows.specs.RowRules.{rows}
@@ -96,6 +96,11 @@ pub names-frame : frame_encoding (reply_encoding (reply.Names []))
     ≡ 12 ∷ 0 ∷ 0 ∷ 0 ∷ 1 ∷ 0 ∷ 0 ∷ 0 ∷ 0 ∷ 0 ∷ 0 ∷ 0 ∷ 0 ∷ 0 ∷ 0 ∷ 0 ∷ []
 unfolding reply_encoding
 names-frame = refl
+
+-- the masks of a header's words, byte by byte
+pub used_bits-bytes : used_bits
+    ≡ 255 ∷ 255 ∷ 0 ∷ 128 ∷ 0 ∷ 0 ∷ 0 ∷ 0 ∷ 255 ∷ 255 ∷ 255 ∷ 255 ∷ 255 ∷ 255 ∷ 255 ∷ 255 ∷ 0 ∷ 0 ∷ 0 ∷ 0 ∷ []
+used_bits-bytes = refl
 
 -- A send of 28 bytes with bits, a size and a sequence number that a send ignores: its record has 0 in place of them.
 

@@ -272,7 +272,7 @@ abbrev pub failed_world : World
 failed_world = record two_taken { failed = true }
 
 pub fault-changes : After opening_state two_taken append (store fault.device) failed_world
-fault-changes = (refl, (refl, tt), (refl, refl))
+fault-changes = (refl, (refl, tt), refl)
 
 pub fault-acknowledged : acknowledged failed_world ≡ 0
 fault-acknowledged = refl
@@ -326,7 +326,7 @@ never-full world new (submit space c) after = after.2
 never-full world new event after = after.2
 
 pub roll-takes_none : (world new : World) → After opening_state world roll_close (store fault.no_memory) new → ⊥
-roll-takes_none world new after = absurd (cc after.2.0)
+roll-takes_none world new after = after.2
 
 -- Lists of events that can't happen.
 

@@ -12,12 +12,12 @@ use Rattle.ipc_model.specs.declared.call.Reply.{Reply}
 use Rattle.ipc_model.specs.declared.message.Message.{Message}
 use Rattle.ipc_model.specs.declared.port.PortState.{PortState}
 use Rattle.ipc_model.specs.effects.Effects.{Effect, Settles, settled}
-use Rattle.ipc_model.specs.messages.Receiving.{Receipt, TooLarge, message_size, receive_refusal, without_message}
+use Rattle.ipc_model.specs.messages.Receiving.{ReceiveArguments, TakesMessage, TooLarge, message_size, receive_refusal, without_message}
 use Rattle.ipc_model.specs.messages.Sending.{Ready, ready_to_send}
 use Rattle.ipc_model.specs.state.State.{State, Names}
 use Rattle.ipc_model.specs.calls.Step.{Step, ActsFrom, ActsIn, IsRefusedWith, has_record}
 use Rattle.ipc_laws.specs.PortCallLaws.{unrecorded_act}
-use Rattle.ipc_laws.specs.ReceiveLaws.{Outcomes, Takes, outcome_of, taking_of, was_large, was_lacking, was_received}
+use Rattle.ipc_laws.specs.ReceiveLaws.{Outcomes, outcome_of, was_large, was_lacking, was_received}
 use Rattle.ipc_laws.specs.RecordedReceives.{call_of}
 use Rattle.ipc_laws.specs.StepLaws.{one_end}
 use Rattle.kernel.specs.Choosing.{SentAs}
@@ -69,13 +69,14 @@ large_without old member serial message limit false name waited answer new effec
     recorded_as (call.Receive limit false name waited)
     (without_message RcvTooLarge (message_size message) member) answer refl acts.0 none
 
-taken_without : (old : State) (space : ℕ) (names : Names) (receipt : Receipt) (member serial : ℕ) (port : PortState)
-    (message : Message) (answer : Reply) (new : State) (effects : List Effect)
-    → has_record (call_of receipt) answer ≡ false
-    → Outcomes old space names receipt member serial port message answer new effects → IsWithout old answer new effects
-taken_without old space names receipt member serial port message answer new effects none outcome = elim outcome [
-  | was_large acts ↦ large_without old member serial message receipt.limit receipt.large receipt.name receipt.waited
-      answer new effects none acts
+taken_without : (old : State) (space : ℕ) (names : Names) (arguments : ReceiveArguments) (member serial : ℕ)
+    (port : PortState) (message : Message) (answer : Reply) (new : State) (effects : List Effect)
+    → has_record (call_of arguments) answer ≡ false
+    → Outcomes old space names arguments member serial port message answer new effects
+    → IsWithout old answer new effects
+taken_without old space names arguments member serial port message answer new effects none outcome = elim outcome [
+  | was_large acts ↦ large_without old member serial message arguments.limit arguments.large arguments.name
+      arguments.waited answer new effects none acts
   | was_lacking is same unset ↦ record {
     code = RcvHeaderErrorSpace;
     size = 0;
@@ -84,21 +85,21 @@ taken_without old space names receipt member serial port message answer new effe
     same = same;
     none = unset;
   }
-  | was_received acts ↦ recorded_as (call_of receipt) _ answer refl acts.3 none
+  | was_received acts ↦ recorded_as (call_of arguments) _ answer refl acts.3 none
 ]
 
-received_without : (refusal : Option KernReturn) (old : State) (space : ℕ) (names : Names) (receipt : Receipt)
-    (answer : Reply) (new : State) (effects : List Effect) → has_record (call_of receipt) answer ≡ false
-    → MatchOption refusal (Takes old space names receipt answer new effects)
+received_without : (refusal : Option KernReturn) (old : State) (space : ℕ) (names : Names)
+    (arguments : ReceiveArguments)
+    (answer : Reply) (new : State) (effects : List Effect) → has_record (call_of arguments) answer ≡ false
+    → MatchOption refusal (TakesMessage old space names arguments answer new effects)
     (λ code. IsRefusedWith (without_message code 0 MACH_PORT_NULL) old answer new effects)
     → IsWithout old answer new effects
-received_without (Some code) old space names receipt answer new effects none acts =
+received_without (Some code) old space names arguments answer new effects none acts =
     refused_without code old answer new effects acts
-received_without None old space names receipt answer new effects none acts =
-    let taking = taking_of old space names receipt answer new effects acts in
-    taken_without old space names receipt taking.member taking.serial taking.port taking.message answer new effects none
-    (outcome_of old space names receipt taking.member taking.serial taking.port taking.message answer new effects
-    taking.takes)
+received_without None old space names arguments answer new effects none taken =
+    taken_without old space names arguments taken.member taken.serial taken.port taken.message answer new effects none
+    (outcome_of old space names arguments taken.member taken.serial taken.port taken.message answer new effects
+    taken.takes)
 
 pub send_without : (old : State) (space : ℕ) (names : Names) (message : List ℕ) (answer : Reply) (new : State)
     (effects : List Effect) → has_record (call.Send message) answer ≡ false
@@ -112,8 +113,8 @@ pub receive_without : (old : State) (space : ℕ) (names : Names) (limit : ℕ) 
     → ActsIn old space names (call.Receive limit large name waited) answer new effects
     → IsWithout old answer new effects
 receive_without old space names limit large name waited answer new effects none acts =
-    let receipt : Receipt = record { limit = limit; large = large; name = name; waited = waited } in
-    received_without (receive_refusal old names receipt) old space names receipt answer new effects none acts
+    let arguments : ReceiveArguments = record { limit = limit; large = large; name = name; waited = waited } in
+    received_without (receive_refusal old names arguments) old space names arguments answer new effects none acts
 
 -- All calls.
 

@@ -5,14 +5,14 @@ use Rattle.std.proofs.lemmas.Bool.{eq-eqb, eqb-true}
 use Rattle.std.specs.FinMap as finmap
 use Rattle.codes.specs.declared.kern_return.KernReturn.{KernReturn}
 use Rattle.codes.specs.declared.kern_return.KernReturn.TheVariants.{Success, RcvTooLarge, RcvHeaderErrorSpace}
-use Rattle.codes.specs.declared.name.TheConstants.{MACH_PORT_NULL}
 use Rattle.ipc_model.specs.declared.call.Reply.{Reply}
 use Rattle.ipc_model.specs.declared.call.Reply.TheVariants as reply
 use Rattle.ipc_model.specs.declared.message.Message.{Message}
 use Rattle.ipc_model.specs.declared.port.PortState.{PortState}
 use Rattle.ipc_model.specs.effects.Effects.{Effect}
-use Rattle.ipc_model.specs.messages.Receiving.{HoldsReceiveRight, Receipt, Received, Receives, TakesOut, TooLarge, lacks_names, message_size, oldest, received_encoding, without_message}
+use Rattle.ipc_model.specs.messages.Receiving.{HoldsReceiveRight, ReceiveArguments, ReceiveRefused, Received, Receives, TakesMessage, TakesOut, TooLarge, lacks_names, message_size, oldest, received_encoding, without_message}
 use Rattle.ipc_model.specs.state.State.{Names, State}
+use Rattle.ipc_laws.specs.ReceiveLaws.{large_answer}
 use Rattle.rights.specs.Passed.{messages_at}
 use Rattle.receiving.specs.Shows.{preferred_by}
 use Rattle.receiving.specs.SourceLaws.{one_serial}
@@ -46,43 +46,39 @@ found state serial has = by_port (finmap.get state.ports serial) refl has
     by_port (Some port) at some = by_messages port port.messages at refl some
 
 -- a receive, by whether it is refused
-abbrev ReceivesBy : Option KernReturn → State → ℕ → Names → Receipt → Reply → State → List Effect → Type 0
-ReceivesBy refusal old space names receipt answer new effects =
-    MatchOption refusal
-    ((member : ℕ) × (serial : ℕ) × (port : PortState) × (message : Message) × (later : List Message)
-    × Contains (source_list old names receipt) member
-    × HoldsReceiveRight names member serial × (finmap.get old.ports serial ≡ Some port)
-    × (port.messages ≡ message ∷ later)
-    × TakesOut old space names receipt member serial port message answer new effects)
-    (λ code. (answer ≡ without_message code 0 MACH_PORT_NULL) × (new ≡ old) × (effects ≡ []))
+abbrev ReceivesBy : Option KernReturn → State → ℕ → Names → ReceiveArguments → Reply → State → List Effect → Type 0
+ReceivesBy refusal old space names arguments answer new effects =
+    MatchOption refusal (TakesMessage old space names arguments answer new effects)
+    (λ code. ReceiveRefused code old answer new effects)
 
-pub receives_found : (old : State) (space : ℕ) (names : Names) (receipt : Receipt) (member serial : ℕ) (answer : Reply)
-    (new : State) (effects : List Effect) → IsSource old names receipt member serial
-    → OfOldest old serial (λ port message. TakesOut old space names receipt member serial port message answer new
-    effects) → Receives old space names receipt answer new effects
-receives_found old space names receipt member serial answer new effects source takes =
+pub receives_found : (old : State) (space : ℕ) (names : Names) (arguments : ReceiveArguments) (member serial : ℕ)
+    (answer : Reply) (new : State) (effects : List Effect) → IsSource old names arguments member serial
+    → OfOldest old serial (λ port message. TakesOut old space names arguments member serial port message answer new
+    effects) → Receives old space names arguments answer new effects
+receives_found old space names arguments member serial answer new effects source takes =
     let is = found old serial source.has in
-    subst (λ (refusal : Option KernReturn). ReceivesBy refusal old space names receipt answer new effects)
-    (sym source.passes) (
-      member,
-      serial,
-      is.port,
-      is.message,
-      is.later,
-      source.among,
-      source.holds,
-      is.live,
-      is.first,
-      takes is.port is.message is.later is.live is.first,
-    )
+    subst (λ (refusal : Option KernReturn). ReceivesBy refusal old space names arguments answer new effects)
+    (sym source.passes) (record {
+      member = member;
+      serial = serial;
+      port = is.port;
+      message = is.message;
+      later = is.later;
+      is_source = source.among;
+      holds = source.holds;
+      live = is.live;
+      first = is.first;
+      takes = takes is.port is.message is.later is.live is.first;
+    })
 
 -- The member of a reply that shows it is the one that was found.
-shown_member : (old : State) (names : Names) (receipt : Receipt) (wanted : Preference) (member serial other port : ℕ)
-    → IsPreferred old names receipt wanted member serial → wanted ≡ preference.Member other
-    → Contains (source_list old names receipt) other → HoldsReceiveRight names other port → has_message old port ≡ true
-    → other ≡ member
-shown_member old names receipt wanted member serial other port prefers is among holds has =
-    let here = subst (λ (p : Preference). IsPreferred old names receipt p member serial) is prefers in
+shown_member : (old : State) (names : Names) (arguments : ReceiveArguments) (wanted : Preference)
+    (member serial other port : ℕ)
+    → IsPreferred old names arguments wanted member serial → wanted ≡ preference.Member other
+    → Contains (source_list old names arguments) other → HoldsReceiveRight names other port
+    → has_message old port ≡ true → other ≡ member
+shown_member old names arguments wanted member serial other port prefers is among holds has =
+    let here = subst (λ (p : Preference). IsPreferred old names arguments p member serial) is prefers in
     sym (eqb-true member other (here other port among holds has (eq-eqb other other refl)))
 
 has_first : (state : State) (serial : ℕ) (port : PortState) (message : Message) (later : List Message)
@@ -91,26 +87,26 @@ has_first state serial port message later live first =
     ap (λ (l : List Message). is_some (oldest l)) (messages_of_port state serial port live ∙ first)
 
 -- another receive that took the message of the port that was found
-abbrev pub ToldBy : State → ℕ → Names → Receipt → ℕ → ℕ → Reply → Reply → State → List Effect → Type 0
-ToldBy old space names receipt member serial answer other last others =
-    OfOldest old serial (λ port message. TakesOut old space names receipt member serial port message other last others
+abbrev pub ToldBy : State → ℕ → Names → ReceiveArguments → ℕ → ℕ → Reply → Reply → State → List Effect → Type 0
+ToldBy old space names arguments member serial answer other last others =
+    OfOldest old serial (λ port message. TakesOut old space names arguments member serial port message other last others
     → answer ≡ other)
 
-same_source : (old : State) (space : ℕ) (names : Names) (receipt : Receipt)
+same_source : (old : State) (space : ℕ) (names : Names) (arguments : ReceiveArguments)
     (member serial other_member other_serial : ℕ) (port : PortState) (message : Message) (later : List Message)
     (answer other : Reply) (last : State) (others : List Effect)
-    → ToldBy old space names receipt member serial answer other last others → HoldsReceiveRight names member serial
+    → ToldBy old space names arguments member serial answer other last others → HoldsReceiveRight names member serial
     → HoldsReceiveRight names other_member other_serial → other_member ≡ member
     → finmap.get old.ports other_serial ≡ Some port → port.messages ≡ message ∷ later
-    → TakesOut old space names receipt other_member other_serial port message other last others → answer ≡ other
-same_source old space names receipt member serial other_member other_serial port message later answer other last others
-    told here there same live first may =
+    → TakesOut old space names arguments other_member other_serial port message other last others → answer ≡ other
+same_source old space names arguments member serial other_member other_serial port message later answer other last
+    others told here there same live first may =
     let serials : other_serial ≡ serial =
     one_serial names member other_serial serial
     (subst (λ (n : ℕ). HoldsReceiveRight names n other_serial) same there) here in
     told port message later (subst (λ (s : ℕ). finmap.get old.ports s ≡ Some port) serials live) first
-    (subst (λ (s : ℕ). TakesOut old space names receipt member s port message other last others) serials
-    (subst (λ (n : ℕ). TakesOut old space names receipt n other_serial port message other last others) same may))
+    (subst (λ (s : ℕ). TakesOut old space names arguments member s port message other last others) serials
+    (subst (λ (n : ℕ). TakesOut old space names arguments n other_serial port message other last others) same may))
 
 by_code : (answer : Reply) (code : KernReturn) (size member : ℕ) (encoding : List ℕ)
     → answer ≡ reply.Message code size member encoding
@@ -118,32 +114,33 @@ by_code : (answer : Reply) (code : KernReturn) (size member : ℕ) (encoding : L
 by_code answer code size member encoding is = ap preferred_by is
 
 -- a message for whose rights the space lacks names
-lacking_first : (receipt : Receipt) (names : Names) (state : State) (serial : ℕ) (port : PortState) (message : Message)
+lacking_first : (arguments : ReceiveArguments) (names : Names) (state : State) (serial : ℕ) (port : PortState)
+    (message : Message)
     (later : List Message) → finmap.get state.ports serial ≡ Some port → port.messages ≡ message ∷ later
-    → oldest_lacks receipt names (messages_at state.ports serial)
-    ≡ (if nat_lt receipt.limit (message_size message) then false else lacks_names names message)
-lacking_first receipt names state serial port message later live first =
-    ap (oldest_lacks receipt names) (messages_of_port state serial port live ∙ first)
+    → oldest_lacks arguments names (messages_at state.ports serial)
+    ≡ (if nat_lt arguments.limit (message_size message) then false else lacks_names names message)
+lacking_first arguments names state serial port message later live first =
+    ap (oldest_lacks arguments names) (messages_of_port state serial port live ∙ first)
 
 both_lack : (large lacks : Bool) → (if large then false else lacks) ≡ true → (large ≡ false) × (lacks ≡ true)
 both_lack true lacks is = absurd (cc is)
 both_lack false lacks is = (refl, is)
 
 -- if there are no names for the message that was found, the reply says so
-lacking_answer : (old : State) (space : ℕ) (names : Names) (receipt : Receipt) (member serial : ℕ) (answer : Reply)
-    (new : State) (effects : List Effect) → has_message old serial ≡ true
-    → OfOldest old serial (λ port message. TakesOut old space names receipt member serial port message answer new
-    effects) → oldest_lacks receipt names (messages_at old.ports serial) ≡ true
+lacking_answer : (old : State) (space : ℕ) (names : Names) (arguments : ReceiveArguments) (member serial : ℕ)
+    (answer : Reply) (new : State) (effects : List Effect) → has_message old serial ≡ true
+    → OfOldest old serial (λ port message. TakesOut old space names arguments member serial port message answer new
+    effects) → oldest_lacks arguments names (messages_at old.ports serial) ≡ true
     → answer ≡ without_message RcvHeaderErrorSpace 0 0
-lacking_answer old space names receipt member serial answer new effects has takes lacks =
+lacking_answer old space names arguments member serial answer new effects has takes lacks =
     let is = found old serial has in
     let both =
-    both_lack (nat_lt receipt.limit (message_size is.message)) (lacks_names names is.message)
-    (sym (lacking_first receipt names old serial is.port is.message is.later is.live is.first) ∙ lacks) in
+    both_lack (nat_lt arguments.limit (message_size is.message)) (lacks_names names is.message)
+    (sym (lacking_first arguments names old serial is.port is.message is.later is.live is.first) ∙ lacks) in
     let small : MatchBool (lacks_names names is.message)
     ((answer ≡ without_message RcvHeaderErrorSpace 0 0) × (new ≡ old) × (effects ≡ []))
     (Received old space names member serial is.port is.message answer new effects) =
-    subst (λ (b : Bool). MatchBool b (TooLarge old member serial is.message receipt.large answer new effects)
+    subst (λ (b : Bool). MatchBool b (TooLarge old member serial is.message arguments.large answer new effects)
     (MatchBool (lacks_names names is.message)
     ((answer ≡ without_message RcvHeaderErrorSpace 0 0) × (new ≡ old) × (effects ≡ []))
     (Received old space names member serial is.port is.message answer new effects))) both.0
@@ -153,58 +150,60 @@ lacking_answer old space names receipt member serial answer new effects has take
     (Received old space names member serial is.port is.message answer new effects)) both.1 small in
     short.0
 
-module _ (old : State) (space : ℕ) (names : Names) (receipt : Receipt) (member serial : ℕ) (wanted : Preference)
-    (answer : Reply) (new : State) (effects : List Effect) (source : IsSource old names receipt member serial)
-    (prefers : IsPreferred old names receipt wanted member serial)
+module _ (old : State) (space : ℕ) (names : Names) (arguments : ReceiveArguments) (member serial : ℕ)
+    (wanted : Preference)
+    (answer : Reply) (new : State) (effects : List Effect) (source : IsSource old names arguments member serial)
+    (prefers : IsPreferred old names arguments wanted member serial)
     (takes : OfOldest old serial
-    (λ port message. TakesOut old space names receipt member serial port message answer new effects))
+    (λ port message. TakesOut old space names arguments member serial port message answer new effects))
     (other : Reply) (last : State) (others : List Effect)
-    (told : ToldBy old space names receipt member serial answer other last others)
+    (told : ToldBy old space names arguments member serial answer other last others)
     (shows : wanted ≡ preferred_by other) where
   by_member : (name port_serial : ℕ) (port : PortState) (message : Message) (later : List Message) (code : KernReturn)
-      (size : ℕ) (encoding : List ℕ) → Contains (source_list old names receipt) name
+      (size : ℕ) (encoding : List ℕ) → Contains (source_list old names arguments) name
       → HoldsReceiveRight names name port_serial
       → finmap.get old.ports port_serial ≡ Some port → port.messages ≡ message ∷ later
-      → TakesOut old space names receipt name port_serial port message other last others
+      → TakesOut old space names arguments name port_serial port message other last others
       → other ≡ reply.Message code size name encoding
       → preferred_by (reply.Message code size name encoding) ≡ preference.Member name → answer ≡ other
   by_member name port_serial port message later code size encoding among holds live first may is by =
       let same =
-      shown_member old names receipt wanted member serial name port_serial prefers
+      shown_member old names arguments wanted member serial name port_serial prefers
       (shows ∙ by_code other code size name encoding is ∙ by) among holds
       (has_first old port_serial port message later live first) in
-      same_source old space names receipt member serial name port_serial port message later answer other last others
+      same_source old space names arguments member serial name port_serial port message later answer other last others
       told source.holds holds same live first may
 
   by_lacking : (name port_serial : ℕ) (port : PortState) (message : Message) (later : List Message)
-      → Contains (source_list old names receipt) name → HoldsReceiveRight names name port_serial
+      → Contains (source_list old names arguments) name → HoldsReceiveRight names name port_serial
       → finmap.get old.ports port_serial ≡ Some port → port.messages ≡ message ∷ later
-      → nat_lt receipt.limit (message_size message) ≡ false → lacks_names names message ≡ true
+      → nat_lt arguments.limit (message_size message) ≡ false → lacks_names names message ≡ true
       → other ≡ without_message RcvHeaderErrorSpace 0 0 → answer ≡ other
   by_lacking name port_serial port message later among holds live first small lacks is =
       let here =
-      subst (λ (p : Preference). IsPreferred old names receipt p member serial)
+      subst (λ (p : Preference). IsPreferred old names arguments p member serial)
       (shows ∙ by_code other RcvHeaderErrorSpace 0 0 [] is) prefers in
       let there =
-      lacking_first receipt names old port_serial port message later live first ∙ ap
+      lacking_first arguments names old port_serial port message later live first ∙ ap
       (λ (b : Bool). if b then false else lacks_names names message) small ∙ lacks in
       let own = here name port_serial among holds (has_first old port_serial port message later live first) there in
-      lacking_answer old space names receipt member serial answer new effects source.has takes own ∙ sym is
+      lacking_answer old space names arguments member serial answer new effects source.has takes own ∙ sym is
 
   by_outcome : (name port_serial : ℕ) (port : PortState) (message : Message) (later : List Message)
-      → Contains (source_list old names receipt) name → HoldsReceiveRight names name port_serial
+      → Contains (source_list old names arguments) name → HoldsReceiveRight names name port_serial
       → finmap.get old.ports port_serial ≡ Some port → port.messages ≡ message ∷ later
-      → TakesOut old space names receipt name port_serial port message other last others → answer ≡ other
+      → TakesOut old space names arguments name port_serial port message other last others → answer ≡ other
   by_outcome name port_serial port message later among holds live first may =
-      elim (nat_lt receipt.limit (message_size message))
-      as (λ (large : Bool). nat_lt receipt.limit (message_size message) ≡ large
-      → MatchBool large (TooLarge old name port_serial message receipt.large other last others)
+      elim (nat_lt arguments.limit (message_size message))
+      as (λ (large : Bool). nat_lt arguments.limit (message_size message) ≡ large
+      → MatchBool large (TooLarge old name port_serial message arguments.large other last others)
       (MatchBool (lacks_names names message)
       ((other ≡ without_message RcvHeaderErrorSpace 0 0) × (last ≡ old) × (others ≡ []))
       (Received old space names name port_serial port message other last others))
       → answer ≡ other) [
         | true ↦ λ (_ : _) (too : _). by_member name port_serial port message later RcvTooLarge (message_size message)
-            [] among holds live first may too.0 refl
+            [] among holds live first may
+            (large_answer old name port_serial message arguments.large other last others too) refl
         | false ↦ λ (small : _) (rest : _). elim (lacks_names names message)
             as (λ (lacks : Bool). lacks_names names message ≡ lacks
             → MatchBool lacks ((other ≡ without_message RcvHeaderErrorSpace 0 0) × (last ≡ old) × (others ≡ []))
@@ -218,12 +217,13 @@ module _ (old : State) (space : ℕ) (names : Names) (receipt : Receipt) (member
       ] refl may
 
   -- a receive with the same reply took the same message
-  pub receives_told : Receives old space names receipt other last others → answer ≡ other
+  pub receives_told : Receives old space names arguments other last others → answer ≡ other
   receives_told may =
-      let taken : ReceivesBy None old space names receipt other last others =
-      subst (λ (refusal : Option KernReturn). ReceivesBy refusal old space names receipt other last others)
+      let taken : ReceivesBy None old space names arguments other last others =
+      subst (λ (refusal : Option KernReturn). ReceivesBy refusal old space names arguments other last others)
       source.passes may in
-      by_outcome taken.0 taken.1 taken.2 taken.3 taken.4 taken.5 taken.6 taken.7 taken.8 taken.9
+      by_outcome taken.member taken.serial taken.port taken.message taken.later taken.is_source taken.holds taken.live
+      taken.first taken.takes
 
 -- what a clause says of the value of a result
 pub of_ok : {X Y : Type 0} (P : X → Type 0) (r : Result X Y) (x : X) → r ≡ Ok x → IfOk r P → P x

@@ -4,14 +4,14 @@ use Rattle.codes.specs.declared.kern_return.KernReturn.{KernReturn}
 use Rattle.codes.specs.declared.kern_return.KernReturn.TheVariants.{RcvHeaderErrorSpace}
 use Rattle.ipc_model.specs.declared.call.Reply.{Reply}
 use Rattle.ipc_model.specs.declared.call.Reply.TheVariants as reply
-use Rattle.ipc_model.specs.messages.Receiving.{Receipt}
+use Rattle.ipc_model.specs.messages.Receiving.{ReceiveArguments}
 use Rattle.receiving.specs.declared.asked.Asked.{Asked}
 use Rattle.receiving.specs.declared.asked.Preference.{Preference}
 use Rattle.receiving.specs.declared.asked.Preference.TheVariants as preference
 
 -- what is asked for, in the words of the machine
-abbrev pub receipt_of : Asked → Receipt
-receipt_of asked = record { limit = asked.limit; large = asked.large; name = asked.name; waited = asked.waited }
+abbrev pub arguments_of : Asked → ReceiveArguments
+arguments_of asked = record { limit = asked.limit; large = asked.large; name = asked.name; waited = asked.waited }
 
 -- The reply names the port, except where the space lacked names.
 abbrev pub preferred_by_code : KernReturn → ℕ → Preference

@@ -10,7 +10,7 @@ use Rattle.ipc_model.specs.declared.entry.Entry.{Entry}
 use Rattle.ipc_model.specs.declared.entry.Entry.TheVariants.{Port, SendOnce, Set, Dead}
 use Rattle.ipc_model.specs.declared.message.Message.{Message}
 use Rattle.ipc_model.specs.declared.port.PortState.{PortState}
-use Rattle.ipc_model.specs.messages.Receiving.{Receipt, HoldsReceiveRight, all_empty, oldest, oldest_under, port_under, receive_refusal, refusal_of_sources, source_names, sources, sources_of_port}
+use Rattle.ipc_model.specs.messages.Receiving.{ReceiveArguments, HoldsReceiveRight, all_empty, oldest, oldest_under, port_under, receive_refusal, refusal_of_sources, source_names, sources, sources_of_port}
 use Rattle.ipc_model.specs.messages.Receiving as machine
 use Rattle.ipc_model.specs.state.State.{State, Names, is_member, members_of, received_port}
 use Rattle.ipc_laws.specs.Dangling.{later_found, front_of, back_of}
@@ -245,27 +245,27 @@ pub port_held : (state : State) (names : Names) (name serial : ℕ) → giver_of
 port_held state names name serial is =
     let from = from_port state names name serial (finmap.get names name) is in (from.entry, from.there, from.received)
 
-pub port_refused : (state : State) (names : Names) (receipt : Receipt) (serial : ℕ)
-    → giver_of (finmap.get names receipt.name) ≡ giver.Port serial
-    → receive_refusal state names receipt ≡ port_refusal state receipt serial
-port_refused state names receipt serial is =
-    let from = from_port state names receipt.name serial (finmap.get names receipt.name) is in
-    let holds : HoldsReceiveRight names receipt.name serial = port_held state names receipt.name serial is in
-    let within : machine.is_in_set state names receipt.name ≡ is_in_set state serial =
+pub port_refused : (state : State) (names : Names) (arguments : ReceiveArguments) (serial : ℕ)
+    → giver_of (finmap.get names arguments.name) ≡ giver.Port serial
+    → receive_refusal state names arguments ≡ port_refusal state arguments serial
+port_refused state names arguments serial is =
+    let from = from_port state names arguments.name serial (finmap.get names arguments.name) is in
+    let holds : HoldsReceiveRight names arguments.name serial = port_held state names arguments.name serial is in
+    let within : machine.is_in_set state names arguments.name ≡ is_in_set state serial =
     ap (λ (o : Option PortState). elim o as (λ _. Bool) [ None ↦ false | Some port ↦ is_some port.set ])
-    (under_held state names receipt.name serial holds) in
-    let has = has_under state names receipt.name serial holds in
-    ap (refusal_of_sources state names receipt) from.alone
-    ∙ ap (λ (b : Bool). if b then Some (if receipt.waited then RcvPortChanged else RcvInSet)
-    else if all_empty state names (receipt.name ∷ []) then Some RcvTimedOut else None) within
-    ∙ ap (λ (b : Bool). if is_in_set state serial then Some (if receipt.waited then RcvPortChanged else RcvInSet)
+    (under_held state names arguments.name serial holds) in
+    let has = has_under state names arguments.name serial holds in
+    ap (refusal_of_sources state names arguments) from.alone
+    ∙ ap (λ (b : Bool). if b then Some (if arguments.waited then RcvPortChanged else RcvInSet)
+    else if all_empty state names (arguments.name ∷ []) then Some RcvTimedOut else None) within
+    ∙ ap (λ (b : Bool). if is_in_set state serial then Some (if arguments.waited then RcvPortChanged else RcvInSet)
     else if (if b then false else true) then Some RcvTimedOut else None) has
     ∙ turned (has_message state serial)
   where
-    turned : (b : Bool) → (if is_in_set state serial then Some (if receipt.waited then RcvPortChanged else RcvInSet)
+    turned : (b : Bool) → (if is_in_set state serial then Some (if arguments.waited then RcvPortChanged else RcvInSet)
         else if (if b then false else true) then Some RcvTimedOut else None)
-        ≡ (if is_in_set state serial then Some (if receipt.waited then RcvPortChanged else RcvInSet) else if b then None
-        else Some RcvTimedOut)
+        ≡ (if is_in_set state serial then Some (if arguments.waited then RcvPortChanged else RcvInSet) else if b then
+        None else Some RcvTimedOut)
     turned true = refl
     turned false = refl
 
@@ -282,106 +282,107 @@ set_there (Some (SendOnce port target)) is = absurd (cc is)
 set_there (Some Set) is = refl
 set_there (Some (Dead references)) is = absurd (cc is)
 
-pub set_members : (state : State) (names : Names) (receipt : Receipt)
-    → giver_of (finmap.get names receipt.name) ≡ giver.Set
-    → source_list state names receipt ≡ members_of state names receipt.name
-set_members state names receipt is =
-    ap (λ (o : Option Entry). source_names (sources state names receipt.name o))
-    (set_there (finmap.get names receipt.name) is)
+pub set_members : (state : State) (names : Names) (arguments : ReceiveArguments)
+    → giver_of (finmap.get names arguments.name) ≡ giver.Set
+    → source_list state names arguments ≡ members_of state names arguments.name
+set_members state names arguments is =
+    ap (λ (o : Option Entry). source_names (sources state names arguments.name o))
+    (set_there (finmap.get names arguments.name) is)
 
-set_refused : (state : State) (names : Names) (receipt : Receipt) → giver_of (finmap.get names receipt.name) ≡ giver.Set
-    → receive_refusal state names receipt
-    ≡ (if all_empty state names (members_of state names receipt.name) then Some RcvTimedOut else None)
-set_refused state names receipt is =
-    let there = set_there (finmap.get names receipt.name) is in
-    ap (λ (o : Option Entry). refusal_of_sources state names receipt (sources state names receipt.name o)) there
+set_refused : (state : State) (names : Names) (arguments : ReceiveArguments) → giver_of
+    (finmap.get names arguments.name) ≡ giver.Set → receive_refusal state names arguments
+    ≡ (if all_empty state names (members_of state names arguments.name) then Some RcvTimedOut else None)
+set_refused state names arguments is =
+    let there = set_there (finmap.get names arguments.name) is in
+    ap (λ (o : Option Entry). refusal_of_sources state names arguments (sources state names arguments.name o)) there
     ∙ ap (λ (o : Option PortState). if (elim o as (λ _. Bool) [ None ↦ false | Some port ↦ is_some port.set ])
-    then Some (if receipt.waited then RcvPortChanged else RcvInSet)
-    else if all_empty state names (members_of state names receipt.name) then Some RcvTimedOut
+    then Some (if arguments.waited then RcvPortChanged else RcvInSet)
+    else if all_empty state names (members_of state names arguments.name) then Some RcvTimedOut
     else None) (ap (λ (o : Option Entry). option_and_then
     (λ (s : ℕ). finmap.get state.ports s) (option_and_then received_port o)) there)
 
-pub set_source : (state : State) (names : Names) (receipt : Receipt) (test : ℕ × ℕ → Bool) (member serial : ℕ)
-    → giver_of (finmap.get names receipt.name) ≡ giver.Set
-    → find test (member_pairs state names receipt.name) ≡ Some (member, serial)
-    → (test (member, serial) ≡ true → has_message state serial ≡ true) → IsSource state names receipt member serial
-set_source state names receipt test member serial is found passes =
-    let there = find_there test (member_pairs state names receipt.name) (member, serial) found in
-    let named : Contains (members_of state names receipt.name) member =
-    pair_named state names receipt.name member serial there.0 in
-    let holds = pair_holds state names receipt.name member serial there.0 in
+pub set_source : (state : State) (names : Names) (arguments : ReceiveArguments) (test : ℕ × ℕ → Bool)
+    (member serial : ℕ) → giver_of (finmap.get names arguments.name) ≡ giver.Set
+    → find test (member_pairs state names arguments.name) ≡ Some (member, serial)
+    → (test (member, serial) ≡ true → has_message state serial ≡ true) → IsSource state names arguments member serial
+set_source state names arguments test member serial is found passes =
+    let there = find_there test (member_pairs state names arguments.name) (member, serial) found in
+    let named : Contains (members_of state names arguments.name) member =
+    pair_named state names arguments.name member serial there.0 in
+    let holds = pair_holds state names arguments.name member serial there.0 in
     let has = passes there.1 in
     record {
-      passes = set_refused state names receipt is
+      passes = set_refused state names arguments is
           ∙ ap (λ (b : Bool). if b then Some RcvTimedOut else None)
-          (none_empty state names (members_of state names receipt.name) member named
+          (none_empty state names (members_of state names arguments.name) member named
           (has_under state names member serial holds ∙ has));
-      among = subst (λ (l : List ℕ). Contains l member) (sym (set_members state names receipt is)) named;
+      among = subst (λ (l : List ℕ). Contains l member) (sym (set_members state names arguments is)) named;
       holds = holds;
       has = has;
     }
 
-pub gives_has : (state : State) (names : Names) (receipt : Receipt) (preference : Preference) (member serial : ℕ)
-    → gives state names receipt preference (member, serial) ≡ true → has_message state serial ≡ true
-gives_has state names receipt preference member serial is =
+pub gives_has : (state : State) (names : Names) (arguments : ReceiveArguments) (preference : Preference)
+    (member serial : ℕ)
+    → gives state names arguments preference (member, serial) ≡ true → has_message state serial ≡ true
+gives_has state names arguments preference member serial is =
     elim (has_message state serial)
-    as (λ (b : Bool). (if b then is_preferred state names receipt preference member serial else false) ≡ true
+    as (λ (b : Bool). (if b then is_preferred state names arguments preference member serial else false) ≡ true
     → b ≡ true) [
       | true ↦ λ (_ : _). refl
       | false ↦ λ (e : _). absurd (cc e)
     ] is
 
-pub gives_preferred : (state : State) (names : Names) (receipt : Receipt) (preference : Preference) (member serial : ℕ)
-    → gives state names receipt preference (member, serial) ≡ true
-    → is_preferred state names receipt preference member serial ≡ true
-gives_preferred state names receipt preference member serial is =
+pub gives_preferred : (state : State) (names : Names) (arguments : ReceiveArguments) (preference : Preference)
+    (member serial : ℕ) → gives state names arguments preference (member, serial) ≡ true
+    → is_preferred state names arguments preference member serial ≡ true
+gives_preferred state names arguments preference member serial is =
     elim (has_message state serial)
-    as (λ (b : Bool). (if b then is_preferred state names receipt preference member serial else false) ≡ true
-    → is_preferred state names receipt preference member serial ≡ true) [
+    as (λ (b : Bool). (if b then is_preferred state names arguments preference member serial else false) ≡ true
+    → is_preferred state names arguments preference member serial ≡ true) [
       | true ↦ λ (e : _). e
       | false ↦ λ (e : _). absurd (cc e)
     ] is
 
-both_give : (state : State) (names : Names) (receipt : Receipt) (preference : Preference) (member serial : ℕ)
-    → has_message state serial ≡ true → is_preferred state names receipt preference member serial ≡ true
-    → gives state names receipt preference (member, serial) ≡ true
-both_give state names receipt preference member serial has preferred =
-    ap (λ (b : Bool). if b then is_preferred state names receipt preference member serial else false) has ∙ preferred
+both_give : (state : State) (names : Names) (arguments : ReceiveArguments) (preference : Preference) (member serial : ℕ)
+    → has_message state serial ≡ true → is_preferred state names arguments preference member serial ≡ true
+    → gives state names arguments preference (member, serial) ≡ true
+both_give state names arguments preference member serial has preferred =
+    ap (λ (b : Bool). if b then is_preferred state names arguments preference member serial else false) has ∙ preferred
 
 -- no member is preferred, where the search for one found none
-pub none_preferred : (state : State) (names : Names) (receipt : Receipt) (preference : Preference) (member serial : ℕ)
-    → giver_of (finmap.get names receipt.name) ≡ giver.Set
-    → find (gives state names receipt preference) (member_pairs state names receipt.name) ≡ None
-    → IsPreferred state names receipt preference member serial
-none_preferred state names receipt preference member serial is none = λ other port at holds has preferred.
-    let named = subst (λ (l : List ℕ). Contains l other) (set_members state names receipt is) at in
+pub none_preferred : (state : State) (names : Names) (arguments : ReceiveArguments) (preference : Preference)
+    (member serial : ℕ) → giver_of (finmap.get names arguments.name) ≡ giver.Set
+    → find (gives state names arguments preference) (member_pairs state names arguments.name) ≡ None
+    → IsPreferred state names arguments preference member serial
+none_preferred state names arguments preference member serial is none = λ other port at holds has preferred.
+    let named = subst (λ (l : List ℕ). Contains l other) (set_members state names arguments is) at in
     let fails =
-    find_none (gives state names receipt preference) (member_pairs state names receipt.name) none (other, port)
-    (named_pair state names receipt.name other port named holds) in
-    absurd (cc (sym (both_give state names receipt preference other port has preferred) ∙ fails))
+    find_none (gives state names arguments preference) (member_pairs state names arguments.name) none (other, port)
+    (named_pair state names arguments.name other port named holds) in
+    absurd (cc (sym (both_give state names arguments preference other port has preferred) ∙ fails))
 
 has_none : (b : Bool) → (if b then true else false) ≡ false → b ≡ false
 has_none true e = absurd (cc e)
 has_none false e = refl
 
-pub set_empty : (state : State) (names : Names) (receipt : Receipt)
-    → giver_of (finmap.get names receipt.name) ≡ giver.Set
-    → find (gives state names receipt preference.Least) (member_pairs state names receipt.name) ≡ None
-    → receive_refusal state names receipt ≡ Some RcvTimedOut
-set_empty state names receipt is none =
-    set_refused state names receipt is
+pub set_empty : (state : State) (names : Names) (arguments : ReceiveArguments)
+    → giver_of (finmap.get names arguments.name) ≡ giver.Set
+    → find (gives state names arguments preference.Least) (member_pairs state names arguments.name) ≡ None
+    → receive_refusal state names arguments ≡ Some RcvTimedOut
+set_empty state names arguments is none =
+    set_refused state names arguments is
     ∙ ap (λ (b : Bool). if b then Some RcvTimedOut else None)
-    (every_empty state names (members_of state names receipt.name) each)
+    (every_empty state names (members_of state names arguments.name) each)
   where
-    each : (member : ℕ) → Contains (members_of state names receipt.name) member
+    each : (member : ℕ) → Contains (members_of state names arguments.name) member
         → is_some (oldest_under state names member) ≡ false
     each member at =
         let found =
-        pair_of_name (member_pairs state names receipt.name) member
+        pair_of_name (member_pairs state names arguments.name) member
         (subst (λ (l : List ℕ). Contains l member)
-        (sym (member_names state receipt.name (finmap.entries names))) at) in
-        let holds = pair_holds state names receipt.name member found.0 found.1 in
+        (sym (member_names state arguments.name (finmap.entries names))) at) in
+        let holds = pair_holds state names arguments.name member found.0 found.1 in
         let fails =
-        find_none (gives state names receipt preference.Least) (member_pairs state names receipt.name) none
+        find_none (gives state names arguments preference.Least) (member_pairs state names arguments.name) none
         (member, found.0) found.1 in
         has_under state names member found.0 holds ∙ has_none (has_message state found.0) fails

@@ -6,7 +6,7 @@ use Rattle.codes.specs.declared.kern_return.KernReturn.TheVariants.{RcvTimedOut,
 use Rattle.ipc_model.specs.declared.entry.Entry.{Entry}
 use Rattle.ipc_model.specs.declared.entry.Entry.TheVariants.{Port, SendOnce, Set, Dead}
 use Rattle.ipc_model.specs.declared.message.Message.{Message}
-use Rattle.ipc_model.specs.messages.Receiving.{Receipt, HoldsReceiveRight, lacks_names, message_size, oldest, receive_refusal, source_names, sources}
+use Rattle.ipc_model.specs.messages.Receiving.{ReceiveArguments, HoldsReceiveRight, lacks_names, message_size, oldest, receive_refusal, source_names, sources}
 use Rattle.ipc_model.specs.state.State.{State, Names}
 use Rattle.rights.specs.Passed.{messages_at}
 use Rattle.receiving.specs.declared.asked.Preference.{Preference}
@@ -35,46 +35,46 @@ is_in_set state serial =
     elim (finmap.get state.ports serial) as (λ _. Bool) [ None ↦ false | Some port ↦ is_some port.set ]
 
 -- the code with which a receive from this port is refused
-abbrev pub port_refusal : State → Receipt → ℕ → Option KernReturn
-port_refusal state receipt serial =
-    if is_in_set state serial then Some (if receipt.waited then RcvPortChanged else RcvInSet)
+abbrev pub port_refusal : State → ReceiveArguments → ℕ → Option KernReturn
+port_refusal state arguments serial =
+    if is_in_set state serial then Some (if arguments.waited then RcvPortChanged else RcvInSet)
     else if has_message state serial then None
     else Some RcvTimedOut
 
 -- a message that isn't too large, but for whose rights the space lacks names
-abbrev pub oldest_lacks : Receipt → Names → List Message → Bool
-oldest_lacks receipt names [] = false
-oldest_lacks receipt names (message ∷ later) =
-    if nat_lt receipt.limit (message_size message) then false else lacks_names names message
+abbrev pub oldest_lacks : ReceiveArguments → Names → List Message → Bool
+oldest_lacks arguments names [] = false
+oldest_lacks arguments names (message ∷ later) =
+    if nat_lt arguments.limit (message_size message) then false else lacks_names names message
 
 -- a member of a set is preferred, and has a message
-abbrev pub is_preferred : State → Names → Receipt → Preference → ℕ → ℕ → Bool
-is_preferred state names receipt preference.Least member serial = true
-is_preferred state names receipt (preference.Member name) member serial = member == name
-is_preferred state names receipt preference.Lacking member serial =
-    oldest_lacks receipt names (messages_at state.ports serial)
+abbrev pub is_preferred : State → Names → ReceiveArguments → Preference → ℕ → ℕ → Bool
+is_preferred state names arguments preference.Least member serial = true
+is_preferred state names arguments (preference.Member name) member serial = member == name
+is_preferred state names arguments preference.Lacking member serial =
+    oldest_lacks arguments names (messages_at state.ports serial)
 
-abbrev pub gives : State → Names → Receipt → Preference → ℕ × ℕ → Bool
-gives state names receipt preference member =
-    if has_message state member.1 then is_preferred state names receipt preference member.0 member.1 else false
+abbrev pub gives : State → Names → ReceiveArguments → Preference → ℕ × ℕ → Bool
+gives state names arguments preference member =
+    if has_message state member.1 then is_preferred state names arguments preference member.0 member.1 else false
 
 abbrev pub source_value : Source → ℕ × ℕ
 source_value source = (source.member, source.port)
 
-abbrev pub source_list : State → Names → Receipt → List ℕ
-source_list state names receipt = source_names (sources state names receipt.name (finmap.get names receipt.name))
+abbrev pub source_list : State → Names → ReceiveArguments → List ℕ
+source_list state names arguments = source_names (sources state names arguments.name (finmap.get names arguments.name))
 
 -- A receive takes its message from this port, whose receive right stands under this name.
-pub record IsSource (state : State) (names : Names) (receipt : Receipt) (member serial : ℕ) : Type 0 where
-  pub passes : receive_refusal state names receipt ≡ None
-  pub among : Contains (source_list state names receipt) member
+pub record IsSource (state : State) (names : Names) (arguments : ReceiveArguments) (member serial : ℕ) : Type 0 where
+  pub passes : receive_refusal state names arguments ≡ None
+  pub among : Contains (source_list state names arguments) member
   pub holds : HoldsReceiveRight names member serial
   pub has : has_message state serial ≡ true
 
 -- If any port that might be the source is preferred, so is this one.
-abbrev pub IsPreferred : State → Names → Receipt → Preference → ℕ → ℕ → Type 0
-IsPreferred state names receipt preference member serial =
-    (other : ℕ) (port : ℕ) → Contains (source_list state names receipt) other → HoldsReceiveRight names other port
+abbrev pub IsPreferred : State → Names → ReceiveArguments → Preference → ℕ → ℕ → Type 0
+IsPreferred state names arguments preference member serial =
+    (other : ℕ) (port : ℕ) → Contains (source_list state names arguments) other → HoldsReceiveRight names other port
     → has_message state port ≡ true
-    → is_preferred state names receipt preference other port ≡ true
-    → is_preferred state names receipt preference member serial ≡ true
+    → is_preferred state names arguments preference other port ≡ true
+    → is_preferred state names arguments preference member serial ≡ true

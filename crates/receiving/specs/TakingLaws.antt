@@ -10,7 +10,7 @@ use Rattle.ipc_model.specs.declared.message.Message.{Message}
 use Rattle.ipc_model.specs.declared.port.PortState.{PortState}
 use Rattle.ipc_model.specs.effects.Effects.{Effect}
 use Rattle.ipc_model.specs.messages.Messages.{header_length, message_encoding}
-use Rattle.ipc_model.specs.messages.Receiving.{Receipt, Received, TakesOut, TooLarge, arriving, body_names, destination_consumed, lacks_names, message_size, received_body, received_encoding, reply_kind_number, reply_name, without_message, without_oldest}
+use Rattle.ipc_model.specs.messages.Receiving.{ReceiveArguments, Received, TakesOut, TooLarge, arriving, body_names, destination_consumed, lacks_names, message_size, received_body, received_encoding, reply_kind_number, reply_name, without_message, without_oldest}
 use Rattle.ipc_model.specs.rights.CopyOut.{Arrives}
 use Rattle.ipc_model.specs.rights.Dispositions.{number_of_kind}
 use Rattle.ipc_model.specs.calls.PortCalls.{names_in}
@@ -18,6 +18,7 @@ use Rattle.ipc_model.specs.state.Lawful.{Lawful, LawfulMessage, LawfulNames}
 use Rattle.ipc_model.specs.state.State.{Names, State, next_count, with_names}
 use Rattle.ipc_laws.specs.ReceiveArgumentLaws.{as_many_names}
 use Rattle.ipc_laws.specs.RecordedReceives.{body_long, names_left}
+use Rattle.ipc_laws.specs.ReceiveLaws.{large_answer}
 use Rattle.rights.specs.Passed.{messages_at, messages_in, numbers_of, lives_in, seen_message, seen_right, PortNumbers}
 use Rattle.msg_header.specs.declared.header.Header.{Header}
 use Rattle.msg_header.specs.HeaderLaws.{header_and_body}
@@ -72,24 +73,24 @@ names_then_oldest state space serial names = elim (finmap.get state.ports serial
     without port = next_count port.sequence_number
 
 -- what becomes of the message
-pub was_large : (old : State) (space : ℕ) (names : Names) (receipt : Receipt) (member serial : ℕ) (port : PortState)
-    (message : Message) (answer : Reply) (new : State) (effects : List Effect)
-    → nat_lt receipt.limit (message_size message) ≡ true
-    → TooLarge old member serial message receipt.large answer new effects
-    → TakesOut old space names receipt member serial port message answer new effects
-was_large old space names receipt member serial port message answer new effects large is =
-    subst (λ (b : Bool). MatchBool b (TooLarge old member serial message receipt.large answer new effects)
+pub was_large : (old : State) (space : ℕ) (names : Names) (arguments : ReceiveArguments) (member serial : ℕ)
+    (port : PortState) (message : Message) (answer : Reply) (new : State) (effects : List Effect)
+    → nat_lt arguments.limit (message_size message) ≡ true
+    → TooLarge old member serial message arguments.large answer new effects
+    → TakesOut old space names arguments member serial port message answer new effects
+was_large old space names arguments member serial port message answer new effects large is =
+    subst (λ (b : Bool). MatchBool b (TooLarge old member serial message arguments.large answer new effects)
     (MatchBool (lacks_names names message)
     ((answer ≡ without_message RcvHeaderErrorSpace 0 0) × (new ≡ old) × (effects ≡ []))
     (Received old space names member serial port message answer new effects))) (sym large) is
 
-pub was_lacking : (old : State) (space : ℕ) (names : Names) (receipt : Receipt) (member serial : ℕ) (port : PortState)
-    (message : Message) (answer : Reply) (new : State) (effects : List Effect)
-    → nat_lt receipt.limit (message_size message) ≡ false → lacks_names names message ≡ true
+pub was_lacking : (old : State) (space : ℕ) (names : Names) (arguments : ReceiveArguments) (member serial : ℕ)
+    (port : PortState) (message : Message) (answer : Reply) (new : State) (effects : List Effect)
+    → nat_lt arguments.limit (message_size message) ≡ false → lacks_names names message ≡ true
     → answer ≡ without_message RcvHeaderErrorSpace 0 0 → new ≡ old → effects ≡ []
-    → TakesOut old space names receipt member serial port message answer new effects
-was_lacking old space names receipt member serial port message answer new effects small lacks is same none =
-    subst (λ (b : Bool). MatchBool b (TooLarge old member serial message receipt.large answer new effects)
+    → TakesOut old space names arguments member serial port message answer new effects
+was_lacking old space names arguments member serial port message answer new effects small lacks is same none =
+    subst (λ (b : Bool). MatchBool b (TooLarge old member serial message arguments.large answer new effects)
     (MatchBool (lacks_names names message)
     ((answer ≡ without_message RcvHeaderErrorSpace 0 0) × (new ≡ old) × (effects ≡ []))
     (Received old space names member serial port message answer new effects))) (sym small)
@@ -97,13 +98,13 @@ was_lacking old space names receipt member serial port message answer new effect
     ((answer ≡ without_message RcvHeaderErrorSpace 0 0) × (new ≡ old) × (effects ≡ []))
     (Received old space names member serial port message answer new effects)) (sym lacks) (is, same, none))
 
-pub was_received : (old : State) (space : ℕ) (names : Names) (receipt : Receipt) (member serial : ℕ) (port : PortState)
-    (message : Message) (answer : Reply) (new : State) (effects : List Effect)
-    → nat_lt receipt.limit (message_size message) ≡ false → lacks_names names message ≡ false
+pub was_received : (old : State) (space : ℕ) (names : Names) (arguments : ReceiveArguments) (member serial : ℕ)
+    (port : PortState) (message : Message) (answer : Reply) (new : State) (effects : List Effect)
+    → nat_lt arguments.limit (message_size message) ≡ false → lacks_names names message ≡ false
     → Received old space names member serial port message answer new effects
-    → TakesOut old space names receipt member serial port message answer new effects
-was_received old space names receipt member serial port message answer new effects small fits is =
-    subst (λ (b : Bool). MatchBool b (TooLarge old member serial message receipt.large answer new effects)
+    → TakesOut old space names arguments member serial port message answer new effects
+was_received old space names arguments member serial port message answer new effects small fits is =
+    subst (λ (b : Bool). MatchBool b (TooLarge old member serial message arguments.large answer new effects)
     (MatchBool (lacks_names names message)
     ((answer ≡ without_message RcvHeaderErrorSpace 0 0) × (new ≡ old) × (effects ≡ []))
     (Received old space names member serial port message answer new effects))) (sym small)
@@ -198,60 +199,63 @@ whole_received old space names member serial port message answer mid new effects
 
 -- A reply is determined by what it shows.
 
-pub large_told : (old : State) (space : ℕ) (names : Names) (receipt : Receipt) (member serial : ℕ) (port : PortState)
+pub large_told : (old : State) (space : ℕ) (names : Names) (arguments : ReceiveArguments) (member serial : ℕ)
+    (port : PortState)
     (message : Message) (answer : Reply) (new : State) (effects : List Effect) (other : Reply) (last : State)
     (others : List Effect)
-    → nat_lt receipt.limit (message_size message) ≡ true
-    → TooLarge old member serial message receipt.large answer new effects
-    → TakesOut old space names receipt member serial port message other last others → answer ≡ other
-large_told old space names receipt member serial port message answer new effects other last others large is may =
-    let too : TooLarge old member serial message receipt.large other last others =
-    subst (λ (b : Bool). MatchBool b (TooLarge old member serial message receipt.large other last others)
+    → nat_lt arguments.limit (message_size message) ≡ true
+    → TooLarge old member serial message arguments.large answer new effects
+    → TakesOut old space names arguments member serial port message other last others → answer ≡ other
+large_told old space names arguments member serial port message answer new effects other last others large is may =
+    let too : TooLarge old member serial message arguments.large other last others =
+    subst (λ (b : Bool). MatchBool b (TooLarge old member serial message arguments.large other last others)
     (MatchBool (lacks_names names message)
     ((other ≡ without_message RcvHeaderErrorSpace 0 0) × (last ≡ old) × (others ≡ []))
     (Received old space names member serial port message other last others))) large may in
-    is.0 ∙ sym too.0
+    large_answer old member serial message arguments.large answer new effects is
+    ∙ sym (large_answer old member serial message arguments.large other last others too)
 
-small_takes : (old : State) (space : ℕ) (names : Names) (receipt : Receipt) (member serial : ℕ) (port : PortState)
-    (message : Message) (other : Reply) (last : State) (others : List Effect)
-    → nat_lt receipt.limit (message_size message) ≡ false
-    → TakesOut old space names receipt member serial port message other last others
+small_takes : (old : State) (space : ℕ) (names : Names) (arguments : ReceiveArguments) (member serial : ℕ)
+    (port : PortState) (message : Message) (other : Reply) (last : State) (others : List Effect)
+    → nat_lt arguments.limit (message_size message) ≡ false
+    → TakesOut old space names arguments member serial port message other last others
     → MatchBool (lacks_names names message)
     ((other ≡ without_message RcvHeaderErrorSpace 0 0) × (last ≡ old) × (others ≡ []))
     (Received old space names member serial port message other last others)
-small_takes old space names receipt member serial port message other last others small may =
-    subst (λ (b : Bool). MatchBool b (TooLarge old member serial message receipt.large other last others)
+small_takes old space names arguments member serial port message other last others small may =
+    subst (λ (b : Bool). MatchBool b (TooLarge old member serial message arguments.large other last others)
     (MatchBool (lacks_names names message)
     ((other ≡ without_message RcvHeaderErrorSpace 0 0) × (last ≡ old) × (others ≡ []))
     (Received old space names member serial port message other last others))) small may
 
-pub lacking_told : (old : State) (space : ℕ) (names : Names) (receipt : Receipt) (member serial : ℕ) (port : PortState)
-    (message : Message) (answer : Reply) (other : Reply) (last : State) (others : List Effect)
-    → nat_lt receipt.limit (message_size message) ≡ false → lacks_names names message ≡ true
+pub lacking_told : (old : State) (space : ℕ) (names : Names) (arguments : ReceiveArguments) (member serial : ℕ)
+    (port : PortState) (message : Message) (answer : Reply) (other : Reply) (last : State) (others : List Effect)
+    → nat_lt arguments.limit (message_size message) ≡ false → lacks_names names message ≡ true
     → answer ≡ without_message RcvHeaderErrorSpace 0 0
-    → TakesOut old space names receipt member serial port message other last others → answer ≡ other
-lacking_told old space names receipt member serial port message answer other last others small lacks is may =
+    → TakesOut old space names arguments member serial port message other last others → answer ≡ other
+lacking_told old space names arguments member serial port message answer other last others small lacks is may =
     let too : (other ≡ without_message RcvHeaderErrorSpace 0 0) × (last ≡ old) × (others ≡ []) =
     subst (λ (b : Bool). MatchBool b ((other ≡ without_message RcvHeaderErrorSpace 0 0) × (last ≡ old) × (others ≡ []))
     (Received old space names member serial port message other last others)) lacks
-    (small_takes old space names receipt member serial port message other last others small may) in
+    (small_takes old space names arguments member serial port message other last others small may) in
     is ∙ sym too.0
 
-pub whole_told : (old : State) (space : ℕ) (names : Names) (receipt : Receipt) (member serial : ℕ) (port : PortState)
+pub whole_told : (old : State) (space : ℕ) (names : Names) (arguments : ReceiveArguments) (member serial : ℕ)
+    (port : PortState)
     (message : Message) (answer : Reply) (wanted : List ℕ) (other : Reply) (last : State) (others : List Effect)
-    → nat_lt receipt.limit (message_size message) ≡ false → lacks_names names message ≡ false → LawfulMessage message
+    → nat_lt arguments.limit (message_size message) ≡ false → lacks_names names message ≡ false → LawfulMessage message
     → LawfulNames names
     → ((after : Names) → Arrives names (arriving message) wanted after
     → answer ≡ reply.Message Success (message_size message) member
     (received_encoding message member port.sequence_number wanted))
     → wanted ≡ names_shown (encoding_in other)
-    → TakesOut old space names receipt member serial port message other last others → answer ≡ other
-whole_told old space names receipt member serial port message answer wanted other last others small fits lawful named
+    → TakesOut old space names arguments member serial port message other last others → answer ≡ other
+whole_told old space names arguments member serial port message answer wanted other last others small fits lawful named
     told shows may =
     let whole : Received old space names member serial port message other last others =
     subst (λ (b : Bool). MatchBool b ((other ≡ without_message RcvHeaderErrorSpace 0 0) × (last ≡ old) × (others ≡ []))
     (Received old space names member serial port message other last others)) fits
-    (small_takes old space names receipt member serial port message other last others small may) in
+    (small_takes old space names arguments member serial port message other last others small may) in
     let given : List ℕ = whole.0 in
     let many = as_many_names names (arriving message) given whole.1 whole.2 in
     let same : wanted ≡ given =

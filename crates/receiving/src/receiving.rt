@@ -12,7 +12,7 @@ ghost use Rattle.ipc_model.specs.state.Lawful.{Lawful, LawfulMessage};
 ghost use Rattle.ipc_model.specs.state.State.{Names, State};
 ghost use Rattle.rights.specs.Passed.{messages_at};
 ghost use Rattle.receiving.specs.ShownNames.{names_shown};
-ghost use Rattle.receiving.specs.Shows.{preferred_by, receipt_of, encoding_in};
+ghost use Rattle.receiving.specs.Shows.{preferred_by, arguments_of, encoding_in};
 ghost use Rattle.receiving.specs.Taking.{OfOldest};
 
 use crate::asked::{Asked, Preference};
@@ -91,12 +91,12 @@ fn take_out(
     requires lawful { Lawful state.old.current }
     ensures acts { IfOk result (λ reply. OfOldest state.old.current source.port
         (λ port message. TakesOut state.old.current space (names_in state.old.current space)
-        (receipt_of asked) source.member source.port port message reply state.new.current effects.new)) }
+        (arguments_of asked) source.member source.port port message reply state.new.current effects.new)) }
     ensures shown { IfOk result (λ reply. OfOldest state.old.current source.port
         (λ port message. (other : machine.Reply) → (last : State) → (others : List waiting.Effect)
         → names.now ≡ names_shown (encoding_in other)
         → TakesOut state.old.current space (names_in state.old.current space)
-        (receipt_of asked) source.member source.port port message other last others → reply ≡ other)) }
+        (arguments_of asked) source.member source.port port message other last others → reply ≡ other)) }
     ensures before { state.new.before ≡ state.old.before }
 {
     let Some(outline) = outline_of(state, source.port) else {

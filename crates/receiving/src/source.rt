@@ -4,7 +4,7 @@ ghost use Rattle.std.specs.FinMap as map;
 ghost use Rattle.ipc_model.specs.calls.PortCalls.{names_in};
 ghost use Rattle.ipc_model.specs.messages.Receiving.{receive_refusal};
 ghost use Rattle.rights.specs.Passed.{messages_at};
-ghost use Rattle.receiving.specs.Shows.{receipt_of};
+ghost use Rattle.receiving.specs.Shows.{arguments_of};
 ghost use Rattle.receiving.specs.Sources.{IsPreferred, IsSource, gives, giver_of, has_message, is_in_set, is_preferred, oldest_lacks, port_refusal, source_value};
 
 use crate::asked::{Asked, Preference};
@@ -44,12 +44,13 @@ pub(crate) fn find_source(
 ) -> Result<Result<Source, KernReturn>, AllocError>
     ensures found { IfOk result (λ outcome. IfOk outcome
         (λ source. IsSource state.now.current (names_in state.now.current space)
-        (receipt_of asked) source.member source.port)) }
+        (arguments_of asked) source.member source.port)) }
     ensures refused { IfOk result (λ outcome. IfErr outcome
-        (λ code. receive_refusal state.now.current (names_in state.now.current space) (receipt_of asked) ≡ Some code)) }
+        (λ code. receive_refusal state.now.current (names_in state.now.current space) (arguments_of asked)
+        ≡ Some code)) }
     ensures preferred { IfOk result
         (λ outcome. IfOk outcome (λ source. IsPreferred state.now.current (names_in state.now.current space)
-        (receipt_of asked) preference source.member source.port)) }
+        (arguments_of asked) preference source.member source.port)) }
 {
     match giver_by(state.entry(space, asked.name)) {
         Giver::Nothing => Ok(Err(not_there(asked.waited))),
@@ -82,9 +83,9 @@ fn not_there(waited: bool) -> KernReturn
 
 /// The port as the source, or the code with which the receive is refused.
 fn from_port(state: &IpcState, asked: Asked, port: u64) -> Result<Source, KernReturn>
-    ensures found { IfOk result (λ source. (port_refusal state.now.current (receipt_of asked) port ≡ None)
+    ensures found { IfOk result (λ source. (port_refusal state.now.current (arguments_of asked) port ≡ None)
         × (source ≡ record { member = asked.name; port = port })) }
-    ensures refused { IfErr result (λ code. port_refusal state.now.current (receipt_of asked) port ≡ Some code) }
+    ensures refused { IfErr result (λ code. port_refusal state.now.current (arguments_of asked) port ≡ Some code) }
 {
     if is_in_set(state, port) {
         return Err(in_set(asked.waited));
@@ -140,12 +141,13 @@ fn from_set(
     requires set { giver_of (map.get (names_in state.now.current space) asked.name) ≡ Giver.Set }
     ensures found { IfOk result (λ outcome. IfOk outcome
         (λ source. IsSource state.now.current (names_in state.now.current space)
-        (receipt_of asked) source.member source.port)) }
+        (arguments_of asked) source.member source.port)) }
     ensures refused { IfOk result (λ outcome. IfErr outcome
-        (λ code. receive_refusal state.now.current (names_in state.now.current space) (receipt_of asked) ≡ Some code)) }
+        (λ code. receive_refusal state.now.current (names_in state.now.current space) (arguments_of asked)
+        ≡ Some code)) }
     ensures preferred { IfOk result
         (λ outcome. IfOk outcome (λ source. IsPreferred state.now.current (names_in state.now.current space)
-        (receipt_of asked) preference source.member source.port)) }
+        (arguments_of asked) preference source.member source.port)) }
 {
     let members = state.members(alloc, space, asked.name)?;
     let members = members.as_slice();
@@ -168,7 +170,8 @@ fn first(
     preference: Preference,
 ) -> Result<Option<Source>, AllocError>
     ensures { IfOk result (λ found. option_map source_value found
-        ≡ find (gives state.now.current (names_in state.now.current space) (receipt_of asked) preference) members.now) }
+        ≡ find (gives state.now.current (names_in state.now.current space) (arguments_of asked) preference)
+        members.now) }
 {
     for (member, port) in members {
         let source = Source {
@@ -192,7 +195,7 @@ fn gives(
     preference: Preference,
 ) -> Result<bool, AllocError>
     ensures { IfOk result (λ is. is
-        ≡ gives state.now.current (names_in state.now.current space) (receipt_of asked) preference
+        ≡ gives state.now.current (names_in state.now.current space) (arguments_of asked) preference
         (source.member, source.port)) }
 {
     if !has_message(state, source.port) {
@@ -212,7 +215,7 @@ fn is_preferred(
 ) -> Result<bool, AllocError>
     ensures { IfOk result (λ is. is
         ≡ is_preferred state.now.current (names_in state.now.current space)
-        (receipt_of asked) preference source.member source.port) }
+        (arguments_of asked) preference source.member source.port) }
 {
     match preference {
         Preference::Least => Ok(true),
@@ -230,7 +233,7 @@ fn oldest_lacks(
     port: u64,
 ) -> Result<bool, AllocError>
     ensures { IfOk result (λ lacks. lacks
-        ≡ oldest_lacks (receipt_of asked) (names_in state.now.current space)
+        ≡ oldest_lacks (arguments_of asked) (names_in state.now.current space)
         (messages_at state.now.current.ports port)) }
 {
     let Some(message) = state.oldest(port) else {

@@ -4,7 +4,7 @@ use Rattle.disk.specs.Slots.{Slots, slot_of}
 use Rattle.ipc_model.specs.calls.Step.{Run}
 use Rattle.ipc_model.specs.declared.record.Record.{Record}
 use Rattle.ipc_model.specs.state.State.{State}
-use Rattle.ipc_model.specs.store.Recovery.{HoldsImage, IsOfEpoch, IsOpen, Encodes, image_header}
+use Rattle.ipc_model.specs.store.Recovery.{HoldsImage, IsNotOpen, IsOfEpoch, IsOpen, Encodes, image_header}
 use Rattle.slot_steps.specs.Steps.{image_slot, segment_slot}
 use Rattle.store_layout.specs.Standing.{as_written, IsPassedImage}
 use Rattle.recover.specs.Replayed.{ReplaysAll}
@@ -24,7 +24,7 @@ pub record ReadsOne (slots : Slots) (epoch : ℕ) (state : State) (count end : �
 -- no image is open and the epoch is 0, or the image of this epoch is the latest
 abbrev pub IsLatestEpoch : Slots → ℕ → Type 0
 IsLatestEpoch slots epoch =
-    (((number : ℕ) → number < 2 → IsOpen image_header ((as_written slots).image number) → ⊥) × (epoch ≡ 0))
+    (((number : ℕ) → number < 2 → IsNotOpen image_header ((as_written slots).image number)) × (epoch ≡ 0))
     ⊎ (IsOpen image_header (slot_of slots (image_slot epoch))
     × IsOfEpoch (epoch % 2) epoch (slot_of slots (image_slot epoch))
     × IsPassedImage epoch (slot_of slots (image_slot (epoch + 1))))

@@ -1,7 +1,7 @@
 -- What the headers of the slots say.
 use Rattle.std.specs.Prelude.{◌≢◌, ℕ, ◌%◌, List, [], ◌∷◌, Option, MatchOption}
 use Rattle.disk.specs.Slots.{Slots}
-use Rattle.ipc_model.specs.store.Recovery.{HasOtherVersion, IsOfEpoch, IsOpen, image_header, segment_header_length}
+use Rattle.ipc_model.specs.store.Recovery.{HasOtherVersion, IsNotOpen, IsOfEpoch, IsOpen, IsOpenOfEpoch, image_header, segment_header_length}
 use Rattle.ipc_model.specs.store.Store.{open_gate}
 use Rattle.recover.specs.declared.headers.Header.{Header}
 use Rattle.recover.specs.declared.headers.Header.TheVariants.{Closed, Open, OtherVersion, Unreadable}
@@ -10,18 +10,22 @@ use Rattle.recover.specs.declared.headers.Header.TheVariants.{Closed, Open, Othe
 abbrev pub version_one : List ℕ
 version_one = open_gate ∷ 1 ∷ 0 ∷ 0 ∷ 0 ∷ 0 ∷ 0 ∷ 0 ∷ []
 
+-- a slot is open, of version 1, and of no epoch
+abbrev pub IsUnreadable : ℕ → List ℕ → Type 0
+IsUnreadable length slot =
+    IsOpen length slot × (HasOtherVersion length slot → ⊥) × ((number epoch : ℕ) → IsOfEpoch number epoch slot → ⊥)
+
 -- what the header of a slot says; it has this many bytes
 abbrev pub Says : ℕ → List ℕ → Header → Type 0
-Says length slot Closed = IsOpen length slot → ⊥
-Says length slot (Open epoch) = IsOpen length slot × IsOfEpoch (epoch % 2) epoch slot
+Says length slot Closed = IsNotOpen length slot
+Says length slot (Open epoch) = IsOpenOfEpoch length (epoch % 2) epoch slot
 Says length slot OtherVersion = HasOtherVersion length slot
-Says length slot Unreadable =
-    IsOpen length slot × (HasOtherVersion length slot → ⊥) × ((number epoch : ℕ) → IsOfEpoch number epoch slot → ⊥)
+Says length slot Unreadable = IsUnreadable length slot
 
 -- A slot of this number isn't open, or it is open and of this epoch.
 abbrev pub Tells : ℕ → ℕ → List ℕ → Option ℕ → Type 0
 Tells length number slot found =
-    MatchOption found (IsOpen length slot → ⊥) (λ epoch. IsOpen length slot × IsOfEpoch number epoch slot)
+    MatchOption found (IsNotOpen length slot) (λ epoch. IsOpenOfEpoch length number epoch slot)
 
 -- A header that no slot of this number may have.
 abbrev pub IsForeign : Header → ℕ → Type 0

@@ -1,7 +1,7 @@
 -- What the headers of a store's slots say about the store.
 use Rattle.std.specs.Prelude.{◌≡◌, ℕ, ◌+◌, ◌%◌, ◌^◌, ◌<◌, ◌≤◌, Bool, true, false, Option, None, Some}
 use Rattle.disk.specs.Slots.{Slots, slot_of}
-use Rattle.ipc_model.specs.store.Recovery.{HeadersFit, IsOfEpoch, IsOpen, image_header, segment_header_length}
+use Rattle.ipc_model.specs.store.Recovery.{HeadersFit, IsNotOpen, IsOfEpoch, IsOpen, image_header, segment_header_length}
 use Rattle.slot_steps.specs.Steps.{image_slot, segment_slot}
 use Rattle.store_layout.specs.Standing.{as_written, IsPassedImage, IsPassedSegment}
 use Rattle.recover.specs.declared.survey.Latest.{Latest}
@@ -33,8 +33,8 @@ IsLatestOf first second (latest.Second epoch) = (second ≡ Some epoch) × IsNoL
 -- No image is open, and a segment that is open is of epoch 0.
 pub record IsUnused (slots : Slots) : Type 0 where
   pub headers : HeadersFit (as_written slots)
-  pub no_image : (number : ℕ) → number < 2 → IsOpen image_header ((as_written slots).image number) → ⊥
-  pub second : IsOpen segment_header_length slots.segment1 → ⊥
+  pub no_image : (number : ℕ) → number < 2 → IsNotOpen image_header ((as_written slots).image number)
+  pub second : IsNotOpen segment_header_length slots.segment1
   pub first : IsOpen segment_header_length slots.segment0 → IsOfEpoch 0 0 slots.segment0
 
 -- the next segment is open, or the other segment slot is passed over

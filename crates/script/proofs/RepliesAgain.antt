@@ -5,6 +5,7 @@ use Rattle.std.specs.Str.{bytes_eq}
 use Rattle.std.proofs.lemmas.Bool.{eqb-true, and_parts}
 use Rattle.std.proofs.lemmas.Bool.Decides.{nat_tests}
 use Rattle.std.proofs.lemmas.List.Elements.{All-head, All-tail}
+use Rattle.codes.specs.declared.call_number.TheConstants.{MACH_MSG}
 use Rattle.codes.specs.declared.kern_return.KernReturn.{KernReturn}
 use Rattle.codes.specs.declared.kern_return.KernReturn.TheVariants as code
 use Rattle.ipc_model.specs.declared.call.NamedType.{NamedType}
@@ -179,19 +180,19 @@ last_status_again : (s : ReceiveStatus) → FitsStatus s → last_status_at (sta
 unfolding last_status_at last
 last_status_again s fits = rw (status_again s fits) refl
 
-refused_again : (n : ℕ) (c : KernReturn) → (n ≡ 19 → ⊥) → reply_at n (codes "!" ∷ code_word c ∷ []) ≡ Ok (reply.Refused n c)
+refused_again : (n : ℕ) (c : KernReturn) → (n ≡ MACH_MSG → ⊥) → reply_at n (codes "!" ∷ code_word c ∷ []) ≡ Ok (reply.Refused n c)
 unfolding reply_at refusal_at last
 refused_again n c other =
-    let not_message : (n == 19) ≡ false = grind (arith, nat_tests) in rw (code_again c) (rw not_message refl)
+    let not_message : (n == MACH_MSG) ≡ false = grind (arith, nat_tests) in rw (code_again c) (rw not_message refl)
 
-done_again : (n : ℕ) → IsTrue (not (has_results n || n == 19)) → reply_at n [] ≡ Ok (reply.Done n)
+done_again : (n : ℕ) → IsTrue (not (has_results n || n == MACH_MSG)) → reply_at n [] ≡ Ok (reply.Done n)
 unfolding reply_at silence
 done_again n plain =
-    elim (has_results n) as (λ (b : Bool). IsTrue (not (b || n == 19))
+    elim (has_results n) as (λ (b : Bool). IsTrue (not (b || n == MACH_MSG))
     → cond {A = Reading Reply} b (stop Results [])
-    (cond (n == 19) (Ok (reply.Message code.Success 0 0 [])) (Ok (reply.Done n))) ≡ Ok (reply.Done n)) [
+    (cond (n == MACH_MSG) (Ok (reply.Message code.Success 0 0 [])) (Ok (reply.Done n))) ≡ Ok (reply.Done n)) [
       | true ↦ λ (wrong : _). absurd (cc)
-      | false ↦ λ (known : _). elim (n == 19)
+      | false ↦ λ (known : _). elim (n == MACH_MSG)
           as (λ (b : Bool). IsTrue (not b)
           → cond {A = Reading Reply} b (Ok (reply.Message code.Success 0 0 [])) (Ok (reply.Done n)) ≡ Ok (reply.Done n)) [
             | true ↦ λ (wrong : _). absurd (cc)

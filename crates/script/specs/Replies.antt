@@ -1,6 +1,7 @@
 -- Replies in words.
 use Rattle.std.specs.Prelude.{◌≢◌, ℕ, Bool, true, false, ◌==◌, ◌&&◌, ◌||◌, not, IsTrue, List, [], ◌∷◌, ◌++◌, length, flat_map, map, find, Option, None, Some, Ok, codes, if◌then◌else◌}
 use Rattle.std.specs.Str.{bytes_eq}
+use Rattle.codes.specs.declared.call_number.TheConstants.{MACH_PORT_NAMES, MACH_PORT_TYPE, MACH_PORT_ALLOCATE, MACH_PORT_GET_REFS, MACH_PORT_GET_RECEIVE_STATUS, MACH_PORT_GET_SET_STATUS, MACH_PORT_REQUEST_NOTIFICATION, MACH_PORT_EXTRACT_RIGHT, MACH_MSG, SPACE_CREATE}
 use Rattle.codes.specs.declared.kern_return.KernReturn.{KernReturn}
 use Rattle.codes.specs.declared.kern_return.KernReturn.TheVariants.{Success}
 use Rattle.ipc_model.specs.declared.call.NamedType.{NamedType}
@@ -194,44 +195,49 @@ last_status_at words = status_at words >>= λ status. last (reply.ReceiveStatus 
 -- the results of a call of this number
 unfoldable pub results_at : ℕ → List (List ℕ) → Reading Reply
 results_at n words =
-    if n == 1 then (names_at words >>= λ names. Ok (reply.Names names))
-    else if n == 2 then (last_value Hexadecimal words >>= λ bits. Ok (reply.Type bits))
-    else if n == 5 then (last_value Hexadecimal words >>= λ name. Ok (reply.Allocate name))
-    else if n == 8 then (last_value Decimal words >>= λ count. Ok (reply.References count))
-    else if n == 13 then last_status_at words
-    else if n == 14 then (members_at words >>= λ members. Ok (reply.SetStatus members))
-    else if n == 16 then (last_value Hexadecimal words >>= λ name. Ok (reply.PreviousTarget name))
-    else if n == 18 then extracted_at words
-    else if n == 19 then message_reply_at Success words
-    else if n == 20 then space_created_at words
+    if n == MACH_PORT_NAMES then (names_at words >>= λ names. Ok (reply.Names names))
+    else if n == MACH_PORT_TYPE then (last_value Hexadecimal words >>= λ bits. Ok (reply.Type bits))
+    else if n == MACH_PORT_ALLOCATE then (last_value Hexadecimal words >>= λ name. Ok (reply.Allocate name))
+    else if n == MACH_PORT_GET_REFS then (last_value Decimal words >>= λ count. Ok (reply.References count))
+    else if n == MACH_PORT_GET_RECEIVE_STATUS then last_status_at words
+    else if n == MACH_PORT_GET_SET_STATUS then (members_at words >>= λ members. Ok (reply.SetStatus members))
+    else if n == MACH_PORT_REQUEST_NOTIFICATION
+    then (last_value Hexadecimal words >>= λ name. Ok (reply.PreviousTarget name))
+    else if n == MACH_PORT_EXTRACT_RIGHT then extracted_at words
+    else if n == MACH_MSG then message_reply_at Success words
+    else if n == SPACE_CREATE then space_created_at words
     else stop expected.End words
 
 -- a call of this number has results that the line has to have
 abbrev pub has_results : ℕ → Bool
-has_results n = n == 1 || n == 2 || n == 5 || n == 8 || n == 13 || n == 14 || n == 16 || n == 18 || n == 20
+has_results n =
+    n == MACH_PORT_NAMES || n == MACH_PORT_TYPE || n == MACH_PORT_ALLOCATE || n == MACH_PORT_GET_REFS ||
+    n == MACH_PORT_GET_RECEIVE_STATUS || n == MACH_PORT_GET_SET_STATUS || n == MACH_PORT_REQUEST_NOTIFICATION ||
+    n == MACH_PORT_EXTRACT_RIGHT || n == SPACE_CREATE
 
 -- the reply of a line that gives none
 unfoldable pub silence : ℕ → List (List ℕ) → Reading Reply
 silence n words =
-    if has_results n then stop expected.Results words else if n == 19 then Ok (reply.Message Success 0 0 [])
+    if has_results n then stop expected.Results words else if n == MACH_MSG then Ok (reply.Message Success 0 0 [])
     else Ok (reply.Done n)
 
 unfoldable pub refusal_at : ℕ → List (List ℕ) → Reading Reply
 refusal_at n [] = stop expected.Code []
 refusal_at n (word ∷ words) =
-    wanted expected.Code (word ∷ words) (find (λ code. bytes_eq (code_word code) word) all_codes) >>= λ code. if n == 19
-    then message_reply_at code words else last (reply.Refused n code, words)
+    wanted expected.Code (word ∷ words) (find (λ code. bytes_eq (code_word code) word) all_codes) >>= λ code.
+    if n == MACH_MSG then message_reply_at code words else last (reply.Refused n code, words)
 
 -- what a call of this number answered: a call without results has no `=` after it
 unfoldable pub reply_at : ℕ → List (List ℕ) → Reading Reply
 reply_at n [] = silence n []
 reply_at n (word ∷ words) =
-    if bytes_eq word (codes "=") then (if has_results n || n == 19 then results_at n words else stop expected.End (word ∷ words))
+    if bytes_eq word (codes "=")
+    then (if has_results n || n == MACH_MSG then results_at n words else stop expected.End (word ∷ words))
     else if bytes_eq word (codes "!") then refusal_at n words
     else stop expected.Results (word ∷ words)
 
 -- the reply is one of a call of its own number
 abbrev pub IsOwn : Reply → Type 0
-IsOwn (reply.Refused number code) = number ≢ 19
-IsOwn (reply.Done number) = IsTrue (not (has_results number || number == 19))
+IsOwn (reply.Refused number code) = number ≢ MACH_MSG
+IsOwn (reply.Done number) = IsTrue (not (has_results number || number == MACH_MSG))
 IsOwn answer = Unit {0}

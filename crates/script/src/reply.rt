@@ -457,7 +457,7 @@ fn read_results(alloc: Global, number: u32, text: &[u8]) -> Result<Reply, Fault>
 
 /// Whether a call with this number has results, or may have some.
 fn may_tell(number: u32) -> bool
-    ensures { result ≡ (has_results number || number == 19) }
+    ensures { result ≡ (has_results number || number == MACH_MSG) }
 {
     matches!(
         number,

@@ -38,8 +38,9 @@ fn take_destination(
     effects: &mut Effects,
 ) -> Result<(RightKind, u64), SendFault>
     ensures taken { Gave (sending.take_destination state.old.current space name disposition)
-        (λ taken found. (found.0 ≡ taken.0.right.kind) × (found.1 ≡ taken.1) × (state.new.current ≡ taken.0.state)
-        × (effects.new ≡ effects.old ++ taken.0.notices)) result }
+        (λ destination found. (found.0 ≡ destination.taken.right.kind) × (found.1 ≡ destination.port)
+        × (state.new.current ≡ destination.taken.state)
+        × (effects.new ≡ effects.old ++ destination.taken.notices)) result }
     ensures before { state.new.before ≡ state.old.before }
 {
     let right = take(

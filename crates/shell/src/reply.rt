@@ -99,9 +99,21 @@ fn read_plain(number: u32, results: &[u8]) -> Option<Reply>
 
 /// Whether a call with this number that was done has no results.
 fn has_no_results(number: u32) -> bool
-    ensures { result ≡ not (has_results number || number == 19) }
+    ensures { result ≡ not (has_results number || number == MACH_MSG) }
 {
-    !matches!(number, 1 | 2 | 5 | 8 | 13 | 14 | 16 | 18 | 19 | 20)
+    !matches!(
+        number,
+        MACH_PORT_NAMES
+            | MACH_PORT_TYPE
+            | MACH_PORT_ALLOCATE
+            | MACH_PORT_GET_REFS
+            | MACH_PORT_GET_RECEIVE_STATUS
+            | MACH_PORT_GET_SET_STATUS
+            | MACH_PORT_REQUEST_NOTIFICATION
+            | MACH_PORT_EXTRACT_RIGHT
+            | MACH_MSG
+            | SPACE_CREATE
+    )
 }
 
 #[tactic(auto, unfolding(ipc_model::specs::encodings::Encodings::reply_encoding))]

@@ -5,7 +5,7 @@ use Rattle.disk.specs.declared.slot.Slot.{Slot}
 use Rattle.disk.specs.declared.slot.Slot.TheVariants.{Image0, Image1, Segment0, Segment1}
 use Rattle.disk.specs.Moments.{View, MayLeave}
 use Rattle.disk.specs.Slots.{Slots, slot_of}
-use Rattle.ipc_model.specs.store.Recovery.{IsOpen}
+use Rattle.ipc_model.specs.store.Recovery.{IsNotOpen}
 use Rattle.ipc_model.specs.store.Store.{IsClosed}
 
 -- the slots that an epoch uses
@@ -32,7 +32,7 @@ pub record HasSomeGate (before after : List ℕ) : Type 0 where
 
 -- a slot that is being closed is as it was, or it isn't open
 abbrev pub IsClosing : ℕ → List ℕ → List ℕ → Type 0
-IsClosing header before after = (after ≡ before) ⊎ (¬ IsOpen header after)
+IsClosing header before after = (after ≡ before) ⊎ IsNotOpen header after
 
 -- a slot that gets new content is as it was, or it isn't open, or it holds all of that content
 abbrev pub IsRemade : ℕ → List ℕ → List ℕ → List ℕ → Type 0

@@ -4,7 +4,7 @@ use Rattle.disk.specs.Slots.{Slots, slot_of}
 use Rattle.ipc_model.specs.declared.record.Record.{Record}
 use Rattle.ipc_model.specs.state.State.{State}
 use Rattle.ipc_model.specs.store.Recovery as written
-use Rattle.ipc_model.specs.store.Recovery.{HoldsImage, IsOfEpoch, IsOpen, image_header, segment_header_length}
+use Rattle.ipc_model.specs.store.Recovery.{HoldsImage, IsNotOpen, IsOfEpoch, image_header, segment_header_length}
 use Rattle.ipc_model.specs.store.Store.{EncodesSegment}
 use Rattle.slot_steps.specs.Steps.{image_slot, segment_slot}
 
@@ -15,15 +15,20 @@ as_written slots = record {
   segment = λ n. if n == 0 then slots.segment0 else slots.segment1;
 }
 
+-- an image of an earlier epoch, and the segment of the epoch just before
+abbrev pub IsEarlierImage : ℕ → List ℕ → Type 0
+IsEarlierImage epoch slot = (before : ℕ) × (before < epoch) × IsOfEpoch ((epoch + 1) % 2) before slot
+
+abbrev pub IsFormerSegment : ℕ → List ℕ → Type 0
+IsFormerSegment epoch slot = (before : ℕ) × (suc before ≡ epoch) × IsOfEpoch (before % 2) before slot
+
 -- An image slot that is passed over in an epoch: it isn't open, or its image is of an earlier epoch.
 abbrev pub IsPassedImage : ℕ → List ℕ → Type 0
-IsPassedImage epoch slot =
-    (IsOpen image_header slot → ⊥) ⊎ ((before : ℕ) × (before < epoch) × IsOfEpoch ((epoch + 1) % 2) before slot)
+IsPassedImage epoch slot = IsNotOpen image_header slot ⊎ IsEarlierImage epoch slot
 
 -- A segment slot that is passed over: it isn't open, or it is of the epoch just before.
 abbrev pub IsPassedSegment : ℕ → List ℕ → Type 0
-IsPassedSegment epoch slot =
-    (IsOpen segment_header_length slot → ⊥) ⊎ ((before : ℕ) × (suc before ≡ epoch) × IsOfEpoch (before % 2) before slot)
+IsPassedSegment epoch slot = IsNotOpen segment_header_length slot ⊎ IsFormerSegment epoch slot
 
 -- Outside a checkpoint, and within one until the next segment is opened: the image of an epoch, and the records of its
 -- segment.

@@ -326,7 +326,7 @@ module _ {D : Type 0} (honest : Type 0) (view : D → View) (base : State) where
       let is = taken_of w old taken stands fails.out fails.in_use in
       let unfailed : w.failed ≡ false = sym stands.failed ∙ fails.unfailed in
       shows_device honest view base w world.append old new stands unfailed
-      (unfailed_first w.failed unfailed, is.can, (refl, refl)) fails.rest (λ is_honest.
+      (unfailed_first w.failed unfailed, is.can, refl) fails.rest (λ is_honest.
       let kept = stands.kept is_honest unfailed in
       passes_as (view old.store.disk) (view new.store.disk) _ (StandsFrom base w.stored w)
       (fails.passes is_honest (synced w old kept)) (λ c mid. during w old taken stands is kept c mid))

@@ -535,7 +535,7 @@ module _ {D : Type 0} (honest : Type 0) (view : D → View) (base : State) where
       fails w world.roll_close old new stands unfailed (
         unfailed_first w.failed unfailed,
         subst (λ (o : Option world.Checkpoint). world.IsRolled o 0) (sym found.1) (sym found.2.rolled ∙ f.next),
-        (refl, refl),
+        refl,
       ) (failed_rest old new rest f.rest)
       (λ kept is_honest. roll_close_fails honest view is_honest old.store new.store kept.mid kept.state kept.kept f)
 
@@ -548,7 +548,7 @@ module _ {D : Type 0} (honest : Type 0) (view : D → View) (base : State) where
       fails w world.roll_head old new stands unfailed (
         unfailed_first w.failed unfailed,
         subst (λ (o : Option world.Checkpoint). world.IsRolled o 1) (sym found.1) (sym found.2.rolled ∙ f.next),
-        (refl, refl),
+        refl,
       ) (failed_rest old new rest f.rest)
       (λ kept is_honest. roll_head_fails honest view is_honest old.store new.store kept.mid kept.state kept.kept f)
 
@@ -566,7 +566,7 @@ module _ {D : Type 0} (honest : Type 0) (view : D → View) (base : State) where
           subst (λ (o : Option world.Checkpoint). world.IsRolled o 2) (sym found.1) (sym found.2.rolled ∙ f.next),
           omega (arith, all),
         ),
-        (refl, refl),
+        refl,
       ) (failed_rest old new rest f.rest)
       (λ kept is_honest. roll_open_fails honest view is_honest old.store new.store kept.mid kept.state kept.kept
       (cut_state w old stands kept all) f)
@@ -580,7 +580,7 @@ module _ {D : Type 0} (honest : Type 0) (view : D → View) (base : State) where
       fails w world.image_close old new stands unfailed (
         unfailed_first w.failed unfailed,
         subst (λ (o : Option world.Checkpoint). world.HasImaged o 0) (sym found.1) (sym found.2.imaged ∙ f.next),
-        (refl, refl),
+        refl,
       ) (failed_rest old new rest f.rest)
       (λ kept is_honest. image_close_fails honest view is_honest old.store new.store kept.mid kept.state kept.kept f)
 
@@ -594,7 +594,7 @@ module _ {D : Type 0} (honest : Type 0) (view : D → View) (base : State) where
         unfailed_first w.failed unfailed,
         subst world.HasPieceLeft (sym found.1)
             (omega (arith, found.2.imaged, f.next.0), omega (arith, found.2.imaged, found.2.pieces, f.next.1)),
-        (refl, refl),
+        refl,
       ) (failed_rest old new rest f.rest)
       (λ kept is_honest. piece_fails honest view is_honest old.store new.store kept.mid kept.state kept.kept f)
 
@@ -611,7 +611,7 @@ module _ {D : Type 0} (honest : Type 0) (view : D → View) (base : State) where
           sym found.2.rolled ∙ f.next.1,
           found.2.unfinished,
         ),
-        (refl, refl),
+        refl,
       ) (failed_rest old new rest f.rest)
       (λ kept is_honest. finish_fails honest view is_honest old.store new.store kept.mid kept.state kept.kept f)
 
@@ -708,7 +708,7 @@ module _ {D : Type 0} (honest : Type 0) (view : D → View) (base : State) where
       (same_rest old new rest same) (
         unfailed_first w.failed (working w old stands unfailed),
         possible w.checkpoint old.store.checkpoint old.finished old.core.is_cut stands.checkpoint has,
-        (refl, refl),
+        refl,
       )
     where
       possible : (written : Option world.Checkpoint) (checkpoint : Option CheckpointValue) (finished : Option ℕ)
@@ -876,7 +876,7 @@ module _ {D : Type 0} (honest : Type 0) (view : D → View) (base : State) where
       unmoved honest view base w world.cut world.no_memory old new stands same (
         and_false w.failed,
         (omega (arith, can.next, stands.epoch), (no_checkpoint w old stands can.over).0),
-        (refl, refl),
+        refl,
       )
 
   -- the device failed in an earlier step

@@ -287,7 +287,7 @@ module _ {D : Type 0} (honest : Type 0) (view : D → View) (base : State) where
   pub shows_no_memory : (w : World) (old new : SystemValue D) (space : ℕ) (c : Call) → StandsFor honest view base w old
       → new ≡ old → Shows w (world.submit space c) world.no_memory old new
   shows_no_memory w old new space c stands same =
-      unmoved w (world.submit space c) world.no_memory old new stands same (and_false w.failed, tt, (refl, refl))
+      unmoved w (world.submit space c) world.no_memory old new stands same (and_false w.failed, tt, refl)
 
   -- Records that wait are taken.
 

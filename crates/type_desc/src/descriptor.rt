@@ -1,5 +1,5 @@
-ghost use Rattle.std.specs.Prelude.{◌≡◌, ◌==◌, ◌&&◌, ◌||◌, ◌*◌, ◌%◌, ◌^◌, ◌≤◌, ◌<◌, not, nat_lt, true, false, length};
-ghost use Rattle.ipc_model.specs.messages.Items.{is_inline, is_long_form, has_other_bit, is_port_type, type_name_in, bits_in, number_in, padded, descriptor_length};
+ghost use Rattle.std.specs.Prelude.{◌≡◌, ◌&&◌, ◌||◌, ◌*◌, ◌^◌, ◌≤◌, ◌<◌, nat_lt, true, false, length};
+ghost use Rattle.ipc_model.specs.messages.Items.{is_inline, is_long_form, has_other_bit, has_short_fields, has_odd_ports, is_port_type, type_name_in, bits_in, number_in, padded, descriptor_length};
 
 use byteorder::{ByteOrder, LittleEndian};
 
@@ -59,22 +59,22 @@ pub(crate) fn is_port_type(type_name: u16) -> bool
 
 /// Whether the word of a long descriptor has a field that belongs after it.
 fn has_short_fields(word: u32, is_long: bool) -> bool
-    ensures { result ≡ (is_long && not (word % 2 ^ 28 == 0)) }
+    ensures { result ≡ has_short_fields word is_long }
 {
     is_long && word % INLINE_BIT != 0
 }
 
 /// Whether these are ports of another size than a name's.
 fn has_odd_ports(fields: Fields) -> bool
-    ensures { result ≡ (is_port_type fields.type_name && not (fields.bits == 32)) }
+    ensures { result ≡ has_odd_ports fields.type_name fields.bits }
 {
     is_port_type(fields.type_name) && fields.bits != PORT_BITS
 }
 
 /// Whether a descriptor's bits or its type are refused.
 pub(crate) fn has_wrong_type(word: u32, is_long: bool, fields: Fields) -> bool
-    ensures { result ≡ (has_other_bit word || (is_long && not (word % 2 ^ 28 == 0)) ||
-        (is_port_type fields.type_name && not (fields.bits == 32))) }
+    ensures { result ≡ (has_other_bit word || has_short_fields word is_long ||
+        has_odd_ports fields.type_name fields.bits) }
 {
     has_other_bit(word) || has_short_fields(word, is_long) || has_odd_ports(fields)
 }

@@ -15,7 +15,7 @@ use Rattle.ipc_model.specs.declared.entry.Entry.{Entry}
 use Rattle.ipc_model.specs.declared.entry.Entry.TheVariants.{Port, SendOnce, Set, Dead}
 use Rattle.ipc_model.specs.declared.message.Message.{Message}
 use Rattle.ipc_model.specs.declared.port.PortState.{PortState}
-use Rattle.ipc_model.specs.messages.Receiving.{Receipt, all_empty, is_in_set, oldest, oldest_under, port_under, receive_refusal, refusal_of_sources, sources, sources_of_port}
+use Rattle.ipc_model.specs.messages.Receiving.{ReceiveArguments, all_empty, is_in_set, oldest, oldest_under, port_under, receive_refusal, refusal_of_sources, sources, sources_of_port}
 use Rattle.ipc_model.specs.state.State.{State, Names, entry_at, is_member, is_number, members_of, received_port}
 use Rattle.waiting.specs.Places.{place_of_name}
 use Rattle.waiting.specs.Waiting.{Covers, IsQuiet, Occupancy, occupancy}
@@ -71,46 +71,46 @@ under state names name serial entry at holds =
     ∙ ap (λ (o : Option ℕ). option_and_then (λ (s : ℕ). finmap.get state.ports s) o) holds
 
 -- the code of a name with these sources
-code_of : (state : State) (names : Names) (receipt : Receipt) (entry : Entry) (among : Option (List ℕ))
-    → finmap.get names receipt.name ≡ Some entry → sources state names receipt.name (Some entry) ≡ among
-    → receive_refusal state names receipt ≡ refusal_of_sources state names receipt among
-code_of state names receipt entry among at is =
-    ap (λ (o : Option Entry). refusal_of_sources state names receipt (sources state names receipt.name o)) at
-    ∙ ap (refusal_of_sources state names receipt) is
+code_of : (state : State) (names : Names) (arguments : ReceiveArguments) (entry : Entry) (among : Option (List ℕ))
+    → finmap.get names arguments.name ≡ Some entry → sources state names arguments.name (Some entry) ≡ among
+    → receive_refusal state names arguments ≡ refusal_of_sources state names arguments among
+code_of state names arguments entry among at is =
+    ap (λ (o : Option Entry). refusal_of_sources state names arguments (sources state names arguments.name o)) at
+    ∙ ap (refusal_of_sources state names arguments) is
 
-no_source : (state : State) (names : Names) (receipt : Receipt) (P : Type 0)
-    → refusal_of_sources state names receipt None ≡ Some RcvTimedOut → P
-no_source state names receipt P is =
-    elim receipt.waited as (λ (b : Bool). Some (if b then RcvPortDied else RcvInvalidName) ≡ Some RcvTimedOut → P) [
+no_source : (state : State) (names : Names) (arguments : ReceiveArguments) (P : Type 0)
+    → refusal_of_sources state names arguments None ≡ Some RcvTimedOut → P
+no_source state names arguments P is =
+    elim arguments.waited as (λ (b : Bool). Some (if b then RcvPortDied else RcvInvalidName) ≡ Some RcvTimedOut → P) [
       | true ↦ λ (e : _). absurd (cc e)
       | false ↦ λ (e : _). absurd (cc e)
     ] is
 
 -- what a receive that finds no message knows of its sources
-sources_empty : (state : State) (names : Names) (receipt : Receipt) (among : List ℕ)
-    → refusal_of_sources state names receipt (Some among) ≡ Some RcvTimedOut
-    → (is_in_set state names receipt.name ≡ false) × (all_empty state names among ≡ true)
-sources_empty state names receipt among is =
-    go (is_in_set state names receipt.name) refl (all_empty state names among) refl is
+sources_empty : (state : State) (names : Names) (arguments : ReceiveArguments) (among : List ℕ)
+    → refusal_of_sources state names arguments (Some among) ≡ Some RcvTimedOut
+    → (is_in_set state names arguments.name ≡ false) × (all_empty state names among ≡ true)
+sources_empty state names arguments among is =
+    go (is_in_set state names arguments.name) refl (all_empty state names among) refl is
   where
-    go : (b : Bool) → is_in_set state names receipt.name ≡ b → (e : Bool) → all_empty state names among ≡ e
-        → (if b then Some (if receipt.waited then RcvPortChanged else RcvInSet) else if e then Some RcvTimedOut
-        else None) ≡ Some RcvTimedOut → (is_in_set state names receipt.name ≡ false)
+    go : (b : Bool) → is_in_set state names arguments.name ≡ b → (e : Bool) → all_empty state names among ≡ e
+        → (if b then Some (if arguments.waited then RcvPortChanged else RcvInSet) else if e then Some RcvTimedOut
+        else None) ≡ Some RcvTimedOut → (is_in_set state names arguments.name ≡ false)
         × (all_empty state names among ≡ true)
     go true within e empty code =
-        elim receipt.waited as (λ (w : Bool). Some (if w then RcvPortChanged else RcvInSet) ≡ Some RcvTimedOut
-        → (is_in_set state names receipt.name ≡ false) × (all_empty state names among ≡ true)) [
+        elim arguments.waited as (λ (w : Bool). Some (if w then RcvPortChanged else RcvInSet) ≡ Some RcvTimedOut
+        → (is_in_set state names arguments.name ≡ false) × (all_empty state names among ≡ true)) [
           | true ↦ λ (c : _). absurd (cc c)
           | false ↦ λ (c : _). absurd (cc c)
         ] code
     go false within true empty code = (within, empty)
     go false within false empty code = absurd (cc code)
 
-empty_sources : (state : State) (names : Names) (receipt : Receipt) (among : List ℕ)
-    → is_in_set state names receipt.name ≡ false → all_empty state names among ≡ true
-    → refusal_of_sources state names receipt (Some among) ≡ Some RcvTimedOut
-empty_sources state names receipt among outside empty =
-    ap (λ (b : Bool). if b then Some (if receipt.waited then RcvPortChanged else RcvInSet)
+empty_sources : (state : State) (names : Names) (arguments : ReceiveArguments) (among : List ℕ)
+    → is_in_set state names arguments.name ≡ false → all_empty state names among ≡ true
+    → refusal_of_sources state names arguments (Some among) ≡ Some RcvTimedOut
+empty_sources state names arguments among outside empty =
+    ap (λ (b : Bool). if b then Some (if arguments.waited then RcvPortChanged else RcvInSet)
     else if all_empty state names among then Some RcvTimedOut else None) outside
     ∙ ap (λ (b : Bool). if b then Some RcvTimedOut else None) empty
 
@@ -140,33 +140,33 @@ module _ (old new : State) (named : ℕ → Bool) (covers : Covers old new named
           ]
 
   -- a name with the receive right of a port
-  port_case : (names : Names) (receipt : Receipt) (entry : Entry) (serial : ℕ)
-      → finmap.get old.spaces space ≡ Some names → finmap.get names receipt.name ≡ Some entry
+  port_case : (names : Names) (arguments : ReceiveArguments) (entry : Entry) (serial : ℕ)
+      → finmap.get old.spaces space ≡ Some names → finmap.get names arguments.name ≡ Some entry
       → received_port entry ≡ Some serial
-      → ((state : State) (n : Names) → sources state n receipt.name (Some entry) ≡ Some (receipt.name ∷ []))
-      → named (place_of_name space receipt.name) ≡ false
-      → receive_refusal old names receipt ≡ Some RcvTimedOut → (after : Names)
-      × (finmap.get new.spaces space ≡ Some after) × (receive_refusal new after receipt ≡ Some RcvTimedOut)
-  port_case names receipt entry serial there at holds alone off refused =
-      let stood : entry_at old space receipt.name ≡ Some entry =
-      ap (option_and_then (λ (n : Names). finmap.get n receipt.name)) there ∙ at in
-      let stays : entry_at new space receipt.name ≡ Some entry = covers.entries space receipt.name off ∙ stood in
-      let after = stands (finmap.get new.spaces space) receipt.name entry stays in
+      → ((state : State) (n : Names) → sources state n arguments.name (Some entry) ≡ Some (arguments.name ∷ []))
+      → named (place_of_name space arguments.name) ≡ false
+      → receive_refusal old names arguments ≡ Some RcvTimedOut → (after : Names)
+      × (finmap.get new.spaces space ≡ Some after) × (receive_refusal new after arguments ≡ Some RcvTimedOut)
+  port_case names arguments entry serial there at holds alone off refused =
+      let stood : entry_at old space arguments.name ≡ Some entry =
+      ap (option_and_then (λ (n : Names). finmap.get n arguments.name)) there ∙ at in
+      let stays : entry_at new space arguments.name ≡ Some entry = covers.entries space arguments.name off ∙ stood in
+      let after = stands (finmap.get new.spaces space) arguments.name entry stays in
       let was =
-      sources_empty old names receipt (receipt.name ∷ [])
-      (sym (code_of old names receipt entry _ at (alone old names)) ∙ refused) in
-      let below : port_under old names receipt.name ≡ finmap.get old.ports serial =
-      under old names receipt.name serial entry at holds in
-      let above : port_under new after.names receipt.name ≡ finmap.get new.ports serial =
-      under new after.names receipt.name serial entry after.named holds in
+      sources_empty old names arguments (arguments.name ∷ [])
+      (sym (code_of old names arguments entry _ at (alone old names)) ∙ refused) in
+      let below : port_under old names arguments.name ≡ finmap.get old.ports serial =
+      under old names arguments.name serial entry at holds in
+      let above : port_under new after.names arguments.name ≡ finmap.get new.ports serial =
+      under new after.names arguments.name serial entry after.named holds in
       let idle : IsIdle (finmap.get new.ports serial) =
-      still_idle receipt.name serial entry off stays holds
-      (was_idle (port_under old names receipt.name) below was.0 was.1) in
-      let is = is_idle (port_under new after.names receipt.name) above idle in (
+      still_idle arguments.name serial entry off stays holds
+      (was_idle (port_under old names arguments.name) below was.0 was.1) in
+      let is = is_idle (port_under new after.names arguments.name) above idle in (
         after.names,
         after.there,
-        code_of new after.names receipt entry _ after.named (alone new after.names)
-            ∙ empty_sources new after.names receipt (receipt.name ∷ []) is.0 is.1,
+        code_of new after.names arguments entry _ after.named (alone new after.names)
+            ∙ empty_sources new after.names arguments (arguments.name ∷ []) is.0 is.1,
       )
     where
       was_idle : (o : Option PortState) → o ≡ finmap.get old.ports serial
@@ -294,43 +294,43 @@ module _ (old new : State) (named : ℕ → Bool) (covers : Covers old new named
       go later false is all false other at = later all at
 
   -- a set
-  set_case : (names : Names) (receipt : Receipt) → finmap.get old.spaces space ≡ Some names
-      → finmap.get names receipt.name ≡ Some Set → named (place_of_name space receipt.name) ≡ false
-      → receive_refusal old names receipt ≡ Some RcvTimedOut → (after : Names)
-      × (finmap.get new.spaces space ≡ Some after) × (receive_refusal new after receipt ≡ Some RcvTimedOut)
-  set_case names receipt there at off refused =
-      let stood : entry_at old space receipt.name ≡ Some Set =
-      ap (option_and_then (λ (n : Names). finmap.get n receipt.name)) there ∙ at in
-      let stays : entry_at new space receipt.name ≡ Some Set = covers.entries space receipt.name off ∙ stood in
-      let after = stands (finmap.get new.spaces space) receipt.name Set stays in
+  set_case : (names : Names) (arguments : ReceiveArguments) → finmap.get old.spaces space ≡ Some names
+      → finmap.get names arguments.name ≡ Some Set → named (place_of_name space arguments.name) ≡ false
+      → receive_refusal old names arguments ≡ Some RcvTimedOut → (after : Names)
+      × (finmap.get new.spaces space ≡ Some after) × (receive_refusal new after arguments ≡ Some RcvTimedOut)
+  set_case names arguments there at off refused =
+      let stood : entry_at old space arguments.name ≡ Some Set =
+      ap (option_and_then (λ (n : Names). finmap.get n arguments.name)) there ∙ at in
+      let stays : entry_at new space arguments.name ≡ Some Set = covers.entries space arguments.name off ∙ stood in
+      let after = stands (finmap.get new.spaces space) arguments.name Set stays in
       let was =
-      sources_empty old names receipt (members_of old names receipt.name)
-      (sym (code_of old names receipt Set _ at refl) ∙ refused) in
-      let outside : is_in_set new after.names receipt.name ≡ false =
+      sources_empty old names arguments (members_of old names arguments.name)
+      (sym (code_of old names arguments Set _ at refl) ∙ refused) in
+      let outside : is_in_set new after.names arguments.name ≡ false =
       ap (λ (o : Option Entry). elim (option_and_then
       (λ (s : ℕ). finmap.get new.ports s) (option_and_then received_port o)) as (λ _. Bool)
       [ None ↦ false | Some port ↦ is_some port.set ]) after.named in
-      let empty : all_empty new after.names (members_of new after.names receipt.name) ≡ true =
-      each_empty new after.names receipt.name (finmap.entries after.names) (entries_sorted after.names)
+      let empty : all_empty new after.names (members_of new after.names arguments.name) ≡ true =
+      each_empty new after.names arguments.name (finmap.entries after.names) (entries_sorted after.names)
       (λ name entry found member.
       one after.names after.there was.1 name entry (get-entries after.names name ∙ found)
-      (is_in new receipt.name entry member)) in (
+      (is_in new arguments.name entry member)) in (
         after.names,
         after.there,
-        code_of new after.names receipt Set _ after.named refl
-            ∙ empty_sources new after.names receipt (members_of new after.names receipt.name) outside empty,
+        code_of new after.names arguments Set _ after.named refl
+            ∙ empty_sources new after.names arguments (members_of new after.names arguments.name) outside empty,
       )
     where
       one : (after : Names) → finmap.get new.spaces space ≡ Some after
-          → all_empty old names (members_of old names receipt.name) ≡ true → (name : ℕ) (entry : Entry)
-          → finmap.get after name ≡ Some entry → IsIn new receipt.name entry
+          → all_empty old names (members_of old names arguments.name) ≡ true → (name : ℕ) (entry : Entry)
+          → finmap.get after name ≡ Some entry → IsIn new arguments.name entry
           → is_some (oldest_under new after name) ≡ false
       one after is empty name entry at member =
           let stands_now : entry_at new space name ≡ Some entry =
           ap (option_and_then (λ (n : Names). finmap.get n name)) is ∙ at in
           ap (λ (o : Option PortState). is_some (option_and_then (λ (port : PortState). oldest port.messages) o))
           (under new after name member.serial entry at member.holds ∙ member.there)
-          ∙ elim (covers.sets space receipt.name name entry member.serial member.port off stands_now member.holds
+          ∙ elim (covers.sets space arguments.name name entry member.serial member.port off stands_now member.holds
           member.there member.within) as (λ _. is_some (oldest member.port.messages) ≡ false) [
             | inl none ↦ ap (λ (ms : List Message). is_some (oldest ms)) none
             | inr same ↦ by_before entry name member
@@ -338,14 +338,14 @@ module _ (old new : State) (named : ℕ → Bool) (covers : Covers old new named
                 (same.1 ∙ ap (option_map occupancy) member.there)) same.0
           ]
         where
-          by_before : (entry : Entry) (name : ℕ) (member : IsIn new receipt.name entry)
+          by_before : (entry : Entry) (name : ℕ) (member : IsIn new arguments.name entry)
               (before : Occupied (finmap.get old.ports member.serial) member.port)
               → entry_at old space name ≡ Some entry → is_some (oldest member.port.messages) ≡ false
           by_before entry name member before stood =
               let at_names : finmap.get names name ≡ Some entry =
               sym (ap (option_and_then (λ (n : Names). finmap.get n name)) there) ∙ stood in
-              let was_member : is_member old receipt.name entry ≡ true =
-              in_is old receipt.name entry
+              let was_member : is_member old arguments.name entry ≡ true =
+              in_is old arguments.name entry
               (record {
                 serial = member.serial;
                 port = before.before;
@@ -354,7 +354,7 @@ module _ (old new : State) (named : ℕ → Bool) (covers : Covers old new named
                 within = before.set ∙ member.within;
               }) in
               let none : is_some (oldest_under old names name) ≡ false =
-              empty_each old names receipt.name (finmap.entries names) empty name entry
+              empty_each old names arguments.name (finmap.entries names) empty name entry
               (sym (get-entries names name) ∙ at_names) was_member in
               let none_there : is_some (oldest before.before.messages) ≡ false =
               sym (ap (λ (o : Option PortState). is_some
@@ -364,33 +364,33 @@ module _ (old new : State) (named : ℕ → Bool) (covers : Covers old new named
               (sym before.held ∙ ap length (none_oldest before.before.messages none_there))
 
   -- A receive that found no message finds none.
-  pub still_none : (names : Names) (receipt : Receipt) → finmap.get old.spaces space ≡ Some names
-      → receive_refusal old names receipt ≡ Some RcvTimedOut → named (place_of_name space receipt.name) ≡ false
+  pub still_none : (names : Names) (arguments : ReceiveArguments) → finmap.get old.spaces space ≡ Some names
+      → receive_refusal old names arguments ≡ Some RcvTimedOut → named (place_of_name space arguments.name) ≡ false
       → (after : Names) × (finmap.get new.spaces space ≡ Some after)
-      × (receive_refusal new after receipt ≡ Some RcvTimedOut)
-  still_none names receipt there refused off = by_entry (finmap.get names receipt.name) refl
+      × (receive_refusal new after arguments ≡ Some RcvTimedOut)
+  still_none names arguments there refused off = by_entry (finmap.get names arguments.name) refl
     where
       R : Type 0
       R =
           (after : Names) × (finmap.get new.spaces space ≡ Some after)
-          × (receive_refusal new after receipt ≡ Some RcvTimedOut)
+          × (receive_refusal new after arguments ≡ Some RcvTimedOut)
 
-      nothing : (o : Option Entry) → finmap.get names receipt.name ≡ o → sources old names receipt.name o ≡ None → R
+      nothing : (o : Option Entry) → finmap.get names arguments.name ≡ o → sources old names arguments.name o ≡ None → R
       nothing o at none =
-          no_source old names receipt R (sym
-          (ap (λ (e : Option Entry). refusal_of_sources old names receipt (sources old names receipt.name e)) at
-          ∙ ap (refusal_of_sources old names receipt) none) ∙ refused)
+          no_source old names arguments R (sym
+          (ap (λ (e : Option Entry). refusal_of_sources old names arguments (sources old names arguments.name e)) at
+          ∙ ap (refusal_of_sources old names arguments) none) ∙ refused)
 
-      by_entry : (o : Option Entry) → finmap.get names receipt.name ≡ o → R
+      by_entry : (o : Option Entry) → finmap.get names arguments.name ≡ o → R
       by_entry None at = nothing None at refl
       by_entry (Some (Port rights)) at = by_receive rights.receive refl
         where
           by_receive : (b : Bool) → rights.receive ≡ b → R
           by_receive true is =
-              port_case names receipt (Port rights) rights.port there at
+              port_case names arguments (Port rights) rights.port there at
               (ap (λ (b : Bool). if b then Some rights.port else None) is)
-              (λ _ _. ap (sources_of_port receipt.name) is) off refused
-          by_receive false is = nothing (Some (Port rights)) at (ap (sources_of_port receipt.name) is)
+              (λ _ _. ap (sources_of_port arguments.name) is) off refused
+          by_receive false is = nothing (Some (Port rights)) at (ap (sources_of_port arguments.name) is)
       by_entry (Some (SendOnce port target)) at = nothing (Some (SendOnce port target)) at refl
-      by_entry (Some Set) at = set_case names receipt there at off refused
+      by_entry (Some Set) at = set_case names arguments there at off refused
       by_entry (Some (Dead references)) at = nothing (Some (Dead references)) at refl

@@ -15,7 +15,7 @@ use Rattle.ipc_model.specs.declared.message.RightKind.TheVariants as kind
 use Rattle.ipc_model.specs.effects.Effects.{Effect}
 use Rattle.ipc_model.specs.messages.Items.{Item, after_item, is_long_form, items_of, items_within, names_of_item, tests_of_item}
 use Rattle.ipc_model.specs.messages.Messages.{UsedParts}
-use Rattle.ipc_model.specs.messages.Sending.{Ready, TakenHeader, TakenReply, TakenRights, header_disposition, is_full, items_if_complex, live_port, passed, ports_in, ready_by_parts, ready_message, ready_of_items, reply_disposition, reply_goes_first, take_destination, take_header, take_item, take_items, take_reply, take_right, take_rights, tests_of_queue, tests_of_size}
+use Rattle.ipc_model.specs.messages.Sending.{Ready, TakenDestination, destination_at, destination_of, TakenHeader, TakenReply, TakenRights, header_disposition, is_full, items_if_complex, live_port, passed, ports_in, ready_by_parts, ready_message, ready_of_items, reply_disposition, reply_goes_first, take_destination, take_destination_first, take_header, take_item, take_items, take_reply, take_reply_first, take_right, take_rights, tests_of_queue, tests_of_size}
 use Rattle.ipc_model.specs.rights.CopyIn.{Taken, copy_in}
 use Rattle.ipc_model.specs.rights.Dispositions.{Disposition, disposition_of, received_kind}
 use Rattle.ipc_model.specs.state.Placed.{same_kind}
@@ -73,12 +73,12 @@ module _ (space remote : ℕ) (wanted wanted_port : ℕ → Type 0) where
   Like one other = Alike space remote wanted wanted_port one other
 
   -- a destination's right, with its live port
-  record DestinationAlike (one other : Taken × ℕ) : Type 0 where
-    right : other.0.right ≡ one.0.right
-    notices : other.0.notices ≡ one.0.notices
-    states : Like one.0.state other.0.state
-    port : other.1 ≡ one.1
-    is_wanted : wanted_port one.1
+  record DestinationAlike (one other : TakenDestination) : Type 0 where
+    right : other.taken.right ≡ one.taken.right
+    notices : other.taken.notices ≡ one.taken.notices
+    states : Like one.taken.state other.taken.state
+    port : other.port ≡ one.port
+    is_wanted : wanted_port one.port
 
   record ReplyAlike (one other : TakenReply) : Type 0 where
     reply : other.reply ≡ one.reply
@@ -113,23 +113,20 @@ module _ (space remote : ℕ) (wanted wanted_port : ℕ → Type 0) where
       then_done (TakenOf space remote wanted wanted_port remote one) DestinationAlike
       (or_refused SendInvalidDest (copy_in one space remote disposition))
       (or_refused SendInvalidDest (copy_in other space remote disposition))
-      (λ taken. and_then (or_refused SendInvalidDest (live_port taken.right.port)) (λ (serial : ℕ). Ok (taken, serial)))
-      (λ taken. and_then (or_refused SendInvalidDest (live_port taken.right.port))
-      (λ (serial : ℕ). Ok (taken, serial)))
+      destination_of destination_of
       (or_done (TakenOf space remote wanted wanted_port remote one) SendInvalidDest _ _
       (copy_in_alike space remote wanted wanted_port one other remote disposition want alike)) live
     where
       live : (x y : Taken) → TakenOf space remote wanted wanted_port remote one x y
-          → BothDone DestinationAlike (and_then (or_refused SendInvalidDest (live_port x.right.port))
-          (λ (serial : ℕ). Ok (x, serial)))
-          (and_then (or_refused SendInvalidDest (live_port y.right.port)) (λ (serial : ℕ). Ok (y, serial)))
+          → BothDone DestinationAlike (destination_of x) (destination_of y)
       live x y is =
           go (live_port x.right.port) refl (live_port y.right.port)
           (same_live x.right.port y.right.port (ap (λ (r : CarriedRight). r.port) is.right))
         where
           go : (o : Option ℕ) → live_port x.right.port ≡ o → (p : Option ℕ) → Both {X = ℕ} (λ m n. n ≡ m) o p
-              → BothDone DestinationAlike (and_then (or_refused SendInvalidDest o) (λ (serial : ℕ). Ok (x, serial)))
-              (and_then (or_refused SendInvalidDest p) (λ (serial : ℕ). Ok (y, serial)))
+              → BothDone DestinationAlike
+              (and_then (or_refused SendInvalidDest o) (λ (serial : ℕ). Ok (destination_at x serial)))
+              (and_then (or_refused SendInvalidDest p) (λ (serial : ℕ). Ok (destination_at y serial)))
           go None at None are = refl
           go None at (Some n) are = absurd are
           go (Some m) at None are = absurd are
@@ -183,28 +180,10 @@ module _ (space remote : ℕ) (wanted wanted_port : ℕ → Type 0) where
   header_alike one other by local reply want want_local alike = go (reply_goes_first by reply)
     where
       reply_first : State → Result TakenHeader KernReturn
-      reply_first state =
-          and_then (take_reply state space local reply)
-          (λ (first : TakenReply). and_then (take_destination first.state space remote by) (λ (second : Taken × ℕ).
-          Ok (record {
-            kind = second.0.right.kind;
-            port = second.1;
-            reply = first.reply;
-            state = second.0.state;
-            notices = first.notices ++ second.0.notices;
-          })))
+      reply_first state = take_reply_first state space remote by local reply
 
       reply_last : State → Result TakenHeader KernReturn
-      reply_last state =
-          and_then (take_destination state space remote by)
-          (λ (first : Taken × ℕ). and_then (take_reply first.0.state space local reply) (λ (second : TakenReply).
-          Ok (record {
-            kind = first.0.right.kind;
-            port = first.1;
-            reply = second.reply;
-            state = second.state;
-            notices = first.0.notices ++ second.notices;
-          })))
+      reply_last state = take_destination_first state space remote by local reply
 
       both_notices : (a b c d : List Effect) → c ≡ a → d ≡ b → c ++ d ≡ a ++ b
       both_notices a b c d first second =
@@ -228,9 +207,9 @@ module _ (space remote : ℕ) (wanted wanted_port : ℕ → Type 0) where
       go false =
           then_done DestinationAlike HeaderAlike (take_destination one space remote by)
           (take_destination other space remote by) _ _ (destination one other by want alike) (λ x y first.
-          then_done ReplyAlike HeaderAlike (take_reply x.0.state space local reply)
-          (take_reply y.0.state space local reply) _ _
-          (reply_alike x.0.state y.0.state local reply want_local first.states) (λ u v second. record {
+          then_done ReplyAlike HeaderAlike (take_reply x.taken.state space local reply)
+          (take_reply y.taken.state space local reply) _ _
+          (reply_alike x.taken.state y.taken.state local reply want_local first.states) (λ u v second. record {
             kind = ap (λ (r : CarriedRight). r.kind) first.right;
             port = first.port;
             is_wanted = first.is_wanted;
@@ -509,8 +488,8 @@ header_untimed state space remote by local reply =
     (λ first _. then_untimed (take_destination first.state space remote by) _
     (destination_untimed first.state space remote by) (λ second _. fine _)))
     (then_untimed (take_destination state space remote by) _ (destination_untimed state space remote by)
-    (λ first _. then_untimed (take_reply first.0.state space local reply) _
-    (reply_untimed first.0.state space local reply) (λ second _. fine _)))
+    (λ first _. then_untimed (take_reply first.taken.state space local reply) _
+    (reply_untimed first.taken.state space local reply) (λ second _. fine _)))
 
 -- Where the destination's name stands for nothing, no header is taken.
 no_header : (state : State) (space remote : ℕ) (by : Disposition) (local : ℕ) (reply : Option Disposition)

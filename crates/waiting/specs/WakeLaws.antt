@@ -1,5 +1,5 @@
 -- No wake-up is lost where a step names what changed.
-use Rattle.std.proofs.Common.{◌≡◌, inl, inr, ℕ, Bool, true, false, List, [], ◌∷◌, map, nat_lt, Option, None, Some, MatchOption, option_and_then, Result, Ok, Err, refl, sym, ◌∙◌, ap, subst, arith}
+use Rattle.std.proofs.Common.{◌≡◌, ℕ, Bool, true, false, List, [], ◌∷◌, map, nat_lt, Option, None, Some, MatchOption, option_and_then, Result, Ok, Err, refl, sym, ◌∙◌, ap, subst, arith}
 use Rattle.std.specs.Prelude.{Contains, MatchBool, MatchResult, length, ◌<◌, slice_index_or, suc, zero}
 use Rattle.std.specs.FinMap as finmap
 use Rattle.std.proofs.lemmas.List.Elements.{Contains-append_left, Contains-append_right}
@@ -15,9 +15,10 @@ use Rattle.ipc_model.specs.declared.message.Message.{Message}
 use Rattle.ipc_model.specs.declared.port.PortState.{PortState}
 use Rattle.ipc_model.specs.effects.Effects.{Effect, settled}
 use Rattle.ipc_model.specs.messages.Messages.{UsedParts, used_parts}
-use Rattle.ipc_model.specs.messages.Receiving.{Receipt, Received, Receives, TakesOut, TooLarge, lacks_names, message_size, receive_refusal, without_message}
+use Rattle.ipc_model.specs.messages.Receiving.{ReceiveArguments, Received, Receives, TakesOut, TooLarge, lacks_names, message_size, receive_refusal, without_message}
 use Rattle.ipc_model.specs.messages.Sending.{Ready, items_if_complex, ready_by_parts, ready_to_send, sent}
 use Rattle.ipc_model.specs.state.State.{State, Names, entry_at}
+use Rattle.ipc_laws.specs.ReceiveLaws.{large_answer}
 use Rattle.waiting.specs.Places.{place_of_name, place_of_port}
 use Rattle.waiting.specs.Receiving.{stands, still_none}
 use Rattle.waiting.specs.Sending.{AllWanted, has_destination, of_parts}
@@ -37,29 +38,32 @@ some_code None code A B C is never = absurd (never is)
 some_code (Some c) code A B C is never = ap (λ (k : KernReturn). Some k) (sym (code_same code c is.0))
 
 -- a receive that takes a message, or has no room for its names, gets another answer
-takes_none : (old : State) (space : ℕ) (names : Names) (receipt : Receipt) (member serial : ℕ) (port : PortState)
-    (message : Message) (acted : State) (effects : List Effect)
-    → TakesOut old space names receipt member serial port message
+takes_none : (old : State) (space : ℕ) (names : Names) (arguments : ReceiveArguments) (member serial : ℕ)
+    (port : PortState) (message : Message) (acted : State) (effects : List Effect)
+    → TakesOut old space names arguments member serial port message
     (without_message RcvTimedOut 0 MACH_PORT_NULL) acted effects → ⊥
-takes_none old space names receipt member serial port message acted effects is =
-    go (nat_lt receipt.limit (message_size message)) (lacks_names names message) is
+takes_none old space names arguments member serial port message acted effects is =
+    go (nat_lt arguments.limit (message_size message)) (lacks_names names message) is
   where
     answer : Reply
     answer = without_message RcvTimedOut 0 MACH_PORT_NULL
 
-    go : (b c : Bool) → MatchBool b (TooLarge old member serial message receipt.large answer acted effects)
+    go : (b c : Bool) → MatchBool b (TooLarge old member serial message arguments.large answer acted effects)
         (MatchBool c ((answer ≡ without_message RcvHeaderErrorSpace 0 MACH_PORT_NULL) × (acted ≡ old) × (effects ≡ []))
         (Received old space names member serial port message answer acted effects)) → ⊥
-    go true c is = cc (ap code_in is.0)
+    go true c is =
+        cc (ap code_in (large_answer old member serial message arguments.large answer acted effects is))
     go false true is = cc (ap code_in is.0)
     go false false is = cc (ap code_in is.3)
 
-refused_receive : (old : State) (space : ℕ) (names : Names) (receipt : Receipt) (acted : State) (effects : List Effect)
-    → Receives old space names receipt (without_message RcvTimedOut 0 MACH_PORT_NULL) acted effects
-    → receive_refusal old names receipt ≡ Some RcvTimedOut
-refused_receive old space names receipt acted effects is =
-    some_code (receive_refusal old names receipt) RcvTimedOut _ (acted ≡ old) (effects ≡ []) is
-    (λ takes. takes_none old space names receipt takes.0 takes.1 takes.2 takes.3 acted effects takes.9)
+refused_receive : (old : State) (space : ℕ) (names : Names) (arguments : ReceiveArguments) (acted : State)
+    (effects : List Effect)
+    → Receives old space names arguments (without_message RcvTimedOut 0 MACH_PORT_NULL) acted effects
+    → receive_refusal old names arguments ≡ Some RcvTimedOut
+refused_receive old space names arguments acted effects is =
+    some_code (receive_refusal old names arguments) RcvTimedOut _ (acted ≡ old) (effects ≡ []) is
+    (λ taken. takes_none old space names arguments taken.member taken.serial taken.port taken.message acted effects
+    taken.takes)
 
 abbrev failed : KernReturn → Result Ready KernReturn
 failed code = Err code
@@ -91,11 +95,11 @@ matches_code o code A B C is b c =
     (λ c. (without_message code 0 MACH_PORT_NULL ≡ without_message c 0 MACH_PORT_NULL) × B × C)) (sym is)
     (refl, b, c)
 
-receive_refused : (new : State) (space : ℕ) (names : Names) (receipt : Receipt)
-    → receive_refusal new names receipt ≡ Some RcvTimedOut
-    → Receives new space names receipt (without_message RcvTimedOut 0 MACH_PORT_NULL) new no_effects
-receive_refused new space names receipt is =
-    matches_code (receive_refusal new names receipt) RcvTimedOut _ (new ≡ new) (no_effects ≡ no_effects) is refl refl
+receive_refused : (new : State) (space : ℕ) (names : Names) (arguments : ReceiveArguments)
+    → receive_refusal new names arguments ≡ Some RcvTimedOut
+    → Receives new space names arguments (without_message RcvTimedOut 0 MACH_PORT_NULL) new no_effects
+receive_refused new space names arguments is =
+    matches_code (receive_refusal new names arguments) RcvTimedOut _ (new ≡ new) (no_effects ≡ no_effects) is refl refl
 
 send_refused : (new : State) (space : ℕ) (message : List ℕ) (names : Names)
     → ready_to_send new space message ≡ Err SendTimedOut
@@ -157,16 +161,16 @@ module _ (old new : State) (named : ℕ → Bool) (covers : Covers old new named
       → ((place : ℕ) → WaitsAt old space (call.Receive limit large name waited) place → named place ≡ false)
       → FindsNothing new space (call.Receive limit large name waited)
   receives space limit large name waited found off =
-      let receipt : Receipt = record { limit = limit; large = large; name = name; waited = waited } in
+      let arguments : ReceiveArguments = record { limit = limit; large = large; name = name; waited = waited } in
       let acts = acted_from old space (call.Receive limit large name waited) _ found in
       let at =
       there old space (call.Receive limit large name waited) RcvTimedOut acts.0 acts.1 refl (λ e. cc e) acts.2 in
       let still =
-      still_none old new named covers space at.0 receipt at.1
-      (refused_receive old space at.0 receipt acts.0 acts.1 at.2)
+      still_none old new named covers space at.0 arguments at.1
+      (refused_receive old space at.0 arguments acts.0 acts.1 at.2)
       (off (place_of_name space name) (zero, omega arith, refl)) in
       in_there new space (call.Receive limit large name waited) still.0 _ still.1
-      (receive_refused new space still.0 receipt still.2)
+      (receive_refused new space still.0 arguments still.2)
 
   all_wanted : (space remote : ℕ) (wanted wanted_port : ℕ → Type 0) (names : List ℕ)
       → ((name : ℕ) → Contains names name → wanted name) → AllWanted space remote wanted wanted_port names

@@ -20,7 +20,7 @@ use Rattle.ipc_model.specs.declared.port.PortState.{PortState}
 use Rattle.ipc_model.specs.rights.CopyIn.{Taken, copy_in, with_left, notices_of_left}
 use Rattle.ipc_model.specs.rights.CopyOut.{MayArrive, names_after}
 use Rattle.ipc_model.specs.rights.Dispositions.{disposition_of}
-use Rattle.ipc_model.specs.effects.Effects.{Effect, release, notify, port_deleted}
+use Rattle.ipc_model.specs.effects.Effects.{Effect, Outcome, release, notify, port_deleted, state_after, added}
 use Rattle.ipc_model.specs.messages.Notices as notice
 use Rattle.ipc_model.specs.state.Placed.{send_count, send_once_count}
 use Rattle.ipc_model.specs.calls.PortCalls.{is_right, references_of, sum_of, minus_one, notify_disposition, target_under, names_in}
@@ -187,45 +187,69 @@ abbrev pub make_send_count_of : State → ℕ → ℕ
 make_send_count_of state serial =
     elim (finmap.get state.ports serial) as (λ _. ℕ) [ None ↦ 0 | Some port ↦ port.make_send_count ]
 
--- A request on a port: it is kept, or answered at once and not kept.
-abbrev pub port_request_set : State → ℕ → ℕ → ℕ → Option ℕ → State × List Effect
-port_request_set state variant sync serial None = (
-  with_port state serial (λ port. if variant == MACH_NOTIFY_PORT_DESTROYED
-      then record port { port_destroyed_target = None } else record port { no_senders_target = None }),
-  [],
-)
-port_request_set state variant sync serial (Some target) =
-    if variant == MACH_NOTIFY_PORT_DESTROYED
-    then (with_port state serial (λ port. record port { port_destroyed_target = Some target }), [])
-    else if lacks_senders state sync serial
-    then (
-      with_port state serial (λ port. record port { no_senders_target = None }),
-      notify target (notice.NoSenders (make_send_count_of state serial)) ∷ [],
-    )
-    else (with_port state serial (λ port. record port { no_senders_target = Some target }), [])
+-- What a request does is the state after it, and its notice if that goes out at once. Most send none.
+abbrev pub without_notice : State → Outcome
+without_notice state = (state, [])
 
--- A dead-name request is kept with the name. If the name is dead already, the notice goes out at once, and the name
--- gets one more reference.
-abbrev pub dead_name_request_set : State → ℕ → ℕ → Option ℕ → Entry → State × List Effect
-dead_name_request_set state space name target (Port rights) =
-    (with_entry state space name (Port (record rights { dead_name_target = target })), [])
-dead_name_request_set state space name target (SendOnce port former) =
-    (with_entry state space name (SendOnce port target), [])
-dead_name_request_set state space name target Set = (state, [])
-dead_name_request_set state space name None (Dead references) = (state, [])
-dead_name_request_set state space name (Some target) (Dead references) =
+-- the request of this variant is cancelled: the port keeps no target for it
+abbrev pub port_request_cancelled : State → ℕ → ℕ → Outcome
+port_request_cancelled state variant serial =
+    without_notice (with_port state serial (λ port. if variant == MACH_NOTIFY_PORT_DESTROYED
+    then record port { port_destroyed_target = None } else record port { no_senders_target = None }))
+
+-- the port keeps this target, for the notice that it would be destroyed
+abbrev pub port_destroyed_kept : State → ℕ → ℕ → Outcome
+port_destroyed_kept state serial target =
+    without_notice (with_port state serial (λ port. record port { port_destroyed_target = Some target }))
+
+-- the port keeps this target, for the notice that it has no senders
+abbrev pub no_senders_kept : State → ℕ → ℕ → Outcome
+no_senders_kept state serial target =
+    without_notice (with_port state serial (λ port. record port { no_senders_target = Some target }))
+
+-- the port has no senders already: it keeps no target, and the notice goes out at once
+abbrev pub no_senders_answered : State → ℕ → ℕ → Outcome
+no_senders_answered state serial target = (
+  with_port state serial (λ port. record port { no_senders_target = None }),
+  notify target (notice.NoSenders (make_send_count_of state serial)) ∷ [],
+)
+
+-- A request on a port is cancelled, or kept, or answered at once.
+abbrev pub port_request_set : State → ℕ → ℕ → ℕ → Option ℕ → Outcome
+port_request_set state variant sync serial None = port_request_cancelled state variant serial
+port_request_set state variant sync serial (Some target) =
+    if variant == MACH_NOTIFY_PORT_DESTROYED then port_destroyed_kept state serial target
+    else if lacks_senders state sync serial then no_senders_answered state serial target
+    else no_senders_kept state serial target
+
+-- the name is dead already: it gets one more reference, and the notice goes out at once
+abbrev pub dead_name_answered : State → ℕ → ℕ → ℕ → ℕ → Outcome
+dead_name_answered state space name target references =
     (with_entry state space name (Dead (references + 1)), notify target (notice.DeadName name) ∷ [])
 
-abbrev pub request_set : State → ℕ → ℕ → ℕ → ℕ → Option ℕ → Entry → State × List Effect
+-- A dead-name request is kept with the name, or its target goes where it is cancelled; or it is answered at once. The
+-- tests refuse that of a set.
+abbrev pub dead_name_request_set : State → ℕ → ℕ → Option ℕ → Entry → Outcome
+dead_name_request_set state space name target (Port rights) =
+    without_notice (with_entry state space name (Port (record rights { dead_name_target = target })))
+dead_name_request_set state space name target (SendOnce port former) =
+    without_notice (with_entry state space name (SendOnce port target))
+dead_name_request_set state space name target Set = without_notice state
+dead_name_request_set state space name None (Dead references) = without_notice state
+dead_name_request_set state space name (Some target) (Dead references) =
+    dead_name_answered state space name target references
+
+-- a request on what a name stands for; the tests ensure that it is in use, and a port's request has a receive right
+abbrev pub request_set : State → ℕ → ℕ → ℕ → ℕ → Option ℕ → Entry → Outcome
 request_set state space name variant sync target entry =
     if variant == MACH_NOTIFY_DEAD_NAME then dead_name_request_set state space name target entry
-    else elim (received_port entry) as (λ _. State × List Effect)
-    [ None ↦ (state, []) | Some serial ↦ port_request_set state variant sync serial target ]
+    else elim (received_port entry) as (λ _. Outcome)
+    [ None ↦ without_notice state | Some serial ↦ port_request_set state variant sync serial target ]
 
-abbrev pub request_set_under : State → ℕ → ℕ → ℕ → ℕ → Option ℕ → State × List Effect
+abbrev pub request_set_under : State → ℕ → ℕ → ℕ → ℕ → Option ℕ → Outcome
 request_set_under state space name variant sync target =
-    elim (entry_at state space name) as (λ _. State × List Effect)
-    [ None ↦ (state, []) | Some entry ↦ request_set state space name variant sync target entry ]
+    elim (entry_at state space name) as (λ _. Outcome)
+    [ None ↦ without_notice state | Some entry ↦ request_set state space name variant sync target entry ]
 
 -- The former target comes back as a send-once right under a new name. The answer shows the name, or 0 where there was
 -- none.
@@ -250,12 +274,18 @@ target_for state space notify_name disposition =
     if notify_name == MACH_PORT_NULL then taken_target state None
     else taken_target state (option_and_then (copy_in state space notify_name) (notify_disposition disposition))
 
+-- the target that the request of this variant has before
+abbrev pub former_target : State → ℕ → ℕ → ℕ → Option ℕ
+former_target state space variant name = target_under state (names_in state space) variant name
+
+-- A request is made with the target that was taken: it is cancelled, kept, or answered at once, and the former target
+-- comes back. The notices of copy in come first.
 abbrev pub Requested : State → ℕ → ℕ → ℕ → ℕ → TakenTarget → Reply → State → List Effect → Type 0
 Requested old space name variant sync taken answer new effects =
-    let former : Option ℕ = target_under taken.state (names_in taken.state space) variant name in
-    let after : State × List Effect = request_set_under taken.state space name variant sync taken.target in
-    (given : ℕ) × (answer ≡ reply.PreviousTarget given) × GivesBack after.0 space former given new
-    × (effects ≡ taken.notices ++ after.1)
+    let request : Outcome = request_set_under taken.state space name variant sync taken.target in
+    (given : ℕ) × (answer ≡ reply.PreviousTarget given)
+    × GivesBack (state_after request) space (former_target taken.state space variant name) given new
+    × (effects ≡ taken.notices ++ added request)
 
 -- A right that was copied in comes out in a space under a name.
 abbrev pub ComesOut : Option Taken → ℕ → ℕ → State → List Effect → Type 0

@@ -23,7 +23,7 @@ use Rattle.ipc_model.specs.rights.CopyOut.{names_needed}
 use Rattle.ipc_model.specs.rights.Dispositions.{Disposition, MoveSendOnce, MakeSendOnce, disposition_of, number_of_disposition}
 use Rattle.ipc_model.specs.messages.Sending.{live_port}
 use Rattle.ipc_model.specs.state.State.{State, Names, is_null_or_dead, ports_are_used_up, port_held, received_port, request_of, is_number}
-use Rattle.ipc_model.specs.calls.Tests.{Tests}
+use Rattle.ipc_model.specs.calls.Tests.{Tests, always_failing}
 
 -- whether a number is this right's
 abbrev pub is_right : ℕ → Right → Bool
@@ -136,16 +136,18 @@ tests_of_delta n references delta =
     (nat_lt (bound_of n) (sum_of references delta), UrefsOverflow) ∷ []
     else (not (is_none_or_minus_one delta), InvalidValue) ∷ []
 
--- the tests of a right that is copied in, and, where it was taken, of the state after that
+-- The tests of a right that is copied in: copy in takes it, and its port lives. Then come the tests `of_taken` of the
+-- state after that, by what was taken and the port's serial.
 abbrev pub tests_of_taken : KernReturn → Option Taken → (Taken → ℕ → Tests) → Tests
-tests_of_taken code None later = (true, code) ∷ []
-tests_of_taken code (Some taken) later =
-    elim (live_port taken.right.port) as (λ _. Tests) [ None ↦ (true, code) ∷ [] | Some serial ↦ later taken serial ]
+tests_of_taken code None of_taken = always_failing code
+tests_of_taken code (Some taken) of_taken =
+    elim (live_port taken.right.port) as (λ _. Tests)
+    [ None ↦ always_failing code | Some serial ↦ of_taken taken serial ]
 
 abbrev pub tests_of_copy_in : State → ℕ → ℕ → Option Disposition → KernReturn → (Taken → ℕ → Tests) → Tests
-tests_of_copy_in state space name None code later = (true, InvalidValue) ∷ []
-tests_of_copy_in state space name (Some disposition) code later =
-    tests_of_taken code (copy_in state space name disposition) later
+tests_of_copy_in state space name None code of_taken = always_failing InvalidValue
+tests_of_copy_in state space name (Some disposition) code of_taken =
+    tests_of_taken code (copy_in state space name disposition) of_taken
 
 abbrev pub names_in : State → ℕ → Names
 names_in state space = elim (finmap.get state.spaces space) as (λ _. Names) [ None ↦ finmap.empty | Some names ↦ names ]
@@ -237,11 +239,19 @@ notify_disposition n =
     if n == number_of_disposition MoveSendOnce then Some MoveSendOnce else if n == number_of_disposition MakeSendOnce
     then Some MakeSendOnce else None
 
+-- the tests of a request whose target was copied in
+abbrev pub tests_of_targeted : ℕ → ℕ → ℕ → ℕ → Taken → ℕ → Tests
+tests_of_targeted space name variant sync taken serial = tests_of_request taken.state space name variant sync false
+
 abbrev pub tests_of_notify : State → ℕ → ℕ → ℕ → ℕ → ℕ → ℕ → Tests
 tests_of_notify state space name variant sync notify_name disposition =
     if notify_name == MACH_PORT_NULL then tests_of_request state space name variant sync true
     else tests_of_copy_in state space notify_name (notify_disposition disposition) InvalidCapability
-    (λ taken serial. tests_of_request taken.state space name variant sync false)
+    (tests_of_targeted space name variant sync)
+
+-- the tests of a new space, once its right was copied in
+abbrev pub tests_of_new_space : State → Taken → ℕ → Tests
+tests_of_new_space state taken serial = (nat_le MAX_SPACES (finmap.len state.spaces), ResourceShortage) ∷ []
 
 -- The tests of a call, in the order in which they are made.
 unfoldable pub tests_of : State → ℕ → Names → Call → Tests
@@ -300,5 +310,5 @@ tests_of state space names (call.Receive limit large name waited) = []
 tests_of state space names (call.SpaceCreate name disposition) =
     (is_none (disposition_of disposition), InvalidValue) ∷ (is_no_name names name, InvalidName)
     ∷ tests_of_copy_in state space name (disposition_of disposition) InvalidRight
-    (λ taken serial. (nat_le MAX_SPACES (finmap.len state.spaces), ResourceShortage) ∷ [])
+    (tests_of_new_space state)
 tests_of state space names call.SpaceDestroy = (space == FIRST_SPACE, Failure) ∷ []

@@ -12,12 +12,13 @@ use Rattle.ipc_model.specs.declared.call.Reply.{Reply}
 use Rattle.ipc_model.specs.declared.call.Reply.TheVariants as reply
 use Rattle.ipc_model.specs.declared.record.Record.{Record}
 use Rattle.ipc_model.specs.calls.Actions.{Done}
-use Rattle.ipc_model.specs.effects.Effects.{Effect, Settles}
+use Rattle.ipc_model.specs.effects.Effects.{Effect, Settles, state_after, added}
 use Rattle.ipc_model.specs.calls.PortCalls.{tests_of}
 use Rattle.ipc_model.specs.messages.Receiving.{Receives, without_message}
 use Rattle.ipc_model.specs.messages.Sending.{Ready, ready_to_send, sent}
 use Rattle.ipc_model.specs.state.State.{State, Names}
 use Rattle.ipc_model.specs.calls.Tests.{RefusedOrDone, first_failing}
+pub use Rattle.ipc_model.specs.calls.Tests.{IsRefusedWith}
 
 -- the number of a call in its frame
 abbrev pub number_of_call : Call → ℕ
@@ -51,17 +52,21 @@ refused (call.Send message) code = without_message code 0 MACH_PORT_NULL
 refused (call.Receive limit large name waited) code = without_message code 0 MACH_PORT_NULL
 refused c code = reply.Refused (number_of_call c) code
 
--- the call is refused with this reply: it changes nothing, and sets nothing off
-abbrev pub IsRefusedWith : Reply → State → Reply → State → List Effect → Type 0
-IsRefusedWith refusal old answer new effects = (answer ≡ refusal) × (new ≡ old) × (effects ≡ [])
+-- the message of a send is queued or destroyed, as `sent` says
+abbrev pub IsSent : Ready → Reply → State → List Effect → Type 0
+IsSent ready answer new effects =
+    (answer ≡ without_message Success 0 MACH_PORT_NULL) × (new ≡ state_after (sent ready))
+    × (effects ≡ added (sent ready))
+
+-- A send is refused with the code of the first test that fails, or its message is sent.
+abbrev pub Sends : State → ℕ → List ℕ → Reply → State → List Effect → Type 0
+Sends old space message answer new effects =
+    MatchResult (ready_to_send old space message) (λ (ready : Ready). IsSent ready answer new effects)
+    (λ code. IsRefusedWith (without_message code 0 MACH_PORT_NULL) old answer new effects)
 
 -- A call's own action, without the effects that it sets off: it is refused, or done.
 abbrev pub ActsIn : State → ℕ → Names → Call → Reply → State → List Effect → Type 0
-ActsIn old space names (call.Send message) answer new effects =
-    MatchResult (ready_to_send old space message)
-    (λ (ready : Ready). (answer ≡ without_message Success 0 MACH_PORT_NULL) × (new ≡ (sent ready).0)
-    × (effects ≡ (sent ready).1))
-    (λ code. IsRefusedWith (without_message code 0 MACH_PORT_NULL) old answer new effects)
+ActsIn old space names (call.Send message) answer new effects = Sends old space message answer new effects
 ActsIn old space names (call.Receive limit large name waited) answer new effects =
     Receives old space names (record { limit = limit; large = large; name = name; waited = waited }) answer new effects
 ActsIn old space names c answer new effects =

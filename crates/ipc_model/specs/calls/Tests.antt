@@ -1,15 +1,26 @@
 -- Tests of a call, in the order in which they are made.
-use Rattle.std.specs.Prelude.{Bool, List, [], ◌∷◌, Option, None, Some, Result, Ok, Err, MatchOption, if◌then◌else◌}
+use Rattle.std.specs.Prelude.{◌≡◌, Bool, true, List, [], ◌∷◌, Option, None, Some, Result, Ok, Err, MatchOption, if◌then◌else◌}
 use Rattle.codes.specs.declared.kern_return.KernReturn.{KernReturn}
+use Rattle.ipc_model.specs.declared.call.Reply.{Reply}
+use Rattle.ipc_model.specs.effects.Effects.{Effect}
+use Rattle.ipc_model.specs.state.State.{State}
 
 -- A test is true where it fails, and then the call is refused with the code paired with it.
 abbrev pub Tests : Type 0
 Tests = List (Bool × KernReturn)
 
+-- a test that fails in any case
+abbrev pub always_failing : KernReturn → Tests
+always_failing code = (true, code) ∷ []
+
 -- the code of the first test that fails
 abbrev pub first_failing : Tests → Option KernReturn
 first_failing [] = None
-first_failing (test ∷ tests) = if test.0 then Some test.1 else first_failing tests
+first_failing ((fails, code) ∷ tests) = if fails then Some code else first_failing tests
+
+-- the call is refused with this reply: it changes nothing, and sets nothing off
+abbrev pub IsRefusedWith : Reply → State → Reply → State → List Effect → Type 0
+IsRefusedWith refusal old answer new effects = (answer ≡ refusal) × (new ≡ old) × (effects ≡ [])
 
 -- If a test fails, the call is refused with its code; otherwise it is done.
 abbrev pub RefusedOrDone : Option KernReturn → (KernReturn → Type 0) → Type 0 → Type 0
@@ -28,4 +39,4 @@ and_then (Err code) next = Err code
 -- the next value, unless a test fails
 abbrev pub unless_failing : {X : Type 0} → Tests → Result X KernReturn → Result X KernReturn
 unless_failing [] next = next
-unless_failing (test ∷ tests) next = if test.0 then Err test.1 else unless_failing tests next
+unless_failing ((fails, code) ∷ tests) next = if fails then Err code else unless_failing tests next

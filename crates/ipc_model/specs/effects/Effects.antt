@@ -145,6 +145,13 @@ effects_of_death state serial port =
 abbrev pub Outcome : Type 0
 Outcome = State × List Effect
 
+-- the two parts of an outcome
+abbrev pub state_after : Outcome → State
+state_after outcome = outcome.0
+
+abbrev pub added : Outcome → List Effect
+added outcome = outcome.1
+
 abbrev pub died : State → ℕ → PortState → Outcome
 died state serial port = (after_death state serial, effects_of_death state serial port)
 
@@ -193,4 +200,5 @@ effect state (notify target what) = (notified state target what, [])
 pub data Settles : State → List Effect → State → Type 0 where
   settled : {state : State} → Settles state [] state
   next_effect : {state end : State} {first : Effect} {rest : List Effect}
-      → Settles (effect state first).0 (rest ++ (effect state first).1) end → Settles state (first ∷ rest) end
+      → Settles (state_after (effect state first)) (rest ++ added (effect state first)) end
+      → Settles state (first ∷ rest) end

@@ -237,7 +237,27 @@ HasItsResults c (reply.Message code size member message) = Brings c code size me
 HasItsResults c answer = Unit {0}
 
 -- A reply in a record of this call is in range, of the call's number and with its results, and such that the call has a
--- record.
+-- record. Together that is this table, which the law `replies_by_call` of `ipc_laws` has as a definition. Numbers are
+-- below 2 ^ 32, and a message is bytes.
+--
+--   call                                        reply in its record
+--   Attach, Names, Type, GetRefs,               none: these calls have no records
+--     GetReceiveStatus, GetSetStatus
+--   Rename, AllocateName, Destroy, Deallocate,  Done with the call's number
+--     ModRefs, SetQlimit, SetMscount,
+--     SetSeqno, MoveMember, InsertRight,
+--     SpaceDestroy
+--   Allocate                                    Allocate
+--   RequestNotification                         PreviousTarget
+--   ExtractRight                                Extracted
+--   SpaceCreate                                 SpaceCreated
+--   Send                                        Message with code 0, size 0, member 0 and no message
+--   Receive                                     Message with code 0, a message within the limit, its size, and the
+--                                               name of a port
+--   Receive without MACH_RCV_LARGE              also Message with MACH_RCV_TOO_LARGE, a size above the limit, the name
+--                                               of a port and no message
+--
+-- A call that is refused has no record.
 pub record IsRecordedReply (c : Call) (answer : Reply) : Type 0 where
   pub fits : FitsReply answer
   pub of_one_call : number_of_reply answer ≡ number_of_call c

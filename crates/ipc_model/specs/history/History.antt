@@ -126,7 +126,8 @@ Sessions = List (List Operation × Session)
 
 abbrev pub AllLegal : State → List Record → Sessions → Type 0
 AllLegal base history [] = Unit {0}
-AllLegal base history (first ∷ sessions) = Legal base history first.0 first.1 × AllLegal base history sessions
+AllLegal base history ((operations, session) ∷ sessions) =
+    Legal base history operations session × AllLegal base history sessions
 
 abbrev pub places_of : List Session → List ℕ
 places_of sessions = flat_map (λ session. session.places) sessions

@@ -32,6 +32,14 @@ is_long_form w = bit 29 w
 abbrev pub has_other_bit : ℕ → Bool
 has_other_bit w = bit 30 w || bit 31 w
 
+-- the fields of type name, bits and number of this word, which are its low 28 bits, are 0
+abbrev pub short_fields_are_zero : ℕ → Bool
+short_fields_are_zero w = w % 2 ^ 28 == 0
+
+-- a long descriptor's word has such a field, which belongs after it
+abbrev pub has_short_fields : ℕ → Bool → Bool
+has_short_fields w long = long && not (short_fields_are_zero w)
+
 -- the fields of type name, bits and number: in the word, or after it in a long descriptor, whose word has none
 abbrev pub type_name_in : List ℕ → Bool → ℕ
 type_name_in bytes false = little_number 4 bytes % 2 ^ 8
@@ -58,6 +66,10 @@ abbrev pub is_port_type : ℕ → Bool
 is_port_type type_name =
     nat_le (number_of_disposition MoveReceive) type_name && nat_le type_name (number_of_disposition MakeSendOnce)
 
+-- a port of another size than a name's
+abbrev pub has_odd_ports : ℕ → ℕ → Bool
+has_odd_ports type_name bits = is_port_type type_name && not (bits == 32)
+
 abbrev pub data_length : List ℕ → Bool → ℕ
 data_length bytes long = padded (number_in bytes long * bits_in bytes long)
 
@@ -70,8 +82,7 @@ tests_of_item bytes =
     ∷ (long && nat_lt (length bytes) 12, SendMsgTooSmall)
     ∷ (not (is_inline w), SendInvalidMemory)
     ∷ (
-      has_other_bit w || (long && not (w % 2 ^ 28 == 0)) ||
-          (is_port_type (type_name_in bytes long) && not (bits_in bytes long == 32)),
+      has_other_bit w || has_short_fields w long || has_odd_ports (type_name_in bytes long) (bits_in bytes long),
       SendInvalidType,
     )
     ∷ (nat_lt (length bytes) (descriptor_length long + data_length bytes long), SendMsgTooSmall)

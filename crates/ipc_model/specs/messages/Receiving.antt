@@ -19,10 +19,12 @@ use Rattle.ipc_model.specs.rights.Dispositions.{number_of_kind}
 use Rattle.ipc_model.specs.effects.Effects.{Effect, release, releases_of}
 use Rattle.ipc_model.specs.messages.Items.{items_of, body_filled}
 use Rattle.ipc_model.specs.messages.Messages.{header_length, complex_bit, message_encoding}
+use Rattle.ipc_model.specs.calls.Tests.{IsRefusedWith}
 use Rattle.ipc_model.specs.state.State.{State, Names, next_count, members_of, received_port, with_port, with_names}
 
--- the arguments of a receive
-pub record Receipt : Type 0 where
+-- The arguments of a receive: the greatest size that is accepted, whether a larger message stays (MACH_RCV_LARGE), the
+-- name of a receive right or of a set, and whether this attempt comes after a wait.
+pub record ReceiveArguments : Type 0 where
   pub limit : ℕ
   pub large : Bool
   pub name : ℕ
@@ -41,6 +43,10 @@ sources state names name (Some (Port rights)) = sources_of_port name rights.rece
 sources state names name (Some (SendOnce port target)) = None
 sources state names name (Some Set) = Some (members_of state names name)
 sources state names name (Some (Dead references)) = None
+
+-- those of a name of a space
+abbrev pub sources_under : State → Names → ℕ → Option (List ℕ)
+sources_under state names name = sources state names name (finmap.get names name)
 
 -- the port whose receive right a name holds
 abbrev pub port_under : State → Names → ℕ → Option PortState
@@ -68,18 +74,25 @@ all_empty state names [] = true
 all_empty state names (name ∷ others) =
     if is_some (oldest_under state names name) then false else all_empty state names others
 
--- The code with which an attempt is refused before it looks at a message. After a wait the name or the set may have
+-- The codes for a name that has no sources, and for a port that is in a set. After a wait the name or the set has
 -- changed.
-abbrev pub refusal_of_sources : State → Names → Receipt → Option (List ℕ) → Option KernReturn
-refusal_of_sources state names receipt None = Some (if receipt.waited then RcvPortDied else RcvInvalidName)
-refusal_of_sources state names receipt (Some among) =
-    if is_in_set state names receipt.name then Some (if receipt.waited then RcvPortChanged else RcvInSet)
+abbrev pub no_sources_code : Bool → KernReturn
+no_sources_code waited = if waited then RcvPortDied else RcvInvalidName
+
+abbrev pub in_set_code : Bool → KernReturn
+in_set_code waited = if waited then RcvPortChanged else RcvInSet
+
+-- the code with which an attempt is refused because of its sources, before it looks at a message
+abbrev pub refusal_of_sources : State → Names → ReceiveArguments → Option (List ℕ) → Option KernReturn
+refusal_of_sources state names arguments None = Some (no_sources_code arguments.waited)
+refusal_of_sources state names arguments (Some among) =
+    if is_in_set state names arguments.name then Some (in_set_code arguments.waited)
     else if all_empty state names among then Some RcvTimedOut
     else None
 
-abbrev pub receive_refusal : State → Names → Receipt → Option KernReturn
-receive_refusal state names receipt =
-    refusal_of_sources state names receipt (sources state names receipt.name (finmap.get names receipt.name))
+abbrev pub receive_refusal : State → Names → ReceiveArguments → Option KernReturn
+receive_refusal state names arguments =
+    refusal_of_sources state names arguments (sources_under state names arguments.name)
 
 -- the state without a port's oldest message, and its next sequence number
 abbrev pub without_oldest : State → ℕ → State
@@ -140,15 +153,45 @@ received_encoding message member sequence_number given =
 abbrev pub without_message : KernReturn → ℕ → ℕ → Reply
 without_message code size member = reply.Message code size member []
 
--- A message that is larger than the limit. It stays, where the receive asked for that; otherwise it is taken out and
--- destroyed, which releases its destination, its reply right and the rights of its body, in this order.
+-- The cases of a receive. It is refused, or looks at the oldest message of a source: that is too large, and is kept or
+-- destroyed; or it needs more new names than are left; or it is received.
+
+-- the receive is refused with this code, and nothing changes
+abbrev pub ReceiveRefused : KernReturn → State → Reply → State → List Effect → Type 0
+ReceiveRefused code old answer new effects =
+    IsRefusedWith (without_message code 0 MACH_PORT_NULL) old answer new effects
+
+-- the message is larger than the limit
+abbrev pub is_too_large : ReceiveArguments → Message → Bool
+is_too_large arguments message = nat_lt arguments.limit (message_size message)
+
+-- It is too large, and is kept: it stays where it is, and the reply reports it.
+abbrev pub TooLargeKept : State → ℕ → Message → Reply → State → List Effect → Type 0
+TooLargeKept old member message answer new effects =
+    IsRefusedWith (without_message RcvTooLarge (message_size message) member) old answer new effects
+
+-- It is too large, and is destroyed: it is taken out, which releases its destination, its reply right and the rights of
+-- its body, in this order, and the reply reports it.
+abbrev pub TooLargeDestroyed : State → ℕ → ℕ → Message → Reply → State → List Effect → Type 0
+TooLargeDestroyed old member serial message answer new effects =
+    (answer ≡ without_message RcvTooLarge (message_size message) member) × (new ≡ without_oldest old serial)
+    × (effects ≡ destination_consumed message.destination serial ++ releases_of message)
+
+-- a message that is too large is kept where the receive asked for that
 abbrev pub TooLarge : State → ℕ → ℕ → Message → Bool → Reply → State → List Effect → Type 0
 TooLarge old member serial message large answer new effects =
-    (answer ≡ without_message RcvTooLarge (message_size message) member)
-    × (new ≡ (if large then old else without_oldest old serial))
-    × (effects ≡ (if large then [] else destination_consumed message.destination serial ++ releases_of message))
+    MatchBool large (TooLargeKept old member message answer new effects)
+    (TooLargeDestroyed old member serial message answer new effects)
 
--- A message is received: its rights get names in the receiver's space, and its destination right is consumed.
+-- the message needs more new names than the space has left
+abbrev pub lacks_names : Names → Message → Bool
+lacks_names names message = nat_lt MAX_NAMES (finmap.len names + names_needed names [] (arriving message))
+
+-- It lacks names: the receive is refused, and the reply doesn't report the message.
+abbrev pub LackingNames : State → Reply → State → List Effect → Type 0
+LackingNames old answer new effects = ReceiveRefused RcvHeaderErrorSpace old answer new effects
+
+-- It is received: its rights get names in the receiver's space, and its destination right is consumed.
 abbrev pub Received : State → ℕ → Names → ℕ → ℕ → PortState → Message → Reply → State → List Effect → Type 0
 Received old space names member serial port message answer new effects =
     (given : List ℕ) × (after : Names) × Arrives names (arriving message) given after
@@ -157,17 +200,19 @@ Received old space names member serial port message answer new effects =
     × (new ≡ with_names (without_oldest old serial) space after)
     × (effects ≡ destination_consumed message.destination serial)
 
--- the message needs more new names than the space has left
-abbrev pub lacks_names : Names → Message → Bool
-lacks_names names message = nat_lt MAX_NAMES (finmap.len names + names_needed names [] (arriving message))
+-- a message that isn't too large
+abbrev pub SmallEnough : State → ℕ → Names → ℕ → ℕ → PortState → Message → Reply → State → List Effect → Type 0
+SmallEnough old space names member serial port message answer new effects =
+    MatchBool (lacks_names names message) (LackingNames old answer new effects)
+    (Received old space names member serial port message answer new effects)
 
-abbrev pub TakesOut : State → ℕ → Names → Receipt → ℕ → ℕ → PortState → Message → Reply → State → List Effect → Type 0
-TakesOut old space names receipt member serial port message answer new effects =
-    MatchBool (nat_lt receipt.limit (message_size message))
-    (TooLarge old member serial message receipt.large answer new effects)
-    (MatchBool (lacks_names names message)
-    ((answer ≡ without_message RcvHeaderErrorSpace 0 MACH_PORT_NULL) × (new ≡ old) × (effects ≡ []))
-    (Received old space names member serial port message answer new effects))
+-- what becomes of the oldest message of a port, whose receive right stands under the name `member`
+abbrev pub TakesOut : State → ℕ → Names → ReceiveArguments → ℕ → ℕ → PortState → Message → Reply → State → List Effect
+    → Type 0
+TakesOut old space names arguments member serial port message answer new effects =
+    MatchBool (is_too_large arguments message)
+    (TooLarge old member serial message arguments.large answer new effects)
+    (SmallEnough old space names member serial port message answer new effects)
 
 abbrev pub source_names : Option (List ℕ) → List ℕ
 source_names None = []
@@ -178,13 +223,24 @@ abbrev pub HoldsReceiveRight : Names → ℕ → ℕ → Type 0
 HoldsReceiveRight names name serial =
     (entry : Entry) × (finmap.get names name ≡ Some entry) × (received_port entry ≡ Some serial)
 
--- A receive takes the oldest message of one of its sources; the reply names the source.
-abbrev pub Receives : State → ℕ → Names → Receipt → Reply → State → List Effect → Type 0
-Receives old space names receipt answer new effects =
-    MatchOption (receive_refusal old names receipt)
-    ((member : ℕ) × (serial : ℕ) × (port : PortState) × (message : Message) × (later : List Message)
-    × Contains (source_names (sources old names receipt.name (finmap.get names receipt.name))) member
-    × HoldsReceiveRight names member serial × (finmap.get old.ports serial ≡ Some port)
-    × (port.messages ≡ message ∷ later)
-    × TakesOut old space names receipt member serial port message answer new effects)
-    (λ code. (answer ≡ without_message code 0 MACH_PORT_NULL) × (new ≡ old) × (effects ≡ []))
+-- A receive takes the oldest message of one of its sources.
+pub record TakesMessage (old : State) (space : ℕ) (names : Names) (arguments : ReceiveArguments) (answer : Reply)
+    (new : State) (effects : List Effect) : Type 0 where
+  -- the source: the name, the serial of the port whose receive right it holds, and what the port keeps
+  pub member : ℕ
+  pub serial : ℕ
+  pub port : PortState
+  -- the port's oldest message, and those after it
+  pub message : Message
+  pub later : List Message
+  pub is_source : Contains (source_names (sources_under old names arguments.name)) member
+  pub holds : HoldsReceiveRight names member serial
+  pub live : finmap.get old.ports serial ≡ Some port
+  pub first : port.messages ≡ message ∷ later
+  pub takes : TakesOut old space names arguments member serial port message answer new effects
+
+-- A receive is refused with the code of its sources, or takes out the oldest message of one of them.
+abbrev pub Receives : State → ℕ → Names → ReceiveArguments → Reply → State → List Effect → Type 0
+Receives old space names arguments answer new effects =
+    MatchOption (receive_refusal old names arguments) (TakesMessage old space names arguments answer new effects)
+    (λ code. ReceiveRefused code old answer new effects)

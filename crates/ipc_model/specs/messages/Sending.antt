@@ -90,10 +90,23 @@ consumes CopySend = false
 consumes MakeSend = false
 consumes MakeSendOnce = false
 
-abbrev pub take_destination : State → ℕ → ℕ → Disposition → Result (Taken × ℕ) KernReturn
+-- what was taken for a destination, and the serial of its port
+pub record TakenDestination : Type 0 where
+  pub taken : Taken
+  pub port : ℕ
+
+abbrev pub destination_at : Taken → ℕ → TakenDestination
+destination_at taken serial = record { taken = taken; port = serial }
+
+-- a right that was taken is a destination if its port lives
+abbrev pub destination_of : Taken → Result TakenDestination KernReturn
+destination_of taken =
+    and_then (or_refused SendInvalidDest (live_port taken.right.port)) (λ (serial : ℕ).
+    Ok (destination_at taken serial))
+
+abbrev pub take_destination : State → ℕ → ℕ → Disposition → Result TakenDestination KernReturn
 take_destination state space name disposition =
-    and_then (or_refused SendInvalidDest (copy_in state space name disposition)) (λ (taken : Taken).
-    and_then (or_refused SendInvalidDest (live_port taken.right.port)) (λ (serial : ℕ). Ok (taken, serial)))
+    and_then (or_refused SendInvalidDest (copy_in state space name disposition)) destination_of
 
 -- the reply right, if the header names one; MACH_PORT_NULL and MACH_PORT_DEAD pass through
 pub record TakenReply : Type 0 where
@@ -118,27 +131,35 @@ abbrev pub reply_goes_first : Disposition → Option Disposition → Bool
 reply_goes_first destination None = false
 reply_goes_first destination (Some reply) = consumes destination && not (consumes reply)
 
+-- a header of these two rights, with the state and the notices after both
+abbrev pub header_of : TakenDestination → TakenReply → State → List Effect → TakenHeader
+header_of destination reply state notices = record {
+  kind = destination.taken.right.kind;
+  port = destination.port;
+  reply = reply.reply;
+  state = state;
+  notices = notices;
+}
+
+-- the reply right is taken, and then the destination
+abbrev pub take_reply_first : State → ℕ → ℕ → Disposition → ℕ → Option Disposition → Result TakenHeader KernReturn
+take_reply_first state space remote destination local reply =
+    and_then (take_reply state space local reply) (λ (first : TakenReply).
+    and_then (take_destination first.state space remote destination) (λ (second : TakenDestination).
+    Ok (header_of second first second.taken.state (first.notices ++ second.taken.notices))))
+
+-- the destination is taken, and then the reply right
+abbrev pub take_destination_first : State → ℕ → ℕ → Disposition → ℕ → Option Disposition
+    → Result TakenHeader KernReturn
+take_destination_first state space remote destination local reply =
+    and_then (take_destination state space remote destination) (λ (first : TakenDestination).
+    and_then (take_reply first.taken.state space local reply) (λ (second : TakenReply).
+    Ok (header_of first second second.state (first.taken.notices ++ second.notices))))
+
 abbrev pub take_header : State → ℕ → ℕ → Disposition → ℕ → Option Disposition → Result TakenHeader KernReturn
 take_header state space remote destination local reply =
-    if reply_goes_first destination reply
-    then and_then (take_reply state space local reply) (λ (first : TakenReply).
-    and_then (take_destination first.state space remote destination) (λ (second : Taken × ℕ).
-    Ok (record {
-      kind = second.0.right.kind;
-      port = second.1;
-      reply = first.reply;
-      state = second.0.state;
-      notices = first.notices ++ second.0.notices;
-    })))
-    else and_then (take_destination state space remote destination) (λ (first : Taken × ℕ).
-    and_then (take_reply first.0.state space local reply) (λ (second : TakenReply).
-    Ok (record {
-      kind = first.0.right.kind;
-      port = first.1;
-      reply = second.reply;
-      state = second.state;
-      notices = first.0.notices ++ second.notices;
-    })))
+    if reply_goes_first destination reply then take_reply_first state space remote destination local reply
+    else take_destination_first state space remote destination local reply
 
 -- the items of a body; without MACH_MSGH_BITS_COMPLEX the body isn't read, and has none
 abbrev pub items_if_complex : Bool → List ℕ → Result (List Item) KernReturn
@@ -196,27 +217,54 @@ abbrev pub tests_of_queue : Ready → Tests
 tests_of_queue ready =
     (is_full ready.state ready.port && not (same_kind ready.message.destination kind.SendOnce), SendTimedOut) ∷ []
 
+-- What a message becomes, or the code of the first test that fails: of the size, the header, the items, the destination
+-- and reply rights, the body's rights, and the queue. Each step is named by what is known when it is made, and they
+-- stand here from the last to the first.
+
+-- all rights are taken: the message is ready, if the queue has room
+abbrev pub ready_of_taken : UsedParts → List Item → TakenHeader → TakenRights → Result Ready KernReturn
+ready_of_taken parts items header taken =
+    let ready : Ready = ready_message parts items header taken in unless_failing (tests_of_queue ready) (Ok ready)
+
+-- no right of the body is taken yet
+abbrev pub none_taken : State → TakenRights
+none_taken state = record { rights = []; state = state; notices = [] }
+
+-- the header's rights are taken: the body's are next
+abbrev pub ready_of_header : ℕ → UsedParts → List Item → TakenHeader → Result Ready KernReturn
+ready_of_header space parts items header =
+    and_then (or_refused SendInvalidRight (take_items space items (none_taken header.state)))
+    (ready_of_taken parts items header)
+
+-- the tests between the items and the rights
+abbrev pub tests_before_rights : UsedParts → List Item → Tests
+tests_before_rights parts items =
+    (nat_lt MAX_MESSAGE_PORTS (ports_in items), SendNoBuffer) ∷ (is_null_or_dead parts.remote, SendInvalidDest) ∷ []
+
+-- the items are read: the header's rights are next
 abbrev pub ready_of_items : State → ℕ → UsedParts → Disposition → Option Disposition → List Item
     → Result Ready KernReturn
 ready_of_items state space parts destination reply items =
-    unless_failing ((nat_lt MAX_MESSAGE_PORTS (ports_in items), SendNoBuffer) ∷
-    (is_null_or_dead parts.remote, SendInvalidDest) ∷ [])
-    (and_then (take_header state space parts.remote destination parts.local reply) (λ (header : TakenHeader).
-    and_then (or_refused SendInvalidRight
-    (take_items space items (record { rights = []; state = header.state; notices = [] }))) (λ (taken : TakenRights).
-    let ready : Ready = ready_message parts items header taken in
-    unless_failing (tests_of_queue ready) (Ok ready))))
+    unless_failing (tests_before_rights parts items)
+    (and_then (take_header state space parts.remote destination parts.local reply) (ready_of_header space parts items))
 
--- What a message becomes, or the code of the first test that fails: of the size, the header, the items, the destination
--- and reply rights, the body's rights, and the queue.
+-- both dispositions are known: the body's items are next
+abbrev pub ready_of_dispositions : State → ℕ → UsedParts → Disposition → Option Disposition → Result Ready KernReturn
+ready_of_dispositions state space parts destination reply =
+    and_then (items_if_complex parts.complex parts.body) (ready_of_items state space parts destination reply)
+
+-- the destination's disposition is known: the reply's is next
+abbrev pub ready_of_destination : State → ℕ → UsedParts → Disposition → Result Ready KernReturn
+ready_of_destination state space parts destination =
+    and_then (reply_disposition parts.local_disposition parts.local)
+    (ready_of_dispositions state space parts destination)
+
+-- The message's parts are known: the size is tested, and the destination's disposition is next.
 abbrev pub ready_by_parts : State → ℕ → UsedParts → Result Ready KernReturn
 ready_by_parts state space parts =
     unless_failing (tests_of_size parts.size)
     (and_then (or_refused SendInvalidHeader (header_disposition parts.remote_disposition))
-    (λ (destination : Disposition).
-    and_then (reply_disposition parts.local_disposition parts.local) (λ (reply : Option Disposition).
-    and_then (items_if_complex parts.complex parts.body)
-    (λ (items : List Item). ready_of_items state space parts destination reply items))))
+    (ready_of_destination state space parts))
 
 -- the same, of a task's bytes
 unfoldable pub ready_to_send : State → ℕ → List ℕ → Result Ready KernReturn

@@ -28,20 +28,6 @@ carries serial port = list_any (λ message. list_any (is_receive_right serial) m
 abbrev pub carrier_of : State → ℕ → Option ℕ
 carrier_of state serial = option_map (λ e. e.0) (find (λ e. carries serial e.1) (finmap.entries state.ports))
 
--- Whether going up meets a port: from one port to the port that carries its receive right, and so on, within this many
--- hops. The port itself is met at once. (`circles_lead_up` of `ipc_laws` says this without a bound: if the ports aren't
--- in a circle already, some number of hops leads up to the port.)
-abbrev pub meets : State → ℕ → ℕ → ℕ → Bool
-meets state zero wanted serial = serial == wanted
-meets state (suc hops) wanted serial =
-    serial == wanted || elim (carrier_of state serial) as (λ _. Bool)
-    [ None ↦ false | Some carrier ↦ meets state hops wanted carrier ]
-
--- If it were put into this queue, the receive right of the port would travel, directly or through others, to the port's
--- own queue. There are at most as many hops as there are ports.
-unfoldable pub is_circular : State → ℕ → ℕ → Bool
-is_circular state serial queue = meets state (finmap.len state.ports) serial queue
-
 -- The queue `outer` holds a message with the receive right of the port `inner`.
 abbrev pub Carries : State → ℕ → ℕ → Type 0
 Carries state outer inner =
@@ -51,3 +37,28 @@ Carries state outer inner =
 -- it.
 abbrev pub Acyclic : State → Type 0
 Acyclic state = (rank : ℕ → ℕ) × ((outer inner : ℕ) → Carries state outer inner → rank inner < rank outer)
+
+-- A path up from one port to another, of this many hops: each leads from a port to one whose queue holds its receive
+-- right.
+abbrev pub LeadsUp : State → ℕ → ℕ → ℕ → Type 0
+LeadsUp state zero top serial = serial ≡ top
+LeadsUp state (suc hops) top serial = (carrier : ℕ) × Carries state carrier serial × LeadsUp state hops top carrier
+
+-- Circular: some path leads up from the queue's own port to the port `serial`. If it were put into this queue, the
+-- receive right of that port would travel, directly or through others, to the port's own queue.
+abbrev pub IsCircular : State → ℕ → ℕ → Type 0
+IsCircular state serial queue = (hops : ℕ) × LeadsUp state hops serial queue
+
+-- What is computed, with a bound: whether going up meets a port: from one port to the port that carries its receive
+-- right, and so on, within this many hops. The port itself is met at once.
+abbrev pub meets : State → ℕ → ℕ → ℕ → Bool
+meets state zero wanted serial = serial == wanted
+meets state (suc hops) wanted serial =
+    serial == wanted || elim (carrier_of state serial) as (λ _. Bool)
+    [ None ↦ false | Some carrier ↦ meets state hops wanted carrier ]
+
+-- `IsCircular` as it is computed, with as many hops as there are ports. In a lawful and acyclic state the two agree:
+-- that is the law `circles_lead_up` of `ipc_laws`. Sends, effects and the contracts cite this one, since they choose by
+-- it.
+unfoldable pub is_circular : State → ℕ → ℕ → Bool
+is_circular state serial queue = meets state (finmap.len state.ports) serial queue

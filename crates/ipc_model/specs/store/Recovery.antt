@@ -25,14 +25,31 @@ segment_header_length = 16
 abbrev pub IsOpen : ℕ → List ℕ → Type 0
 IsOpen header slot = (header ≤ length slot) × (take 1 slot ≡ open_gate ∷ [])
 
--- an open slot's header is of version 1 and of this epoch, which is one of the slot's number
+-- The header is that of an open slot, of version 1 and of this epoch, which is one of the slot's number.
 pub record IsOfEpoch (number epoch : ℕ) (slot : List ℕ) : Type 0 where
   pub rest : List ℕ
   pub encoding : slot ≡ segment_header open_gate epoch ++ rest
   pub fits : epoch < 2 ^ 64
   pub of_number : epoch % 2 ≡ number
 
--- an open slot has such a header
+-- the version that a header says, in the byte after the gate
+abbrev pub version_of : List ℕ → ℕ
+version_of slot = slice_index slot 1
+
+-- What the header of a slot says is one of three: the slot isn't open, since its gate is closed or it is too short for
+-- a header;
+abbrev pub IsNotOpen : ℕ → List ℕ → Type 0
+IsNotOpen header slot = IsOpen header slot → ⊥
+
+-- it is open, of version 1 and of this epoch;
+abbrev pub IsOpenOfEpoch : ℕ → ℕ → ℕ → List ℕ → Type 0
+IsOpenOfEpoch header number epoch slot = IsOpen header slot × IsOfEpoch number epoch slot
+
+-- or it is open, and of another version than 1. With any other header a store is damaged.
+abbrev pub HasOtherVersion : ℕ → List ℕ → Type 0
+HasOtherVersion header slot = IsOpen header slot × (version_of slot ≢ 1)
+
+-- a slot that is open is of an epoch
 abbrev pub HasHeader : ℕ → ℕ → List ℕ → Type 0
 HasHeader header number slot = IsOpen header slot → (epoch : ℕ) × IsOfEpoch number epoch slot
 
@@ -44,7 +61,7 @@ HeadersFit slots =
 
 -- The store is new: no image is open, and a segment that is open is of epoch 0 and has no open batch.
 pub record IsNew (slots : Slots) : Type 0 where
-  pub no_image : (number : ℕ) → number < 2 → IsOpen image_header (slots.image number) → ⊥
+  pub no_image : (number : ℕ) → number < 2 → IsNotOpen image_header (slots.image number)
   pub unused : (number epoch : ℕ) → number < 2 → IsOpen segment_header_length (slots.segment number)
       → IsOfEpoch number epoch (slots.segment number)
       → (epoch ≡ 0) × IsClosed (drop segment_header_length (slots.segment number))
@@ -66,9 +83,9 @@ pub record HoldsImage (epoch : ℕ) (slot : List ℕ) (state : State) : Type 0 w
   pub acyclic : Acyclic state
   pub short : ShortQueues state
 
--- The other segment slot is closed, and adds nothing;
+-- The other segment slot isn't open, and adds nothing;
 abbrev pub ClosedAddsNothing : List ℕ → List Record → Type 0
-ClosedAddsNothing slot next = (IsOpen segment_header_length slot → ⊥) × (next ≡ [])
+ClosedAddsNothing slot next = IsNotOpen segment_header_length slot × (next ≡ [])
 
 -- or it is of the previous epoch, and adds nothing;
 abbrev pub FormerAddsNothing : ℕ → List ℕ → List Record → Type 0
@@ -109,10 +126,6 @@ pub record Recovered (slots : Slots) (state : State) : Type 0 where
   pub records : List Record
   pub encoded : Encodes slots base records
   pub run : Run base records state
-
--- a slot is open, and its version, the byte after the gate, isn't 1
-abbrev pub HasOtherVersion : ℕ → List ℕ → Type 0
-HasOtherVersion header slot = IsOpen header slot × (slice_index slot 1 ≢ 1)
 
 -- Why nothing is recovered: some open slot is of another version than 1,
 abbrev pub IsOtherVersion : Slots → Type 0

@@ -183,7 +183,14 @@ IsPossible world image_close = HasImaged world.checkpoint 0
 IsPossible world piece = HasPieceLeft world.checkpoint
 IsPossible world finish = CanFinish world.checkpoint
 
--- What an event changes when it is done.
+-- What each event may answer where it is possible, and the world after it, event by event. What an event's definition
+-- doesn't name, it never answers. A refusal changes nothing.
+
+-- a fault of the device: what the event wrote doesn't count, so a batch stays as it is, not stored
+abbrev pub with_fault : World → World
+with_fault world = record world { failed = true }
+
+-- Submit: the call is given a ticket with a reply, or the epoch is full for it, or memory runs out.
 
 -- the record of an answered call, if it has one
 abbrev pub record_of : ℕ → Call → Reply → List Record
@@ -198,8 +205,38 @@ after_submit world space call answer =
       tickets = world.tickets ++ (record { answer = answer; seen = length applied; answered = false }) ∷ [];
     }
 
+-- the machine may give a call this reply in the state after all that was applied, which is a run from this base
+abbrev pub IsStep : State → World → ℕ → Call → Reply → Type 0
+IsStep base world space call answer =
+    (old : State) × (new : State) × Run base world.applied old × Step old space call answer new
+
+-- a ticket keeps such a reply; and a full epoch log takes no record
+abbrev pub MayGive : State → World → ℕ → Call → Reply → Type 0
+MayGive base world space call answer =
+    IsStep base world space call answer × ((has_record call answer ≡ true) → log_length world < MAX_RECORDS)
+
+-- the epoch is full for a call: its log is full, and a step of the call has a record
+abbrev pub HasNoRoom : State → World → ℕ → Call → Type 0
+HasNoRoom base world space call =
+    IsLogFull world × (answer : Reply) × IsStep base world space call answer × (has_record call answer ≡ true)
+
+abbrev pub AfterSubmit : State → World → ℕ → Call → Outcome → World → Type 0
+AfterSubmit base world space call (given answer) new =
+    MayGive base world space call answer × (new ≡ after_submit world space call answer)
+AfterSubmit base world space call epoch_full new = HasNoRoom base world space call × (new ≡ world)
+AfterSubmit base world space call no_memory new = new ≡ world
+AfterSubmit base world space call _ new = ⊥
+
+-- Take: what waits is taken as a batch, which allocates nothing.
+
 abbrev pub after_take : World → World
 after_take world = record world { batch = Some (next_batch world); taken = world.taken + (next_batch world).size }
+
+abbrev pub AfterTake : World → Outcome → World → Type 0
+AfterTake world done new = new ≡ after_take world
+AfterTake world _ new = ⊥
+
+-- Append: the batch that is out is stored, which allocates nothing, and its receipt is out; or the device has a fault.
 
 abbrev pub after_append : World → Option Batch → World
 after_append world None = world
@@ -210,20 +247,39 @@ after_append world (Some batch) =
       receipts = world.receipts ++ of_append batch.size ∷ [];
     }
 
--- the oldest receipt is handed in: of an append, and the batch is no longer out; or of a finished image, and the
--- checkpoint is over
+abbrev pub AfterAppend : World → Outcome → World → Type 0
+AfterAppend world done new = new ≡ after_append world world.batch
+AfterAppend world (store fault.device) new = new ≡ with_fault world
+AfterAppend world _ new = ⊥
+
+-- Durable: the oldest receipt is handed in: of an append, and the batch is no longer out; or of a finished image, and
+-- the checkpoint is over.
+
 abbrev pub after_durable : World → List Receipt → World
 after_durable world [] = world
 after_durable world (of_append size ∷ receipts) =
     record world { batch = None; handed = world.handed + size; receipts = receipts }
 after_durable world (of_finish ∷ receipts) = record world { checkpoint = None; receipts = receipts }
 
+abbrev pub AfterDurable : World → Outcome → World → Type 0
+AfterDurable world done new = new ≡ after_durable world world.receipts
+AfterDurable world _ new = ⊥
+
+-- Ask reply: the ticket's reply is given, once.
+
 abbrev pub with_answered : List Ticket → ℕ → List Ticket
 with_answered [] n = []
 with_answered (ticket ∷ tickets) zero = record ticket { answered = true } ∷ tickets
 with_answered (ticket ∷ tickets) (suc n) = ticket ∷ with_answered tickets n
 
--- a snapshot begins the next epoch, with an image of the state after all records
+abbrev pub AfterAskReply : World → ℕ → Outcome → World → Type 0
+AfterAskReply world ticket (replied answer) new =
+    (kept : Ticket) × (slice_get world.tickets ticket ≡ Some kept) × (kept.answer ≡ answer)
+    × (new ≡ record world { tickets = with_answered world.tickets ticket })
+AfterAskReply world ticket _ new = ⊥
+
+-- Cut: a snapshot begins the next epoch, with an image of the state after all records; or memory runs out.
+
 abbrev pub after_cut : World → State → World
 after_cut world state = record world {
   epoch = world.epoch + 1;
@@ -231,6 +287,13 @@ after_cut world state = record world {
   earlier = length world.applied;
   checkpoint = Some (record { rolled = 0; imaged = 0; pieces = pieces_of (image_encoding state); finished = false });
 }
+
+abbrev pub AfterCut : State → World → Outcome → World → Type 0
+AfterCut base world done new = (state : State) × Run base world.applied state × (new ≡ after_cut world state)
+AfterCut base world no_memory new = new ≡ world
+AfterCut base world _ new = ⊥
+
+-- The steps of the checkpoint under way.
 
 abbrev pub with_checkpoint : World → (Checkpoint → Checkpoint) → Option Checkpoint → World
 with_checkpoint world change None = world
@@ -244,43 +307,51 @@ abbrev pub one_imaged : World → World
 one_imaged world =
     with_checkpoint world (λ checkpoint. record checkpoint { imaged = checkpoint.imaged + 1 }) world.checkpoint
 
--- The world after an event that was done, where the store's records began from this base.
-abbrev pub AfterDone : State → World → Event → World → Type 0
-AfterDone base world (submit space call) new = ⊥
-AfterDone base world take_batch new = new ≡ after_take world
-AfterDone base world append new = new ≡ after_append world world.batch
-AfterDone base world durable new = new ≡ after_durable world world.receipts
-AfterDone base world (ask_reply ticket) new = ⊥
-AfterDone base world cut new = (state : State) × Run base world.applied state × (new ≡ after_cut world state)
-AfterDone base world roll_close new = new ≡ one_rolled world
-AfterDone base world roll_head new = new ≡ one_rolled world
-AfterDone base world roll_open new = new ≡ one_rolled world
-AfterDone base world image_close new = new ≡ one_imaged world
-AfterDone base world piece new = new ≡ one_imaged world
-AfterDone base world finish new =
-    new ≡ record (with_checkpoint world (λ checkpoint. record checkpoint { finished = true }) world.checkpoint)
+-- the image's receipt is out
+abbrev pub after_finish : World → World
+after_finish world =
+    record (with_checkpoint world (λ checkpoint. record checkpoint { finished = true }) world.checkpoint)
     { receipts = world.receipts ++ of_finish ∷ [] }
 
--- The machine may give a call this reply in the state after all that was applied, which is a run from this base.
-abbrev pub IsStep : State → World → ℕ → Call → Reply → Type 0
-IsStep base world space call answer =
-    (old : State) × (new : State) × Run base world.applied old × Step old space call answer new
+-- Roll close, roll head, roll open: one step of rotating is done, or the device has a fault.
+abbrev pub AfterRoll : World → Outcome → World → Type 0
+AfterRoll world done new = new ≡ one_rolled world
+AfterRoll world (store fault.device) new = new ≡ with_fault world
+AfterRoll world _ new = ⊥
 
--- A ticket keeps such a reply; and a full epoch log takes no record.
-abbrev pub MayGive : State → World → ℕ → Call → Reply → Type 0
-MayGive base world space call answer =
-    IsStep base world space call answer × ((has_record call answer ≡ true) → log_length world < MAX_RECORDS)
+-- Image close: the image's slot is closed, or the store runs out of memory, or the device has a fault.
+abbrev pub AfterImageClose : World → Outcome → World → Type 0
+AfterImageClose world done new = new ≡ one_imaged world
+AfterImageClose world (store fault.no_memory) new = new ≡ world
+AfterImageClose world (store fault.device) new = new ≡ with_fault world
+AfterImageClose world _ new = ⊥
 
--- The epoch is full for a call: its log is full, and a step of the call has a record.
-abbrev pub HasNoRoom : State → World → ℕ → Call → Type 0
-HasNoRoom base world space call =
-    IsLogFull world × (answer : Reply) × IsStep base world space call answer × (has_record call answer ≡ true)
+-- Piece: one piece of the image is written, or the device has a fault.
+abbrev pub AfterPiece : World → Outcome → World → Type 0
+AfterPiece world done new = new ≡ one_imaged world
+AfterPiece world (store fault.device) new = new ≡ with_fault world
+AfterPiece world _ new = ⊥
 
--- a ticket's reply is given once
-abbrev pub AfterReply : World → ℕ → Reply → World → Type 0
-AfterReply world ticket answer new =
-    (kept : Ticket) × (slice_get world.tickets ticket ≡ Some kept) × (kept.answer ≡ answer)
-    × (new ≡ record world { tickets = with_answered world.tickets ticket })
+-- Finish: the image is finished, or the device has a fault.
+abbrev pub AfterFinish : World → Outcome → World → Type 0
+AfterFinish world done new = new ≡ after_finish world
+AfterFinish world (store fault.device) new = new ≡ with_fault world
+AfterFinish world _ new = ⊥
+
+-- What a possible event may answer, and the world after it, where the store's records began from this base.
+abbrev pub AfterPossible : State → World → Event → Outcome → World → Type 0
+AfterPossible base world (submit space call) outcome new = AfterSubmit base world space call outcome new
+AfterPossible base world take_batch outcome new = AfterTake world outcome new
+AfterPossible base world append outcome new = AfterAppend world outcome new
+AfterPossible base world durable outcome new = AfterDurable world outcome new
+AfterPossible base world (ask_reply ticket) outcome new = AfterAskReply world ticket outcome new
+AfterPossible base world cut outcome new = AfterCut base world outcome new
+AfterPossible base world roll_close outcome new = AfterRoll world outcome new
+AfterPossible base world roll_head outcome new = AfterRoll world outcome new
+AfterPossible base world roll_open outcome new = AfterRoll world outcome new
+AfterPossible base world image_close outcome new = AfterImageClose world outcome new
+AfterPossible base world piece outcome new = AfterPiece world outcome new
+AfterPossible base world finish outcome new = AfterFinish world outcome new
 
 -- the events that write the store, and so meet its faults
 abbrev pub is_of_store : Event → Bool
@@ -292,31 +363,6 @@ is_of_store image_close = true
 is_of_store piece = true
 is_of_store finish = true
 is_of_store _ = false
-
--- the events that may run out of memory: the core's own, and the store's; taking a batch and storing it allocate
--- nothing
-abbrev pub core_takes_memory : Event → Bool
-core_takes_memory (submit space call) = true
-core_takes_memory cut = true
-core_takes_memory _ = false
-
-abbrev pub store_takes_memory : Event → Bool
-store_takes_memory image_close = true
-store_takes_memory _ = false
-
--- What a possible event may answer, and the world after it. A refusal changes nothing; a fault of the device leaves the
--- batch as it is, not stored.
-abbrev pub AfterPossible : State → World → Event → Outcome → World → Type 0
-AfterPossible base world (submit space call) (given answer) new =
-    MayGive base world space call answer × (new ≡ after_submit world space call answer)
-AfterPossible base world (submit space call) epoch_full new = HasNoRoom base world space call × (new ≡ world)
-AfterPossible base world (ask_reply ticket) (replied answer) new = AfterReply world ticket answer new
-AfterPossible base world event done new = AfterDone base world event new
-AfterPossible base world event no_memory new = (core_takes_memory event ≡ true) × (new ≡ world)
-AfterPossible base world event (store fault.no_memory) new = (store_takes_memory event ≡ true) × (new ≡ world)
-AfterPossible base world event (store fault.device) new =
-    (is_of_store event ≡ true) × (new ≡ record world { failed = true })
-AfterPossible base world _ _ new = ⊥
 
 -- Once the device failed, every event of the store answers that it failed, even one that isn't possible.
 abbrev pub fails_first : World → Event → Bool
@@ -333,5 +379,5 @@ After base world event outcome new =
 -- The world that a list of events leaves.
 abbrev pub Worlds : State → World → List (Event × Outcome) → World → Type 0
 Worlds base world [] new = new ≡ world
-Worlds base world (first ∷ events) new =
-    (mid : World) × After base world first.0 first.1 mid × Worlds base mid events new
+Worlds base world ((event, outcome) ∷ events) new =
+    (mid : World) × After base world event outcome mid × Worlds base mid events new

@@ -6,7 +6,7 @@ use Rattle.ipc_model.specs.calls.PortCalls.{names_in}
 use Rattle.ipc_model.specs.declared.message.CarriedRight.{CarriedRight}
 use Rattle.ipc_model.specs.messages.Receiving.{arriving, message_size}
 use Rattle.ipc_model.specs.rights.CopyOut.{names_needed}
-use Rattle.receiving.specs.Shows.{receipt_of}
+use Rattle.receiving.specs.Shows.{arguments_of}
 use Rattle.receiving.specs.TakingLaws.{large_told, lacking_told, names_lawful, oldest_lawful, was_lacking, was_large, was_received, whole_told}
 use Rattle.receiving.proofs.receiving.take_out.Goals as goal
 
@@ -17,7 +17,7 @@ returns-then-outline-asked-clause-acts c = λ port message later live first.
     lt-ltb c.args.asked.limit (message_size message)
     (subst (λ (n : ℕ). c.args.asked.limit < n) outline.0 c.if-outline-asked.true) in
     was_large c.args.state.now.current c.args.space (names_in c.args.state.now.current c.args.space)
-    (receipt_of c.args.asked) c.args.source.member c.args.source.port port message c.in_ok-reply.reply
+    (arguments_of c.args.asked) c.args.source.member c.args.source.port port message c.in_ok-reply.reply
     c.too_large.new.state.current c.too_large.new.effects
     large (c.in_ok-reply.ensures.large port message later live first outline.0 outline.1)
 
@@ -28,7 +28,7 @@ returns-then-outline-asked-clause-shown c = λ port message later live first oth
     lt-ltb c.args.asked.limit (message_size message)
     (subst (λ (n : ℕ). c.args.asked.limit < n) outline.0 c.if-outline-asked.true) in
     large_told c.args.state.now.current c.args.space (names_in c.args.state.now.current c.args.space)
-    (receipt_of c.args.asked) c.args.source.member c.args.source.port port message c.in_ok-reply.reply
+    (arguments_of c.args.asked) c.args.source.member c.args.source.port port message c.in_ok-reply.reply
     c.too_large.new.state.current c.too_large.new.effects other last others
     large (c.in_ok-reply.ensures.large port message later live first outline.0 outline.1) may
 
@@ -44,7 +44,7 @@ returns-then-lacks_room-clause-acts c = λ port message later live first.
     ap (λ (l : List CarriedRight). nat_lt MAX_NAMES (finmap.len names + names_needed names [] l)) (sym rights)
     ∙ sym c.lacks_room.ensures ∙ c.if-lacks_room.true in
     was_lacking c.args.state.now.current c.args.space names
-    (receipt_of c.args.asked) c.args.source.member c.args.source.port port message
+    (arguments_of c.args.asked) c.args.source.member c.args.source.port port message
     c.without_message-then-lacks_room.result c.args.state.now.current c.args.effects.now
     small lacks c.without_message-then-lacks_room.ensures refl c.requires.none
 
@@ -60,7 +60,7 @@ returns-then-lacks_room-clause-shown c = λ port message later live first other 
     ap (λ (l : List CarriedRight). nat_lt MAX_NAMES (finmap.len names + names_needed names [] l)) (sym rights)
     ∙ sym c.lacks_room.ensures ∙ c.if-lacks_room.true in
     lacking_told c.args.state.now.current c.args.space names
-    (receipt_of c.args.asked) c.args.source.member c.args.source.port port message
+    (arguments_of c.args.asked) c.args.source.member c.args.source.port port message
     c.without_message-then-lacks_room.result other last others
     small lacks c.without_message-then-lacks_room.ensures may
 
@@ -80,7 +80,7 @@ returns-clause-acts c = λ port message later live first.
     ap (λ (l : List CarriedRight). nat_lt MAX_NAMES (finmap.len names + names_needed names [] l)) (sym rights)
     ∙ sym c.lacks_room.ensures ∙ c.if-lacks_room.false in
     was_received c.args.state.now.current c.args.space names
-    (receipt_of c.args.asked) c.args.source.member c.args.source.port port message c.in_ok-reply-2.reply
+    (arguments_of c.args.asked) c.args.source.member c.args.source.port port message c.in_ok-reply-2.reply
     c.take_whole.new.state.current c.take_whole.new.effects
     small fits (c.in_ok-reply-2.ensures.received port message later live first)
 
@@ -97,7 +97,7 @@ returns-clause-shown c = λ port message later live first other last others show
     ap (λ (l : List CarriedRight). nat_lt MAX_NAMES (finmap.len names + names_needed names [] l)) (sym rights)
     ∙ sym c.lacks_room.ensures ∙ c.if-lacks_room.false in
     whole_told old c.args.space names
-    (receipt_of c.args.asked) c.args.source.member c.args.source.port port message c.in_ok-reply-2.reply
+    (arguments_of c.args.asked) c.args.source.member c.args.source.port port message c.in_ok-reply-2.reply
     c.args.names.now other last others
     small fits (oldest_lawful old c.args.source.port port message later c.requires.lawful live first)
     (names_lawful old c.args.space c.requires.lawful c.requires.there)

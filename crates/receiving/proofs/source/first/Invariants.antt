@@ -1,12 +1,12 @@
 use Rattle.std.proofs.Common.{◌≡◌, find, drop}
 use Rattle.ipc_model.specs.calls.PortCalls.{names_in}
-use Rattle.receiving.specs.Shows.{receipt_of}
+use Rattle.receiving.specs.Shows.{arguments_of}
 use Rattle.receiving.specs.Sources.{gives}
 use Rattle.receiving.proofs.source.first.Given as goal
 
 -- the search goes on from here
 abbrev pub invariant-loop-member : goal.invariant-loop-member
 invariant-loop-member l =
-    find (gives l.state.current (names_in l.state.current l.space) (receipt_of l.asked) l.preference) l.members
-    ≡ find (gives l.state.current (names_in l.state.current l.space) (receipt_of l.asked) l.preference)
+    find (gives l.state.current (names_in l.state.current l.space) (arguments_of l.asked) l.preference) l.members
+    ≡ find (gives l.state.current (names_in l.state.current l.space) (arguments_of l.asked) l.preference)
     (drop l.member-index l.members)
