@@ -31,7 +31,7 @@ pub record IsImageOfRows (rows : Snapshot) (image : ImageValue) : Type 0 where
 -- the slots of a store in epoch 0 with this image and no record
 abbrev pub store_of : ImageValue → Slots
 store_of image =
-    record { image0 = open_image image.epoch image.text; image1 = []; segment0 = empty_segment 0; segment1 = [] }
+    record { image0 = open_image image.epoch image.encoding; image1 = []; segment0 = empty_segment 0; segment1 = [] }
 
 -- A disk holds the state that these slots stand for, and a crash leaves just what a read gives.
 pub record IsCopyOf (slots : Slots) (copy : View) : Type 0 where

@@ -17,6 +17,7 @@ use crate::fault::SessionFault;
 use crate::making::KernelCore;
 use crate::numbers::Numbers;
 use crate::session::{Session, SessionState};
+use crate::stored::StoredCount;
 use boxcar::tag::{Names, Tag};
 use codes::FIRST_SPACE;
 use history::{EntryBlock, Founding, Past};
@@ -186,7 +187,7 @@ impl<L: Founding> KernelKeeper<L> {
         ensures back { IfErr result.1 (λ kept. (kept ≡ ticket) × (result.0 ≡ session)) }
         ensures early { OnErr result.1 ((session.task.seen < ticket.seen) ⊎ (self.now.core.half.handed < ticket.seen)) }
     {
-        session.redeem(ticket, self.core.handed())
+        session.redeem(ticket, &self.stored())
     }
 }
 
@@ -265,10 +266,10 @@ impl<L: Founding> KernelKeeper<L> {
     }
 
     /// How many records are stored, according to receipts.
-    pub fn handed(&self) -> u64
+    pub fn stored(&self) -> StoredCount<L>
         ensures { result ≡ self.now.core.half.handed }
     {
-        self.core.handed()
+        StoredCount::new(self.core.handed())
     }
 
     /// Whether records wait to be taken.

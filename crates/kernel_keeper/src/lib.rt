@@ -11,6 +11,7 @@ mod making;
 mod meeting;
 mod numbers;
 mod session;
+mod stored;
 
 pub use fault::SessionFault;
 pub use history::{EntryBlock, Founding, Past};
@@ -18,3 +19,4 @@ pub use keeper::{KernelKeeper, MOST_SESSIONS};
 pub use meeting::{Unmet, meet};
 pub use session::Session;
 pub use store_keeper::{End, Load};
+pub use stored::StoredCount;

@@ -4,6 +4,7 @@ ghost use Rattle.ipc_model.specs.history.History.{looked, redemption};
 ghost use Rattle.ipc_model.specs.encodings.Encodings.{reply_encoding};
 ghost use Rattle.kernel_keeper.specs.Tokens.{Did, HasRead};
 
+use crate::stored::StoredCount;
 use boxcar::tag::Tag;
 use history::{Founding, Past};
 use ipc_model::{Record, Reply};
@@ -79,22 +80,21 @@ impl<L: Founding> Session<L> {
         self.own_state.acknowledged
     }
 
-    /// The reply of a ticket of this session, if its call saw only the first `stored` records of the history; else the
-    /// ticket comes back.
-    pub fn redeem(self, ticket: Ticket, stored: u64) -> (Self, Result<Reply, Ticket>)
+    /// The reply of a ticket of this session, if its call saw only records that are stored; else the ticket comes back.
+    pub fn redeem(self, ticket: Ticket, stored: &StoredCount<L>) -> (Self, Result<Reply, Ticket>)
         ensures redeemed { IfOk result.1
             (λ reply. (reply ≡ ticket.answer) × Did L.base self (redemption self.task ticket.seen) result.0) }
-        ensures stored { IfOk result.1 (λ reply. ticket.seen ≤ stored) }
+        ensures stored { IfOk result.1 (λ reply. ticket.seen ≤ stored.now) }
         ensures fits { IfOk result.1 (λ reply. length (reply_encoding reply) ≤ MAX_FRAME_CONTENT) }
         ensures back { IfErr result.1 (λ kept. (kept ≡ ticket) × (result.0 ≡ self)) }
-        ensures early { OnErr result.1 ((self.task.seen < ticket.seen) ⊎ (stored < ticket.seen)) }
+        ensures early { OnErr result.1 ((self.task.seen < ticket.seen) ⊎ (stored.now < ticket.seen)) }
     {
         let mut session = self;
         let seen = ticket.seen();
         if seen > session.past.len() as u64 {
             return (session, Err(ticket));
         }
-        match ticket.redeem(stored) {
+        match ticket.redeem(stored.count()) {
             Ok(reply) => {
                 session.own_state.acknowledged = session.own_state.acknowledged.max(seen);
                 (session, Ok(reply))

@@ -7,7 +7,7 @@ use crate::waiters::{Waiter, Waiters};
 use codes::{KernReturn, MAX_RECORDS};
 use history::Founding;
 use ipc_model::Call;
-use kernel_keeper::{KernelKeeper, Load, Session};
+use kernel_keeper::{KernelKeeper, Load, Session, StoredCount};
 use std::alloc::Global;
 use store_fault::StoreFault;
 use store_half::Receipt;
@@ -175,9 +175,9 @@ impl<L: Founding> KernelGuarded<L> {
     }
 
     /// Learns that the load that was out is stored. Returns how many records are.
-    pub(crate) fn learn(&mut self, receipt: Receipt) -> u64 {
+    pub(crate) fn learn(&mut self, receipt: Receipt) -> StoredCount<L> {
         self.keeper.durable(receipt);
-        self.keeper.handed()
+        self.keeper.stored()
     }
 
     /// The bell of a call whose turn has come, if it hasn't been rung yet.

@@ -1,10 +1,12 @@
 //! What calls that wait for their replies know of the store.
 
+use kernel_keeper::{Founding, StoredCount};
+
 /// How many records are stored, and how many were taken to be, of those made since the opening. It has a lock of its own,
 /// held only for a comparison, so that a call that waits for its reply doesn't queue for the kernel's lock.
-#[derive(Clone, Copy)]
-pub(crate) struct Replies {
-    stored: u64,
+#[derive(Drop)]
+pub(crate) struct Replies<L: Founding> {
+    stored: StoredCount<L>,
     taken: u64,
 
     // The side of the batch that was taken last.
@@ -31,11 +33,11 @@ impl Side {
     }
 }
 
-impl Replies {
+impl<L: Founding> Replies<L> {
     /// With no record.
     pub(crate) fn none() -> Self {
         Replies {
-            stored: 0,
+            stored: StoredCount::none(),
             taken: 0,
             side: Side::Even,
             is_over: false,
@@ -43,8 +45,8 @@ impl Replies {
     }
 
     /// How many records are stored.
-    pub(crate) fn stored(&self) -> u64 {
-        self.stored
+    pub(crate) fn stored(&self) -> StoredCount<L> {
+        self.stored.again()
     }
 
     /// A batch was taken to be stored. `taken` records were, it included.
@@ -54,8 +56,10 @@ impl Replies {
     }
 
     /// The batch that was taken last is stored, and with it `stored` records. Returns the side of its callers.
-    pub(crate) fn store(&mut self, stored: u64) -> Side {
-        self.stored = self.stored.max(stored);
+    pub(crate) fn store(&mut self, stored: StoredCount<L>) -> Side {
+        if self.stored.count() < stored.count() {
+            self.stored = stored;
+        }
         self.side
     }
 
@@ -66,7 +70,7 @@ impl Replies {
 
     /// Whether a call that saw `seen` records still waits for its reply.
     pub(crate) fn is_awaited(&self, seen: u64) -> bool {
-        !self.is_over && self.stored < seen
+        !self.is_over && self.stored.count() < seen
     }
 
     /// The side at which a call that saw `seen` records waits: that of the batch that was taken last, or of the next one.

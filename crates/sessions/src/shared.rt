@@ -12,7 +12,7 @@ use crate::seat::{Bell, Peer, Seat};
 use disk::Disk;
 use ipc_model::{Call, Reply};
 use kernel_keeper::{
-    EntryBlock, Founding, KernelKeeper, MOST_SESSIONS, Past, Session, SessionFault,
+    EntryBlock, Founding, KernelKeeper, MOST_SESSIONS, Past, Session, SessionFault, StoredCount,
 };
 use std::alloc::Global;
 use std::sync::ledger::Blank;
@@ -43,7 +43,7 @@ pub struct Shared<L: Founding, D: Disk, G> {
     pub(crate) gate: G,
     pub(crate) guarded: Mutex<KernelGuarded<L>>,
     pub(crate) store_keeper: Mutex<StoreKeeper<L, D>>,
-    pub(crate) replies: Mutex<Replies>,
+    pub(crate) replies: Mutex<Replies<L>>,
 
     // Waited on under the kernel's lock: that there is something to do for the loop that stores; that no turn is due
     // that it waits for; that there is something to do for the loop that makes images; and that an epoch has begun.
@@ -263,7 +263,7 @@ impl<L: Founding, D: Disk, G: Drop> Shared<L, D, G> {
         ensures err { OnErr result.1 (result.0 ≡ session) }
     {
         let stored = self.await_reply(rt, ticket.seen());
-        let (session, acknowledged) = session.redeem(ticket, stored);
+        let (session, acknowledged) = session.redeem(ticket, &stored);
         match acknowledged {
             Ok(reply) => (session, Ok(reply)),
             Err(_) => (session, Err(self.fault(rt).unwrap_or(StoreFault::Failed))),
@@ -271,7 +271,7 @@ impl<L: Founding, D: Disk, G: Drop> Shared<L, D, G> {
     }
 
     /// Waits until `seen` records are stored, or nothing is stored any more. Returns how many are.
-    fn await_reply<R: Wait>(&self, rt: &R, seen: u64) -> u64 {
+    fn await_reply<R: Wait>(&self, rt: &R, seen: u64) -> StoredCount<L> {
         let mut replies = self.replies.lock(rt);
         for _ in rt.forever() {
             if !replies.is_awaited(seen) {

@@ -5,8 +5,8 @@ use Rattle.kernel_keeper.proofs.session.Session.redeem.Goals as goal
 
 pub invariant_of-session : goal.invariant_of-session
 invariant_of-session g c =
-    let own_state = c.self.inside.own_state in
-    let past = c.self.inside.past in
+    let own_state = c.session.inside.own_state in
+    let past = c.session.inside.past in
     let old : SessionValue =
     session_of own_state.number own_state.space own_state.acknowledged own_state.tickets.numbers
     own_state.places.numbers past in
@@ -15,6 +15,6 @@ invariant_of-session g c =
           (session_of own_state.number own_state.space n own_state.tickets.numbers own_state.places.numbers past)
           own_state.share.amount) (sym c.max-session-inside.ensures)
           (told_session g.L.Founding.base old c.seen-seen.result own_state.share.amount within
-          c.self.invariant.0),
-      c.self.invariant.1,
+          c.session.invariant.0),
+      c.session.invariant.1,
     )
