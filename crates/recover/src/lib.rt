@@ -1,7 +1,6 @@
 //! Opening a store: what its slots stand for, and the repair of their ends.
 #![tactic(auto)]
 
-mod behind;
 mod finding;
 mod headers;
 mod laws;
@@ -11,6 +10,7 @@ mod making;
 mod opening;
 mod reading;
 mod survey;
+mod value_after;
 
 pub use kernel::{Kernel, Recorder};
 pub use laws::append_keeps_gate;

@@ -12,12 +12,12 @@ ghost use Rattle.recover.specs.Crashing.{HaveLastGates, LeavesSame, StandForSame
 ghost use Rattle.recover.specs.Surveyed.{IsInUse, IsUnused};
 ghost use Rattle.store_layout.specs.Standing.{as_written};
 
-use crate::behind::{both, end_after, write_after};
 use crate::finding::{have_no_batch, read_epoch};
 use crate::headers::{Header, Headers, read_headers};
 use crate::making::{make_segment, sync_all};
 use crate::reading::replay_segment;
 use crate::survey::{Survey, survey_store};
+use crate::value_after::{both, end_after, write_after};
 use checkpoint::Image;
 use disk::{Disk, DiskFault};
 use image::image_is_of_state;

@@ -9,7 +9,7 @@ ghost use Rattle.journal.specs.Readers.{place_of};
 ghost use Rattle.journal.specs.Windows.{IsOver};
 ghost use Rattle.recover.specs.Replayed.{Replays, ReplaysAll};
 
-use crate::behind::both;
+use crate::value_after::both;
 use disk::{Disk, Slot};
 use ipc_model::Record;
 use journal::{PIECE, RecordReader};

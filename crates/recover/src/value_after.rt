@@ -40,7 +40,7 @@ pub(crate) fn write_after<D: Disk, T: Drop>(
     ensures failures { CountsFailure (D.failed_calls disk.old) (D.failed_calls disk.new) result }
 {
     let written = image.write(disk);
-    behind(value, written)
+    value_after(value, written)
 }
 
 /// Ends a segment, and then returns a value.
@@ -61,11 +61,11 @@ pub(crate) fn end_after<D: Disk, T: Drop>(
     ensures failures { CountsFailure (D.failed_calls disk.old) (D.failed_calls disk.new) result }
 {
     let ended = end_segment(disk, slot, end);
-    behind(value, ended)
+    value_after(value, ended)
 }
 
 /// A value after a step that was done. If the step wasn't done, the caller has nothing to drop.
-pub(crate) fn behind<T: Drop, E: Drop>(value: T, done: Result<(), E>) -> Result<T, E>
+pub(crate) fn value_after<T: Drop, E: Drop>(value: T, done: Result<(), E>) -> Result<T, E>
     ensures ok { IfOk result (λ v. (v ≡ value) × (done ≡ Ok tt)) }
     ensures err { IfErr result (λ e. done ≡ Err e) }
 {
