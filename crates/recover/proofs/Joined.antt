@@ -1,5 +1,5 @@
 -- What opening a store does, joined call by call.
-use Rattle.std.proofs.Common.{◌≡◌, ◌⊎◌, inl, inr, ℕ, ◌+◌, ◌<◌, List, [], ◌∷◌, ◌++◌, length, take, refl, sym, ap, subst, ◌∙◌, Result, Ok, Err, OnErr}
+use Rattle.std.proofs.Common.{◌≡◌, inl, inr, ℕ, ◌+◌, ◌<◌, List, [], ◌∷◌, ◌++◌, length, take, refl, sym, ap, subst, ◌∙◌}
 use Rattle.disk.specs.declared.slot.Slot.{Slot}
 use Rattle.disk.specs.declared.slot.Slot.TheVariants.{Image0, Segment0}
 use Rattle.disk.specs.Moments.{View, MayLeave, Passes, Follows, IsSynced}
@@ -35,10 +35,6 @@ pub leaves_same : (old mid new : View) → Passes old mid (MayLeave old) → mid
 leaves_same old mid new first same second =
     passes_then old mid new (MayLeave old) (StandForSame mid.seen) (LeavesSame old) first second (λ c left. inl left)
     (λ c stands. inr (subst (λ (s : Slots). StandForSame s c) same stands))
-
-pub device_err : {T E : Type 0} (P : Type 0) (r : Result T E) (e : E) → r ≡ Err e → OnErr r ((r ≡ Err e) ⊎ P)
-device_err P (Ok x) e is = tt
-device_err P (Err f) e is = inl is
 
 -- a store is made
 

@@ -6,6 +6,7 @@ pub mod Loaded
 pub mod Looked
 pub mod Making
 pub mod Opened
+pub mod Outcomes
 pub mod Replayed
 pub mod Steps
 pub mod Crashing

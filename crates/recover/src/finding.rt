@@ -1,6 +1,6 @@
 // What a store in use holds, read from its slots.
 ghost use Rattle.std.specs.Prelude.{◌≡◌, ◌⊎◌, List, drop, Err, IfOk, IsErrOf, OnErr, OnOk, MatchBool};
-ghost use Rattle.disk.specs.Moments.{CountsFailure, MayLeave, Passes, one_more};
+ghost use Rattle.disk.specs.Moments.{CountsFailure, MayLeave, Passes};
 ghost use Rattle.disk.specs.Slots.{slot_of};
 ghost use Rattle.ipc_model.specs.calls.Step.{Run};
 ghost use Rattle.ipc_model.specs.declared.record.Record.{Record};
@@ -9,6 +9,7 @@ ghost use Rattle.ipc_model.specs.store.Recovery.{HoldsImage, IsNew};
 ghost use Rattle.ipc_model.specs.store.Store.{IsClosed, EncodesSegment};
 ghost use Rattle.recover.specs.Found.{HasOwn, ReadsOne};
 ghost use Rattle.recover.specs.Headers.{Says};
+ghost use Rattle.recover.specs.Outcomes.{CountsDevice, OnlyReadingFaults, ReadsOnly};
 ghost use Rattle.recover.specs.Surveyed.{IsUnused};
 ghost use Rattle.slot_steps.specs.Steps.{image_slot as slot_of_image, segment_slot as slot_of_segment};
 ghost use Rattle.store_layout.specs.Standing.{as_written};
@@ -36,14 +37,9 @@ pub(crate) fn read_epoch<D: Disk>(
         → HoldsImage epoch (slot_of (D.view disk.old).seen (slot_of_image epoch)) base
         → EncodesSegment epoch (slot_of (D.view disk.old).seen (slot_of_segment epoch)) records → Run base records state
         → ⊥ }
-    ensures seen { D.honest → (D.view disk.new).seen ≡ (D.view disk.old).seen }
-    ensures time { D.honest → Passes (D.view disk.old) (D.view disk.new) (MayLeave (D.view disk.old)) }
-    ensures quiet { OnOk result (D.failed_calls disk.new ≡ D.failed_calls disk.old) }
-    ensures still { OnErr result ((result ≡ Err StoreFault.Device)
-        ⊎ (D.failed_calls disk.new ≡ D.failed_calls disk.old)) }
-    ensures device { IsErrOf result StoreFault.Device → D.failed_calls disk.new ≡ one_more (D.failed_calls disk.old) }
-    ensures faults { OnErr result ((result ≡ Err StoreFault.Device)
-        ⊎ ((result ≡ Err StoreFault.Damaged) ⊎ (result ≡ Err StoreFault.NoMemory))) }
+    ensures reads_only { D.honest → ReadsOnly (D.view disk.old) (D.view disk.new) }
+    ensures failures { CountsDevice (D.failed_calls disk.old) (D.failed_calls disk.new) result }
+    ensures faults { OnlyReadingFaults result }
 {
     let base = load_image(alloc, disk, image_slot(epoch))?;
     replay_segment(alloc, base, disk, segment_slot(epoch))
@@ -71,12 +67,8 @@ pub(crate) fn have_no_batch<D: Disk>(disk: &mut D, segment: Header) -> Result<()
     requires says { D.honest → Says 16 (D.view disk.old).seen.segment0 segment }
     ensures new { D.honest → OnOk result (IsNew (as_written (D.view disk.old).seen)) }
     ensures damaged { D.honest → IsErrOf result StoreFault.Damaged → IsNew (as_written (D.view disk.old).seen) → ⊥ }
-    ensures seen { D.honest → (D.view disk.new).seen ≡ (D.view disk.old).seen }
-    ensures time { D.honest → Passes (D.view disk.old) (D.view disk.new) (MayLeave (D.view disk.old)) }
-    ensures quiet { OnOk result (D.failed_calls disk.new ≡ D.failed_calls disk.old) }
-    ensures still { OnErr result ((result ≡ Err StoreFault.Device)
-        ⊎ (D.failed_calls disk.new ≡ D.failed_calls disk.old)) }
-    ensures device { IsErrOf result StoreFault.Device → D.failed_calls disk.new ≡ one_more (D.failed_calls disk.old) }
+    ensures reads_only { D.honest → ReadsOnly (D.view disk.old) (D.view disk.new) }
+    ensures failures { CountsDevice (D.failed_calls disk.old) (D.failed_calls disk.new) result }
     ensures faults { OnErr result ((result ≡ Err StoreFault.Device) ⊎ (result ≡ Err StoreFault.Damaged)) }
 {
     if segment == Header::Closed {

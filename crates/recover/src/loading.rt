@@ -1,11 +1,12 @@
 // The state whose image stands in a slot.
-ghost use Rattle.std.specs.Prelude.{◌≡◌, ◌⊎◌, ◌^◌, ◌<◌, ◌++◌, ℕ, List, IfOk, OnOk, OnErr, IsErrOf, drop, length};
-ghost use Rattle.disk.specs.Moments.{CountsFailure, MayLeave, Passes, one_more};
+ghost use Rattle.std.specs.Prelude.{◌≡◌, ◌⊎◌, ◌^◌, ◌<◌, ◌++◌, ℕ, List, IfOk, OnErr, IsErrOf, drop, length};
+ghost use Rattle.disk.specs.Moments.{CountsFailure, MayLeave, Passes};
 ghost use Rattle.disk.specs.Slots.{slot_of};
 ghost use Rattle.ipc_model.specs.state.State.{State};
 ghost use Rattle.ipc_model.specs.store.Recovery.{HoldsImage, IsImageOf, IsOfEpoch, IsOpen};
 ghost use Rattle.words.specs.Words.{long_word};
 ghost use Rattle.recover.specs.Loaded.{HoldsEncoding};
+ghost use Rattle.recover.specs.Outcomes.{CountsDevice, OnlyReadingFaults, ReadsOnly};
 
 use disk::{Disk, DiskFault, Slot};
 use image::{ImageFault, read};
@@ -42,14 +43,9 @@ fn read_encoding<D: Disk>(alloc: Global, disk: &mut D, slot: Slot) -> Result<Vec
         (λ encoding. HoldsEncoding (slot_of (D.view disk.old).seen slot) encoding.items) }
     ensures damaged { D.honest → IsErrOf result StoreFault.Damaged → (encoding : List ℕ)
         → HoldsEncoding (slot_of (D.view disk.old).seen slot) encoding → ⊥ }
-    ensures seen { D.honest → (D.view disk.new).seen ≡ (D.view disk.old).seen }
-    ensures time { D.honest → Passes (D.view disk.old) (D.view disk.new) (MayLeave (D.view disk.old)) }
-    ensures quiet { OnOk result (D.failed_calls disk.new ≡ D.failed_calls disk.old) }
-    ensures still { OnErr result ((result ≡ Err StoreFault.Device)
-        ⊎ (D.failed_calls disk.new ≡ D.failed_calls disk.old)) }
-    ensures device { IsErrOf result StoreFault.Device → D.failed_calls disk.new ≡ one_more (D.failed_calls disk.old) }
-    ensures faults { OnErr result ((result ≡ Err StoreFault.Device)
-        ⊎ ((result ≡ Err StoreFault.Damaged) ⊎ (result ≡ Err StoreFault.NoMemory))) }
+    ensures reads_only { D.honest → ReadsOnly (D.view disk.old) (D.view disk.new) }
+    ensures failures { CountsDevice (D.failed_calls disk.old) (D.failed_calls disk.new) result }
+    ensures faults { OnlyReadingFaults result }
 {
     let size = encoding_length(disk, slot)?;
     let room = disk.length(slot).saturating_sub(IMAGE_HEADER as u64);
@@ -95,14 +91,9 @@ pub(crate) fn load_image<D: Disk>(
         → HoldsImage epoch (slot_of (D.view disk.old).seen slot) kernel) }
     ensures damaged { D.honest → IsErrOf result StoreFault.Damaged → (epoch : ℕ) (state : State)
         → HoldsImage epoch (slot_of (D.view disk.old).seen slot) state → ⊥ }
-    ensures seen { D.honest → (D.view disk.new).seen ≡ (D.view disk.old).seen }
-    ensures time { D.honest → Passes (D.view disk.old) (D.view disk.new) (MayLeave (D.view disk.old)) }
-    ensures quiet { OnOk result (D.failed_calls disk.new ≡ D.failed_calls disk.old) }
-    ensures still { OnErr result ((result ≡ Err StoreFault.Device)
-        ⊎ (D.failed_calls disk.new ≡ D.failed_calls disk.old)) }
-    ensures device { IsErrOf result StoreFault.Device → D.failed_calls disk.new ≡ one_more (D.failed_calls disk.old) }
-    ensures faults { OnErr result ((result ≡ Err StoreFault.Device)
-        ⊎ ((result ≡ Err StoreFault.Damaged) ⊎ (result ≡ Err StoreFault.NoMemory))) }
+    ensures reads_only { D.honest → ReadsOnly (D.view disk.old) (D.view disk.new) }
+    ensures failures { CountsDevice (D.failed_calls disk.old) (D.failed_calls disk.new) result }
+    ensures faults { OnlyReadingFaults result }
 {
     let encoding = read_encoding(alloc, disk, slot)?;
     let kernel = state_of(alloc, &encoding)?;

@@ -1,11 +1,11 @@
 //! What a store holds, as it is found.
-ghost use Rattle.std.specs.Prelude.{◌≡◌, ◌⊎◌, ◌+◌, ◌<◌, Err, IfOk, IsErrOf, OnErr, OnOk};
+ghost use Rattle.std.specs.Prelude.{◌≡◌, ◌+◌, ◌<◌, IfOk, IsErrOf, OnOk};
 ghost use Rattle.disk.specs.Moments.{one_more};
-ghost use Rattle.ipc_model.specs.state.State.{State};
-ghost use Rattle.ipc_model.specs.store.Recovery.{IsDamaged, IsOtherVersion, Recovered};
+ghost use Rattle.ipc_model.specs.store.Recovery.{IsDamaged, IsOtherVersion};
 ghost use Rattle.recover.specs.Found.{Reads};
 ghost use Rattle.recover.specs.Headers.{Says};
 ghost use Rattle.recover.specs.Looked.{IsLook};
+ghost use Rattle.recover.specs.Outcomes.{CountsDevice, OnlyOpeningFaults, OnlyReadingFaults, ReadsOnly, StandForNone};
 ghost use Rattle.recover.specs.Surveyed.{FitsNext, IsInUse, IsUnused};
 ghost use Rattle.snapshot.specs.Snapshots.{snapshot_of};
 ghost use Rattle.store_layout.specs.Standing.{as_written};
@@ -36,13 +36,10 @@ fn look_new<D: Disk>(alloc: Global, disk: &mut D, segment0: Header) -> Result<Ke
     requires unused { D.honest → IsUnused (D.view disk.old).seen }
     requires says { D.honest → Says 16 (D.view disk.old).seen.segment0 segment0 }
     ensures reads { D.honest → IfOk result (Reads (D.view disk.old).seen 0 0) }
-    ensures damaged { D.honest → IsErrOf result StoreFault.Damaged → (state : State)
-        → Recovered (as_written (D.view disk.old).seen) state → ⊥ }
-    ensures seen { D.honest → (D.view disk.new).seen ≡ (D.view disk.old).seen }
-    ensures quiet { OnOk result (D.failed_calls disk.new ≡ D.failed_calls disk.old) }
-    ensures device { IsErrOf result StoreFault.Device → D.failed_calls disk.new ≡ one_more (D.failed_calls disk.old) }
-    ensures faults { OnErr result ((result ≡ Err StoreFault.Device)
-        ⊎ ((result ≡ Err StoreFault.Damaged) ⊎ (result ≡ Err StoreFault.NoMemory))) }
+    ensures damaged { D.honest → IsErrOf result StoreFault.Damaged → StandForNone (D.view disk.old).seen }
+    ensures reads_only { D.honest → ReadsOnly (D.view disk.old) (D.view disk.new) }
+    ensures failures { CountsDevice (D.failed_calls disk.old) (D.failed_calls disk.new) result }
+    ensures faults { OnlyReadingFaults result }
 {
     have_no_batch(disk, segment0)?;
     let kernel = Kernel::opening(alloc)?;
@@ -59,13 +56,10 @@ fn look_in_use<D: Disk>(
     requires used { D.honest → IsInUse (D.view disk.old).seen epoch follows }
     requires fits { FitsNext (Survey.InUse epoch follows) }
     ensures reads { D.honest → IfOk result (λ r. Reads (D.view disk.old).seen epoch r.1 r.0) }
-    ensures damaged { D.honest → IsErrOf result StoreFault.Damaged → (state : State)
-        → Recovered (as_written (D.view disk.old).seen) state → ⊥ }
-    ensures seen { D.honest → (D.view disk.new).seen ≡ (D.view disk.old).seen }
-    ensures quiet { OnOk result (D.failed_calls disk.new ≡ D.failed_calls disk.old) }
-    ensures device { IsErrOf result StoreFault.Device → D.failed_calls disk.new ≡ one_more (D.failed_calls disk.old) }
-    ensures faults { OnErr result ((result ≡ Err StoreFault.Device)
-        ⊎ ((result ≡ Err StoreFault.Damaged) ⊎ (result ≡ Err StoreFault.NoMemory))) }
+    ensures damaged { D.honest → IsErrOf result StoreFault.Damaged → StandForNone (D.view disk.old).seen }
+    ensures reads_only { D.honest → ReadsOnly (D.view disk.old) (D.view disk.new) }
+    ensures failures { CountsDevice (D.failed_calls disk.old) (D.failed_calls disk.new) result }
+    ensures faults { OnlyReadingFaults result }
 {
     let (kernel, first, _) = read_epoch(alloc, disk, epoch)?;
     if !follows {
@@ -82,8 +76,7 @@ fn find<D: Disk>(alloc: Global, disk: &mut D) -> Result<(u64, u64, Kernel), Stor
     ensures version { D.honest → IsErrOf result StoreFault.Version
         → IsOtherVersion (as_written (D.view disk.old).seen) }
     ensures damaged { D.honest → IsErrOf result StoreFault.Damaged → IsDamaged (as_written (D.view disk.old).seen) }
-    ensures faults { OnErr result ((result ≡ Err StoreFault.Device) ⊎ ((result ≡ Err StoreFault.Damaged)
-        ⊎ ((result ≡ Err StoreFault.NoMemory) ⊎ (result ≡ Err StoreFault.Version)))) }
+    ensures faults { OnlyOpeningFaults result }
     ensures quiet { OnOk result (D.failed_calls disk.new ≡ D.failed_calls disk.old) }
     ensures device { IsErrOf result StoreFault.Device → D.failed_calls disk.new ≡ one_more (D.failed_calls disk.old) }
 {
@@ -119,8 +112,7 @@ pub fn look<D: Disk>(alloc: Global, disk: &mut D) -> Result<Looked, StoreFault>
     ensures version { D.honest → IsErrOf result StoreFault.Version
         → IsOtherVersion (as_written (D.view disk.old).seen) }
     ensures damaged { D.honest → IsErrOf result StoreFault.Damaged → IsDamaged (as_written (D.view disk.old).seen) }
-    ensures faults { OnErr result ((result ≡ Err StoreFault.Device) ⊎ ((result ≡ Err StoreFault.Damaged)
-        ⊎ ((result ≡ Err StoreFault.NoMemory) ⊎ (result ≡ Err StoreFault.Version)))) }
+    ensures faults { OnlyOpeningFaults result }
     ensures quiet { OnOk result (D.failed_calls disk.new ≡ D.failed_calls disk.old) }
     ensures device { IsErrOf result StoreFault.Device → D.failed_calls disk.new ≡ one_more (D.failed_calls disk.old) }
 {

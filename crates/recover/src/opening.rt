@@ -1,4 +1,4 @@
-ghost use Rattle.std.specs.Prelude.{◌≡◌, ◌≢◌, ◌⊎◌, ◌+◌, ◌<◌, ◌^◌, true, false, Err, IfOk, IfErr, IsErrOf, OnErr, OnOk};
+ghost use Rattle.std.specs.Prelude.{◌≡◌, ◌≢◌, ◌⊎◌, ◌+◌, ◌<◌, ◌^◌, true, false, Err, IfOk, IfErr, IsErrOf, OnOk};
 ghost use Rattle.checkpoint.specs.Images.{open_image, unwritten};
 ghost use Rattle.disk.specs.Slots.{Slots};
 ghost use Rattle.disk.specs.Moments.{CountsFailure, MayLeave, Passes, one_more};
@@ -8,7 +8,8 @@ ghost use Rattle.ipc_model.specs.encodings.Images.{image_encoding};
 ghost use Rattle.recover.specs.AtRest.{IsAtRest};
 ghost use Rattle.recover.specs.Headers.{SayAll, Says};
 ghost use Rattle.recover.specs.Kept.{IsKept};
-ghost use Rattle.recover.specs.Crashing.{HaveLastGates, LeavesSame, StandForSame};
+ghost use Rattle.recover.specs.Crashing.{HaveLastGates, LeavesSame};
+ghost use Rattle.recover.specs.Outcomes.{CountsDevice, OnlyOpeningFaults, OnlyReadingFaults, Opens, StandForNone, StandsForSameSince};
 ghost use Rattle.recover.specs.Surveyed.{IsInUse, IsUnused};
 ghost use Rattle.store_layout.specs.Standing.{as_written};
 
@@ -76,8 +77,7 @@ fn write_first<D: Disk, T: Drop>(
     requires new { D.honest → IsNew (as_written (D.view disk.old).seen) }
     ensures value { IfOk result (λ r. r.0 ≡ value) }
     ensures kept { D.honest → IfOk result (λ r. IsKept (D.view disk.new) r.1 opening_state) }
-    ensures any_moment { D.honest → HaveLastGates (D.view disk.old).seen
-        → Passes (D.view disk.old) (D.view disk.new) (StandForSame (D.view disk.old).seen) }
+    ensures any_moment { D.honest → StandsForSameSince (D.view disk.old) (D.view disk.new) }
     ensures failures { CountsFailure (D.failed_calls disk.old) (D.failed_calls disk.new) result }
 {
     let segment = make_segment(disk, 0)?;
@@ -94,22 +94,11 @@ fn begin<D: Disk>(
     requires rest { D.honest → IsAtRest (D.view disk.old) }
     requires unused { D.honest → IsUnused (D.view disk.old).seen }
     requires says { D.honest → Says 16 (D.view disk.old).seen.segment0 segment0 }
-    ensures state { D.honest → IfOk result (λ r. Recovered (as_written (D.view disk.old).seen) r.0) }
-    ensures kept { D.honest → IfOk result (λ r. IsKept (D.view disk.new) r.1 r.0) }
-    ensures damaged { D.honest → IsErrOf result StoreFault.Damaged → (state : State)
-        → Recovered (as_written (D.view disk.old).seen) state → ⊥ }
-    ensures unchanged { D.honest → OnErr result
-        ((result ≡ Err StoreFault.Device) ⊎ ((D.view disk.new).seen ≡ (D.view disk.old).seen)) }
-    ensures untouched { D.honest → OnErr result ((result ≡ Err StoreFault.Device)
-        ⊎ Passes (D.view disk.old) (D.view disk.new) (MayLeave (D.view disk.old))) }
-    ensures any_moment { D.honest → HaveLastGates (D.view disk.old).seen
-        → Passes (D.view disk.old) (D.view disk.new) (StandForSame (D.view disk.old).seen) }
-    ensures quiet { OnOk result (D.failed_calls disk.new ≡ D.failed_calls disk.old) }
-    ensures still { OnErr result ((result ≡ Err StoreFault.Device)
-        ⊎ (D.failed_calls disk.new ≡ D.failed_calls disk.old)) }
-    ensures device { IsErrOf result StoreFault.Device → D.failed_calls disk.new ≡ one_more (D.failed_calls disk.old) }
-    ensures faults { OnErr result ((result ≡ Err StoreFault.Device)
-        ⊎ ((result ≡ Err StoreFault.Damaged) ⊎ (result ≡ Err StoreFault.NoMemory))) }
+    ensures opened { D.honest → Opens (D.view disk.old) (D.view disk.new) result }
+    ensures damaged { D.honest → IsErrOf result StoreFault.Damaged → StandForNone (D.view disk.old).seen }
+    ensures any_moment { D.honest → StandsForSameSince (D.view disk.old) (D.view disk.new) }
+    ensures failures { CountsDevice (D.failed_calls disk.old) (D.failed_calls disk.new) result }
+    ensures faults { OnlyReadingFaults result }
 {
     have_no_batch(disk, segment0)?;
     let kernel = Kernel::opening(alloc)?;
@@ -122,22 +111,11 @@ fn begin<D: Disk>(
 fn go_on<D: Disk>(alloc: Global, disk: &mut D, epoch: u64) -> Result<(Kernel, Segment), StoreFault>
     requires rest { D.honest → IsAtRest (D.view disk.old) }
     requires used { D.honest → IsInUse (D.view disk.old).seen epoch false }
-    ensures state { D.honest → IfOk result (λ r. Recovered (as_written (D.view disk.old).seen) r.0) }
-    ensures kept { D.honest → IfOk result (λ r. IsKept (D.view disk.new) r.1 r.0) }
-    ensures damaged { D.honest → IsErrOf result StoreFault.Damaged → (state : State)
-        → Recovered (as_written (D.view disk.old).seen) state → ⊥ }
-    ensures unchanged { D.honest → OnErr result
-        ((result ≡ Err StoreFault.Device) ⊎ ((D.view disk.new).seen ≡ (D.view disk.old).seen)) }
-    ensures untouched { D.honest → OnErr result ((result ≡ Err StoreFault.Device)
-        ⊎ Passes (D.view disk.old) (D.view disk.new) (MayLeave (D.view disk.old))) }
-    ensures any_moment { D.honest → HaveLastGates (D.view disk.old).seen
-        → Passes (D.view disk.old) (D.view disk.new) (StandForSame (D.view disk.old).seen) }
-    ensures quiet { OnOk result (D.failed_calls disk.new ≡ D.failed_calls disk.old) }
-    ensures still { OnErr result ((result ≡ Err StoreFault.Device)
-        ⊎ (D.failed_calls disk.new ≡ D.failed_calls disk.old)) }
-    ensures device { IsErrOf result StoreFault.Device → D.failed_calls disk.new ≡ one_more (D.failed_calls disk.old) }
-    ensures faults { OnErr result ((result ≡ Err StoreFault.Device)
-        ⊎ ((result ≡ Err StoreFault.Damaged) ⊎ (result ≡ Err StoreFault.NoMemory))) }
+    ensures opened { D.honest → Opens (D.view disk.old) (D.view disk.new) result }
+    ensures damaged { D.honest → IsErrOf result StoreFault.Damaged → StandForNone (D.view disk.old).seen }
+    ensures any_moment { D.honest → StandsForSameSince (D.view disk.old) (D.view disk.new) }
+    ensures failures { CountsDevice (D.failed_calls disk.old) (D.failed_calls disk.new) result }
+    ensures faults { OnlyReadingFaults result }
 {
     let (kernel, records, end) = read_epoch(alloc, disk, epoch)?;
     let kernel = end_after(disk, segment_slot(epoch), end, kernel)?;
@@ -153,22 +131,11 @@ fn go_on_next<D: Disk>(
     requires rest { D.honest → IsAtRest (D.view disk.old) }
     requires used { D.honest → IsInUse (D.view disk.old).seen epoch true }
     requires fits { epoch + 1 < 2 ^ 64 }
-    ensures state { D.honest → IfOk result (λ r. Recovered (as_written (D.view disk.old).seen) r.0) }
-    ensures kept { D.honest → IfOk result (λ r. IsKept (D.view disk.new) r.1 r.0) }
-    ensures damaged { D.honest → IsErrOf result StoreFault.Damaged → (state : State)
-        → Recovered (as_written (D.view disk.old).seen) state → ⊥ }
-    ensures unchanged { D.honest → OnErr result
-        ((result ≡ Err StoreFault.Device) ⊎ ((D.view disk.new).seen ≡ (D.view disk.old).seen)) }
-    ensures untouched { D.honest → OnErr result ((result ≡ Err StoreFault.Device)
-        ⊎ Passes (D.view disk.old) (D.view disk.new) (MayLeave (D.view disk.old))) }
-    ensures any_moment { D.honest → HaveLastGates (D.view disk.old).seen
-        → Passes (D.view disk.old) (D.view disk.new) (StandForSame (D.view disk.old).seen) }
-    ensures quiet { OnOk result (D.failed_calls disk.new ≡ D.failed_calls disk.old) }
-    ensures still { OnErr result ((result ≡ Err StoreFault.Device)
-        ⊎ (D.failed_calls disk.new ≡ D.failed_calls disk.old)) }
-    ensures device { IsErrOf result StoreFault.Device → D.failed_calls disk.new ≡ one_more (D.failed_calls disk.old) }
-    ensures faults { OnErr result ((result ≡ Err StoreFault.Device)
-        ⊎ ((result ≡ Err StoreFault.Damaged) ⊎ (result ≡ Err StoreFault.NoMemory))) }
+    ensures opened { D.honest → Opens (D.view disk.old) (D.view disk.new) result }
+    ensures damaged { D.honest → IsErrOf result StoreFault.Damaged → StandForNone (D.view disk.old).seen }
+    ensures any_moment { D.honest → StandsForSameSince (D.view disk.old) (D.view disk.new) }
+    ensures failures { CountsDevice (D.failed_calls disk.old) (D.failed_calls disk.new) result }
+    ensures faults { OnlyReadingFaults result }
 {
     let (base, _, _) = read_epoch(alloc, disk, epoch)?;
     let (base, image) = with_image(alloc, base, epoch + 1)?;
@@ -209,23 +176,14 @@ fn read_synced<D: Disk>(disk: &mut D) -> Result<Headers, DiskFault>
 
 /// The state that a store stands for, and the segment in use.
 fn load<D: Disk>(alloc: Global, disk: &mut D) -> Result<(Kernel, Segment), StoreFault>
-    ensures state { D.honest → IfOk result (λ r. Recovered (as_written (D.view disk.old).seen) r.0) }
-    ensures kept { D.honest → IfOk result (λ r. IsKept (D.view disk.new) r.1 r.0) }
+    ensures opened { D.honest → Opens (D.view disk.old) (D.view disk.new) result }
     ensures version { D.honest → IsErrOf result StoreFault.Version
         → IsOtherVersion (as_written (D.view disk.old).seen) }
     ensures damaged { D.honest → IsErrOf result StoreFault.Damaged → IsDamaged (as_written (D.view disk.old).seen) }
-    ensures unchanged { D.honest → OnErr result
-        ((result ≡ Err StoreFault.Device) ⊎ ((D.view disk.new).seen ≡ (D.view disk.old).seen)) }
-    ensures untouched { D.honest → OnErr result ((result ≡ Err StoreFault.Device)
-        ⊎ Passes (D.view disk.old) (D.view disk.new) (MayLeave (D.view disk.old))) }
     ensures any_moment { D.honest → HaveLastGates (D.view disk.old).seen
         → Passes (D.view disk.old) (D.view disk.new) (LeavesSame (D.view disk.old)) }
-    ensures quiet { OnOk result (D.failed_calls disk.new ≡ D.failed_calls disk.old) }
-    ensures still { OnErr result ((result ≡ Err StoreFault.Device)
-        ⊎ (D.failed_calls disk.new ≡ D.failed_calls disk.old)) }
-    ensures device { IsErrOf result StoreFault.Device → D.failed_calls disk.new ≡ one_more (D.failed_calls disk.old) }
-    ensures faults { OnErr result ((result ≡ Err StoreFault.Device) ⊎ ((result ≡ Err StoreFault.Damaged)
-        ⊎ ((result ≡ Err StoreFault.NoMemory) ⊎ (result ≡ Err StoreFault.Version)))) }
+    ensures failures { CountsDevice (D.failed_calls disk.old) (D.failed_calls disk.new) result }
+    ensures faults { OnlyOpeningFaults result }
 {
     let headers = read_synced(disk)?;
     match survey_store(&headers)? {

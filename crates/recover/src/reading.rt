@@ -1,5 +1,4 @@
-ghost use Rattle.std.specs.Prelude.{◌≡◌, ◌⊎◌, ◌≤◌, ℕ, List, IfOk, OnOk, OnErr, IsErrOf, drop, length};
-ghost use Rattle.disk.specs.Moments.{one_more, MayLeave, Passes};
+ghost use Rattle.std.specs.Prelude.{◌≡◌, ◌⊎◌, ◌≤◌, ℕ, List, IfOk, OnErr, IsErrOf, drop, length};
 ghost use Rattle.disk.specs.Slots.{slot_of};
 ghost use Rattle.ipc_model.specs.calls.Step.{Run, Step};
 ghost use Rattle.ipc_model.specs.declared.record.Record.{Record};
@@ -8,6 +7,7 @@ ghost use Rattle.ipc_model.specs.store.Store.{EncodesBatches};
 ghost use Rattle.journal.specs.Readers.{place_of};
 ghost use Rattle.journal.specs.Windows.{IsOver};
 ghost use Rattle.recover.specs.Replayed.{Replays, ReplaysAll};
+ghost use Rattle.recover.specs.Outcomes.{CountsDevice, OnlyReadingFaults, ReadsOnly};
 
 use crate::value_after::both;
 use disk::{Disk, Slot};
@@ -48,18 +48,13 @@ fn replay_all<D: Disk>(
 ) -> Result<Kernel, StoreFault>
     requires slot { reader.old.window.slot ≡ slot }
     requires over { D.honest → IsOver (slot_of (D.view disk.old).seen slot) reader.old.window }
-    ensures state { D.honest → IfOk result (λ state.
-        Replays (slot_of (D.view disk.old).seen slot) (place_of reader.old) kernel state reader.new.number reader.new.window.at) }
+    ensures state { D.honest → IfOk result (λ state. Replays (slot_of (D.view disk.old).seen slot) (place_of reader.old)
+        kernel state reader.new.number reader.new.window.at) }
     ensures damaged { D.honest → IsErrOf result StoreFault.Damaged → (state : State) → (count end : ℕ)
         → Replays (slot_of (D.view disk.old).seen slot) (place_of reader.old) kernel state count end → ⊥ }
-    ensures seen { D.honest → (D.view disk.new).seen ≡ (D.view disk.old).seen }
-    ensures time { D.honest → Passes (D.view disk.old) (D.view disk.new) (MayLeave (D.view disk.old)) }
-    ensures quiet { OnOk result (D.failed_calls disk.new ≡ D.failed_calls disk.old) }
-    ensures still { OnErr result ((result ≡ Err StoreFault.Device)
-        ⊎ (D.failed_calls disk.new ≡ D.failed_calls disk.old)) }
-    ensures device { IsErrOf result StoreFault.Device → D.failed_calls disk.new ≡ one_more (D.failed_calls disk.old) }
-    ensures faults { OnErr result ((result ≡ Err StoreFault.Device)
-        ⊎ ((result ≡ Err StoreFault.Damaged) ⊎ (result ≡ Err StoreFault.NoMemory))) }
+    ensures reads_only { D.honest → ReadsOnly (D.view disk.old) (D.view disk.new) }
+    ensures failures { CountsDevice (D.failed_calls disk.old) (D.failed_calls disk.new) result }
+    ensures faults { OnlyReadingFaults result }
 {
     let mut state = kernel;
     loop {
@@ -83,14 +78,9 @@ pub(crate) fn replay_segment<D: Disk>(
     ensures state { D.honest → IfOk result (λ r. ReplaysAll (slot_of (D.view disk.old).seen slot) kernel r.0 r.1 r.2) }
     ensures damaged { D.honest → IsErrOf result StoreFault.Damaged → (records : List Record) → (state : State)
         → EncodesBatches (drop 16 (slot_of (D.view disk.old).seen slot)) records → Run kernel records state → ⊥ }
-    ensures seen { D.honest → (D.view disk.new).seen ≡ (D.view disk.old).seen }
-    ensures time { D.honest → Passes (D.view disk.old) (D.view disk.new) (MayLeave (D.view disk.old)) }
-    ensures quiet { OnOk result (D.failed_calls disk.new ≡ D.failed_calls disk.old) }
-    ensures still { OnErr result ((result ≡ Err StoreFault.Device)
-        ⊎ (D.failed_calls disk.new ≡ D.failed_calls disk.old)) }
-    ensures device { IsErrOf result StoreFault.Device → D.failed_calls disk.new ≡ one_more (D.failed_calls disk.old) }
-    ensures faults { OnErr result ((result ≡ Err StoreFault.Device)
-        ⊎ ((result ≡ Err StoreFault.Damaged) ⊎ (result ≡ Err StoreFault.NoMemory))) }
+    ensures reads_only { D.honest → ReadsOnly (D.view disk.old) (D.view disk.new) }
+    ensures failures { CountsDevice (D.failed_calls disk.old) (D.failed_calls disk.new) result }
+    ensures faults { OnlyReadingFaults result }
 {
     let made = RecordReader::new(alloc, disk, slot, SEGMENT_HEADER as u64, PIECE);
     let (base, mut reader) = both(kernel, made)?;

@@ -1,15 +1,12 @@
-use Rattle.std.proofs.Common.{◌≡◌, ◌⊎◌, ◌%◌, ℕ, Err, IsErrOf, OnErr, OnOk, drop, sym, subst, ◌∙◌}
+use Rattle.std.proofs.Common.{◌%◌, Err, ap, drop, sym, subst, ◌∙◌}
 use Rattle.std.proofs.lemmas.Result.{IfOk-weaker, err_from_is_err_and}
-use Rattle.disk.specs.Moments.{one_more}
 use Rattle.disk.specs.Slots.{Slots, slot_of}
 use Rattle.ipc_model.specs.store.Recovery.{HoldsImage, IsOfEpoch}
 use Rattle.ipc_model.specs.store.Store.{EncodesBatches}
 use Rattle.recover.specs.Replayed.{ReplaysAll}
 use Rattle.slot_steps.specs.Steps.{image_slot, segment_slot}
-use Rattle.store_fault.specs.declared.fault.StoreFault.TheVariants as fault
-use Rattle.recover.proofs.Faults.{none_at_error, none_in_error}
+use Rattle.recover.proofs.Faults.{counts_passed, counts_then, none_in_error, reads_then}
 use Rattle.recover.proofs.Ways.{no_run, reads_one}
-use Rattle.slot_steps.proofs.Moments.{unchanged_then}
 use Rattle.recover.proofs.finding.read_epoch.Goals as goal
 
 pub returns-in_err-base-clause-damaged : goal.returns-in_err-base-clause-damaged
@@ -34,7 +31,7 @@ returns-clause-damaged g c = λ honest told base state records image segment run
     (subst (λ slot. EncodesBatches (drop 16 (slot_of (g.D.Disk.view c.load_image.new.disk).seen slot)) rs)
     (sym c.segment_slot.ensures)
     (subst (λ (d : Slots). EncodesBatches (drop 16 (slot_of d (segment_slot e))) rs)
-    (sym (c.in_ok-base.ensures.seen honest)) encoded)))
+    (sym (c.in_ok-base.ensures.reads_only honest).seen) encoded)))
 
 pub returns-clause-read : goal.returns-clause-read
 returns-clause-read g c = λ honest.
@@ -49,7 +46,7 @@ returns-clause-read g c = λ honest.
     (λ read replays. reads_one first e c.in_ok-base.base read.0 read.1 read.2 own
     (subst (λ slot. ReplaysAll (slot_of first slot) c.in_ok-base.base read.0 read.1 read.2) c.segment_slot.ensures
     (subst (λ (d : Slots). ReplaysAll (slot_of d c.segment_slot.result) c.in_ok-base.base read.0 read.1 read.2)
-    (c.in_ok-base.ensures.seen honest) replays)))
+    (c.in_ok-base.ensures.reads_only honest).seen replays)))
     (c.replay_segment.ensures.state honest)
 
 pub returns-in_err-base-clause-read : goal.returns-in_err-base-clause-read
@@ -57,40 +54,21 @@ returns-in_err-base-clause-read g c =
     λ honest. let p = err_from_is_err_and c.from_residual.result c.from_residual.ensures.1 in
     none_in_error _ c.from_residual.result _ p.1
 
-pub returns-in_err-base-clause-quiet : goal.returns-in_err-base-clause-quiet
-returns-in_err-base-clause-quiet g c =
+pub returns-in_err-base-clause-reads_only : goal.returns-in_err-base-clause-reads_only
+returns-in_err-base-clause-reads_only g c = λ honest. c.load_image.ensures.reads_only honest
+
+pub returns-in_err-base-clause-failures : goal.returns-in_err-base-clause-failures
+returns-in_err-base-clause-failures g c =
     let p = err_from_is_err_and c.from_residual.result c.from_residual.ensures.1 in
-    none_at_error _ c.from_residual.result _ p.1
+    counts_passed _ _ _ c.from_residual.result (p.1 ∙ ap Err p.2) c.in_err-base.ensures.failures
 
-pub returns-in_err-base-clause-seen : goal.returns-in_err-base-clause-seen
-returns-in_err-base-clause-seen g c = λ honest. c.load_image.ensures.seen honest
+pub returns-clause-reads_only : goal.returns-clause-reads_only
+returns-clause-reads_only g c =
+    λ honest. reads_then _ _ _ (c.load_image.ensures.reads_only honest) (c.replay_segment.ensures.reads_only honest)
 
-pub returns-in_err-base-clause-time : goal.returns-in_err-base-clause-time
-returns-in_err-base-clause-time g c = λ honest. c.load_image.ensures.time honest
-
-pub returns-clause-seen : goal.returns-clause-seen
-returns-clause-seen g c = λ honest. c.replay_segment.ensures.seen honest ∙ c.in_ok-base.ensures.seen honest
-
-pub returns-clause-time : goal.returns-clause-time
-returns-clause-time g c =
-    λ honest. unchanged_then _ _ _ (c.load_image.ensures.time honest) (c.replay_segment.ensures.time honest)
-
-pub returns-clause-quiet : goal.returns-clause-quiet
-returns-clause-quiet g c =
-    subst (λ (n : ℕ). OnOk c.replay_segment.result (g.D.Disk.failed_calls c.replay_segment.new.disk ≡ n))
-    c.in_ok-base.ensures.quiet c.replay_segment.ensures.quiet
-
-pub returns-clause-still : goal.returns-clause-still
-returns-clause-still g c =
-    subst (λ (n : ℕ). OnErr c.replay_segment.result
-    ((c.replay_segment.result ≡ Err fault.Device) ⊎ (g.D.Disk.failed_calls c.replay_segment.new.disk ≡ n)))
-    c.in_ok-base.ensures.quiet c.replay_segment.ensures.still
-
-pub returns-clause-device : goal.returns-clause-device
-returns-clause-device g c =
-    subst (λ (n : ℕ). IsErrOf c.replay_segment.result fault.Device
-    → g.D.Disk.failed_calls c.replay_segment.new.disk ≡ one_more n) c.in_ok-base.ensures.quiet
-    c.replay_segment.ensures.device
+pub returns-clause-failures : goal.returns-clause-failures
+returns-clause-failures g c =
+    counts_then _ _ _ c.replay_segment.result c.in_ok-base.ensures.failures.quiet c.replay_segment.ensures.failures
 
 pub returns-clause-faults : goal.returns-clause-faults
 returns-clause-faults g c = c.replay_segment.ensures.faults

@@ -1,5 +1,6 @@
-use Rattle.std.proofs.Common.{sym, subst, ◌∙◌}
+use Rattle.std.proofs.Common.{ap, sym, subst, ◌∙◌}
 use Rattle.std.proofs.lemmas.Result.{err_from_is_err_and}
+use Rattle.disk.specs.Moments.{one_more}
 use Rattle.disk.specs.Slots.{Slots}
 use Rattle.ipc_model.specs.store.Recovery.{Recovered}
 use Rattle.recover.specs.Found.{Reads}
@@ -112,7 +113,7 @@ returns-in_err-kernel-in-New-clause-quiet g c =
 
 pub returns-in_err-kernel-in-New-clause-seen : goal.returns-in_err-kernel-in-New-clause-seen
 returns-in_err-kernel-in-New-clause-seen g c =
-    λ honest. c.look_new.ensures.seen honest ∙ c.in_ok-headers.ensures.seen honest
+    λ honest. (c.look_new.ensures.reads_only honest).seen ∙ c.in_ok-headers.ensures.seen honest
 
 pub returns-in_err-kernel-in-InUse-clause-reads : goal.returns-in_err-kernel-in-InUse-clause-reads
 returns-in_err-kernel-in-InUse-clause-reads g c =
@@ -128,12 +129,36 @@ returns-in_err-kernel-in-InUse-clause-quiet g c =
 
 pub returns-in_err-kernel-in-InUse-clause-seen : goal.returns-in_err-kernel-in-InUse-clause-seen
 returns-in_err-kernel-in-InUse-clause-seen g c =
-    λ honest. c.look_in_use.ensures.seen honest ∙ c.in_ok-headers.ensures.seen honest
+    λ honest. (c.look_in_use.ensures.reads_only honest).seen ∙ c.in_ok-headers.ensures.seen honest
 
 pub returns-in_ok-kernel-in-New-clause-seen : goal.returns-in_ok-kernel-in-New-clause-seen
 returns-in_ok-kernel-in-New-clause-seen g c =
-    λ honest. c.look_new.ensures.seen honest ∙ c.in_ok-headers.ensures.seen honest
+    λ honest. (c.look_new.ensures.reads_only honest).seen ∙ c.in_ok-headers.ensures.seen honest
 
 pub returns-in_ok-kernel-in-InUse-clause-seen : goal.returns-in_ok-kernel-in-InUse-clause-seen
 returns-in_ok-kernel-in-InUse-clause-seen g c =
-    λ honest. c.look_in_use.ensures.seen honest ∙ c.in_ok-headers.ensures.seen honest
+    λ honest. (c.look_in_use.ensures.reads_only honest).seen ∙ c.in_ok-headers.ensures.seen honest
+
+pub returns-in_err-kernel-in-New-clause-device : goal.returns-in_err-kernel-in-New-clause-device
+returns-in_err-kernel-in-New-clause-device g c = λ told.
+    let p =
+    err_from_is_err_and c.from_residual-in_err-kernel-in-New.result c.from_residual-in_err-kernel-in-New.ensures.1
+    in
+    c.in_err-kernel-in-New.ensures.failures.device (cc (p.1, p.2, told))
+    ∙ ap one_more c.in_ok-headers.ensures.failures.ok
+
+pub returns-in_err-kernel-in-InUse-clause-device : goal.returns-in_err-kernel-in-InUse-clause-device
+returns-in_err-kernel-in-InUse-clause-device g c = λ told.
+    let p =
+    err_from_is_err_and c.from_residual-in_err-kernel-in-InUse.result
+    c.from_residual-in_err-kernel-in-InUse.ensures.1 in
+    c.in_err-kernel-in-InUse.ensures.failures.device (cc (p.1, p.2, told))
+    ∙ ap one_more c.in_ok-headers.ensures.failures.ok
+
+pub returns-in_ok-kernel-in-New-clause-quiet : goal.returns-in_ok-kernel-in-New-clause-quiet
+returns-in_ok-kernel-in-New-clause-quiet g c =
+    c.in_ok-kernel-in-New.ensures.failures.quiet ∙ c.in_ok-headers.ensures.failures.ok
+
+pub returns-in_ok-kernel-in-InUse-clause-quiet : goal.returns-in_ok-kernel-in-InUse-clause-quiet
+returns-in_ok-kernel-in-InUse-clause-quiet g c =
+    c.in_ok-kernel-in-InUse.ensures.failures.quiet ∙ c.in_ok-headers.ensures.failures.ok

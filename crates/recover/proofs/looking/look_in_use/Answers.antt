@@ -1,4 +1,4 @@
-use Rattle.std.proofs.Common.{◌+◌, ℕ, drop, sym, subst, arith, ◌∙◌}
+use Rattle.std.proofs.Common.{◌+◌, ℕ, Err, ap, drop, sym, subst, arith, ◌∙◌}
 use Rattle.std.proofs.lemmas.Result.{err_from_is_err_and}
 use Rattle.disk.specs.Slots.{Slots, slot_of}
 use Rattle.ipc_model.specs.store.Store.{EncodesBatches}
@@ -7,7 +7,7 @@ use Rattle.recover.specs.Replayed.{ReplaysAll}
 use Rattle.recover.specs.Surveyed.{IsInUse as Uses}
 use Rattle.slot_steps.specs.Steps.{segment_slot}
 use Rattle.recover.proofs.Ways.{next_damaged, one_reads, read_damaged, two_few, two_reads}
-use Rattle.recover.proofs.Faults.{none_at_error, none_in_error}
+use Rattle.recover.proofs.Faults.{counts_ok, counts_passed, counts_then, none_in_error, reads_then}
 use Rattle.recover.proofs.looking.look_in_use.Goals as goal
 
 pub returns-in_err-kernel-clause-damaged : goal.returns-in_err-kernel-clause-damaged
@@ -34,7 +34,7 @@ returns-in_err-kernel-2-clause-damaged g c = λ honest told.
     (subst (λ slot. EncodesBatches (drop 16 (slot_of (g.D.Disk.view c.read_epoch.new.disk).seen slot)) rs)
     (sym c.segment_slot.ensures)
     (subst (λ (d : Slots). EncodesBatches (drop 16 (slot_of d (segment_slot (e + 1)))) rs)
-    (sym (c.in_ok-kernel.ensures.seen honest)) encoded)))
+    (sym (c.in_ok-kernel.ensures.reads_only honest).seen) encoded)))
 
 pub returns-clause-reads : goal.returns-clause-reads
 returns-clause-reads g c = λ honest.
@@ -46,7 +46,7 @@ returns-clause-reads g c = λ honest.
     let replays =
     subst (λ slot. ReplaysAll (slot_of seen slot) mid next.kernel next.next next.field-0-2) c.segment_slot.ensures
     (subst (λ (d : Slots). ReplaysAll (slot_of d c.segment_slot.result) mid next.kernel next.next next.field-0-2)
-    (c.in_ok-kernel.ensures.seen honest) (next.ensures.state honest)) in
+    (c.in_ok-kernel.ensures.reads_only honest).seen (next.ensures.state honest)) in
     let few =
     two_few seen e mid next.kernel c.in_ok-kernel.first c.in_ok-kernel.field-0-2 next.next next.field-0-2
     (c.in_ok-kernel.ensures.read honest) replays in
@@ -59,27 +59,39 @@ returns-in_err-kernel-clause-reads g c =
     λ honest. let p = err_from_is_err_and c.from_residual.result c.from_residual.ensures.1 in
     none_in_error _ c.from_residual.result _ p.1
 
-pub returns-in_err-kernel-clause-quiet : goal.returns-in_err-kernel-clause-quiet
-returns-in_err-kernel-clause-quiet g c =
-    let p = err_from_is_err_and c.from_residual.result c.from_residual.ensures.1 in
-    none_at_error _ c.from_residual.result _ p.1
-
-pub returns-in_err-kernel-clause-seen : goal.returns-in_err-kernel-clause-seen
-returns-in_err-kernel-clause-seen g c = λ honest. c.read_epoch.ensures.seen honest
-
 pub returns-in_err-kernel-2-clause-reads : goal.returns-in_err-kernel-2-clause-reads
 returns-in_err-kernel-2-clause-reads g c =
     λ honest. let p = err_from_is_err_and c.from_residual-in_err-kernel-2.result
     c.from_residual-in_err-kernel-2.ensures.1 in none_in_error _ c.from_residual-in_err-kernel-2.result _ p.1
 
-pub returns-in_err-kernel-2-clause-quiet : goal.returns-in_err-kernel-2-clause-quiet
-returns-in_err-kernel-2-clause-quiet g c =
+pub returns-in_err-kernel-clause-reads_only : goal.returns-in_err-kernel-clause-reads_only
+returns-in_err-kernel-clause-reads_only g c = λ honest. c.read_epoch.ensures.reads_only honest
+
+pub returns-in_err-kernel-clause-failures : goal.returns-in_err-kernel-clause-failures
+returns-in_err-kernel-clause-failures g c =
+    let p = err_from_is_err_and c.from_residual.result c.from_residual.ensures.1 in
+    counts_passed _ _ _ c.from_residual.result (p.1 ∙ ap Err p.2) c.in_err-kernel.ensures.failures
+
+pub returns-then-not-follows-clause-reads_only : goal.returns-then-not-follows-clause-reads_only
+returns-then-not-follows-clause-reads_only g c = λ honest. c.read_epoch.ensures.reads_only honest
+
+pub returns-then-not-follows-clause-failures : goal.returns-then-not-follows-clause-failures
+returns-then-not-follows-clause-failures g c = counts_ok _ _ _ c.in_ok-kernel.ensures.failures.quiet
+
+pub returns-in_err-kernel-2-clause-reads_only : goal.returns-in_err-kernel-2-clause-reads_only
+returns-in_err-kernel-2-clause-reads_only g c =
+    λ honest. reads_then _ _ _ (c.read_epoch.ensures.reads_only honest) (c.replay_segment.ensures.reads_only honest)
+
+pub returns-in_err-kernel-2-clause-failures : goal.returns-in_err-kernel-2-clause-failures
+returns-in_err-kernel-2-clause-failures g c =
     let p = err_from_is_err_and c.from_residual-in_err-kernel-2.result c.from_residual-in_err-kernel-2.ensures.1 in
-    none_at_error _ c.from_residual-in_err-kernel-2.result _ p.1
+    counts_then _ _ _ c.from_residual-in_err-kernel-2.result c.in_ok-kernel.ensures.failures.quiet
+    (counts_passed _ _ _ c.from_residual-in_err-kernel-2.result (p.1 ∙ ap Err p.2) c.in_err-kernel-2.ensures.failures)
 
-pub returns-in_err-kernel-2-clause-seen : goal.returns-in_err-kernel-2-clause-seen
-returns-in_err-kernel-2-clause-seen g c =
-    λ honest. c.replay_segment.ensures.seen honest ∙ c.in_ok-kernel.ensures.seen honest
+pub returns-clause-reads_only : goal.returns-clause-reads_only
+returns-clause-reads_only g c =
+    λ honest. reads_then _ _ _ (c.read_epoch.ensures.reads_only honest) (c.replay_segment.ensures.reads_only honest)
 
-pub returns-clause-seen : goal.returns-clause-seen
-returns-clause-seen g c = λ honest. c.replay_segment.ensures.seen honest ∙ c.in_ok-kernel.ensures.seen honest
+pub returns-clause-failures : goal.returns-clause-failures
+returns-clause-failures g c =
+    counts_ok _ _ _ (c.in_ok-kernel-2.ensures.failures.quiet ∙ c.in_ok-kernel.ensures.failures.quiet)

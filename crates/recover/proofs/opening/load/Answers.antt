@@ -1,5 +1,4 @@
-use Rattle.std.proofs.Common.{◌≡◌, ◌⊎◌, ◌∙◌, Err, IfOk, OnErr, OnOk, ap, false, sym, subst, true}
-use Rattle.std.specs.Prelude.{IsErrOf}
+use Rattle.std.proofs.Common.{◌∙◌, Err, ap, false, inl, inr, sym, subst, true}
 use Rattle.std.proofs.lemmas.Result.{err_from_is_err_and}
 use Rattle.disk.specs.Slots.{Slots}
 use Rattle.ipc_model.specs.store.Recovery.{Recovered}
@@ -7,10 +6,8 @@ use Rattle.recover.specs.Headers.{Says}
 use Rattle.recover.specs.Crashing.{HaveLastGates}
 use Rattle.recover.specs.Surveyed.{IsInUse as Uses, IsUnused, Surveys}
 use Rattle.store_layout.specs.Standing.{as_written}
-use Rattle.recover.proofs.Faults.{device_no_damage, never_version, none_at_error, none_in_error, one_of_four, right_err, untouched_then}
-use Rattle.disk.specs.Moments.{one_more}
-use Rattle.store_fault.specs.declared.fault.StoreFault.TheVariants.{Device}
-use Rattle.recover.proofs.Joined.{device_err, leaves_same}
+use Rattle.recover.proofs.Faults.{counts_device, counts_other, counts_then, device_no_damage, never_version, one_of_four, opens_device, opens_nothing, opens_then}
+use Rattle.recover.proofs.Joined.{leaves_same}
 use Rattle.recover.proofs.opening.load.Goals as goal
 
 pub returns-in_err-survey_store-clause-damaged : goal.returns-in_err-survey_store-clause-damaged
@@ -119,170 +116,65 @@ returns-in-InUse-default-false-clause-version g c =
 pub returns-in-InUse-default-false-clause-faults : goal.returns-in-InUse-default-false-clause-faults
 returns-in-InUse-default-false-clause-faults g c = one_of_four c.go_on.result c.go_on.ensures.faults
 
-pub returns-in-New-clause-state : goal.returns-in-New-clause-state
-returns-in-New-clause-state g c =
-    λ honest. subst (λ (s : Slots). IfOk c.begin.result (λ r. Recovered (as_written s) r.0))
-    (c.in_ok-headers.ensures.seen honest) (c.begin.ensures.state honest)
-
-pub returns-in-New-clause-kept : goal.returns-in-New-clause-kept
-returns-in-New-clause-kept g c = c.begin.ensures.kept
-
-pub returns-in-New-clause-unchanged : goal.returns-in-New-clause-unchanged
-returns-in-New-clause-unchanged g c =
-    λ honest. subst (λ (s : Slots). OnErr c.begin.result
-    ((c.begin.result ≡ Err Device) ⊎ ((g.D.Disk.view c.begin.new.disk).seen ≡ s)))
-    (c.in_ok-headers.ensures.seen honest) (c.begin.ensures.unchanged honest)
-
-pub returns-in-New-clause-untouched : goal.returns-in-New-clause-untouched
-returns-in-New-clause-untouched g c =
-    λ honest. untouched_then c.begin.result (g.D.Disk.view c.args.disk.now) (g.D.Disk.view c.read_synced.new.disk)
-    (g.D.Disk.view c.begin.new.disk) (c.read_synced.ensures.time honest) (c.begin.ensures.untouched honest)
-
-pub returns-in-New-clause-quiet : goal.returns-in-New-clause-quiet
-returns-in-New-clause-quiet g c =
-    subst (λ n. OnOk c.begin.result (g.D.Disk.failed_calls c.begin.new.disk ≡ n)) c.in_ok-headers.ensures.failures.ok
-    c.begin.ensures.quiet
-
-pub returns-in-New-clause-still : goal.returns-in-New-clause-still
-returns-in-New-clause-still g c =
-    subst (λ n. OnErr c.begin.result ((c.begin.result ≡ Err Device) ⊎ (g.D.Disk.failed_calls c.begin.new.disk ≡ n)))
-    c.in_ok-headers.ensures.failures.ok c.begin.ensures.still
-
-pub returns-in-New-clause-device : goal.returns-in-New-clause-device
-returns-in-New-clause-device g c =
-    subst (λ n. IsErrOf c.begin.result Device → g.D.Disk.failed_calls c.begin.new.disk ≡ one_more n)
-    c.in_ok-headers.ensures.failures.ok c.begin.ensures.device
-
-pub returns-in-InUse-default-true-clause-state : goal.returns-in-InUse-default-true-clause-state
-returns-in-InUse-default-true-clause-state g c =
-    λ honest. subst (λ (s : Slots). IfOk c.go_on_next.result (λ r. Recovered (as_written s) r.0))
-    (c.in_ok-headers.ensures.seen honest) (c.go_on_next.ensures.state honest)
-
-pub returns-in-InUse-default-true-clause-kept : goal.returns-in-InUse-default-true-clause-kept
-returns-in-InUse-default-true-clause-kept g c = c.go_on_next.ensures.kept
-
-pub returns-in-InUse-default-true-clause-unchanged : goal.returns-in-InUse-default-true-clause-unchanged
-returns-in-InUse-default-true-clause-unchanged g c =
-    λ honest. subst (λ (s : Slots). OnErr c.go_on_next.result
-    ((c.go_on_next.result ≡ Err Device) ⊎ ((g.D.Disk.view c.go_on_next.new.disk).seen ≡ s)))
-    (c.in_ok-headers.ensures.seen honest) (c.go_on_next.ensures.unchanged honest)
-
-pub returns-in-InUse-default-true-clause-untouched : goal.returns-in-InUse-default-true-clause-untouched
-returns-in-InUse-default-true-clause-untouched g c =
-    λ honest. untouched_then c.go_on_next.result (g.D.Disk.view c.args.disk.now) (g.D.Disk.view c.read_synced.new.disk)
-    (g.D.Disk.view c.go_on_next.new.disk) (c.read_synced.ensures.time honest)
-    (c.go_on_next.ensures.untouched honest)
-
-pub returns-in-InUse-default-true-clause-quiet : goal.returns-in-InUse-default-true-clause-quiet
-returns-in-InUse-default-true-clause-quiet g c =
-    subst (λ n. OnOk c.go_on_next.result (g.D.Disk.failed_calls c.go_on_next.new.disk ≡ n))
-    c.in_ok-headers.ensures.failures.ok c.go_on_next.ensures.quiet
-
-pub returns-in-InUse-default-true-clause-still : goal.returns-in-InUse-default-true-clause-still
-returns-in-InUse-default-true-clause-still g c =
-    subst (λ n. OnErr c.go_on_next.result
-    ((c.go_on_next.result ≡ Err Device) ⊎ (g.D.Disk.failed_calls c.go_on_next.new.disk ≡ n)))
-    c.in_ok-headers.ensures.failures.ok c.go_on_next.ensures.still
-
-pub returns-in-InUse-default-true-clause-device : goal.returns-in-InUse-default-true-clause-device
-returns-in-InUse-default-true-clause-device g c =
-    subst (λ n. IsErrOf c.go_on_next.result Device → g.D.Disk.failed_calls c.go_on_next.new.disk ≡ one_more n)
-    c.in_ok-headers.ensures.failures.ok c.go_on_next.ensures.device
-
-pub returns-in-InUse-default-false-clause-state : goal.returns-in-InUse-default-false-clause-state
-returns-in-InUse-default-false-clause-state g c =
-    λ honest. subst (λ (s : Slots). IfOk c.go_on.result (λ r. Recovered (as_written s) r.0))
-    (c.in_ok-headers.ensures.seen honest) (c.go_on.ensures.state honest)
-
-pub returns-in-InUse-default-false-clause-kept : goal.returns-in-InUse-default-false-clause-kept
-returns-in-InUse-default-false-clause-kept g c = c.go_on.ensures.kept
-
-pub returns-in-InUse-default-false-clause-unchanged : goal.returns-in-InUse-default-false-clause-unchanged
-returns-in-InUse-default-false-clause-unchanged g c =
-    λ honest. subst (λ (s : Slots). OnErr c.go_on.result
-    ((c.go_on.result ≡ Err Device) ⊎ ((g.D.Disk.view c.go_on.new.disk).seen ≡ s)))
-    (c.in_ok-headers.ensures.seen honest) (c.go_on.ensures.unchanged honest)
-
-pub returns-in-InUse-default-false-clause-untouched : goal.returns-in-InUse-default-false-clause-untouched
-returns-in-InUse-default-false-clause-untouched g c =
-    λ honest. untouched_then c.go_on.result (g.D.Disk.view c.args.disk.now) (g.D.Disk.view c.read_synced.new.disk)
-    (g.D.Disk.view c.go_on.new.disk) (c.read_synced.ensures.time honest) (c.go_on.ensures.untouched honest)
-
-pub returns-in-InUse-default-false-clause-quiet : goal.returns-in-InUse-default-false-clause-quiet
-returns-in-InUse-default-false-clause-quiet g c =
-    subst (λ n. OnOk c.go_on.result (g.D.Disk.failed_calls c.go_on.new.disk ≡ n)) c.in_ok-headers.ensures.failures.ok
-    c.go_on.ensures.quiet
-
-pub returns-in-InUse-default-false-clause-still : goal.returns-in-InUse-default-false-clause-still
-returns-in-InUse-default-false-clause-still g c =
-    subst (λ n. OnErr c.go_on.result ((c.go_on.result ≡ Err Device) ⊎ (g.D.Disk.failed_calls c.go_on.new.disk ≡ n)))
-    c.in_ok-headers.ensures.failures.ok c.go_on.ensures.still
-
-pub returns-in-InUse-default-false-clause-device : goal.returns-in-InUse-default-false-clause-device
-returns-in-InUse-default-false-clause-device g c =
-    subst (λ n. IsErrOf c.go_on.result Device → g.D.Disk.failed_calls c.go_on.new.disk ≡ one_more n)
-    c.in_ok-headers.ensures.failures.ok c.go_on.ensures.device
-
-pub returns-in_err-headers-clause-state : goal.returns-in_err-headers-clause-state
-returns-in_err-headers-clause-state g c =
-    λ honest. let p = err_from_is_err_and c.from_residual.result c.from_residual.ensures.1 in
-    none_in_error _ c.from_residual.result _ p.1
-
-pub returns-in_err-headers-clause-kept : goal.returns-in_err-headers-clause-kept
-returns-in_err-headers-clause-kept g c =
-    λ honest. let p = err_from_is_err_and c.from_residual.result c.from_residual.ensures.1 in
-    none_in_error _ c.from_residual.result _ p.1
-
-pub returns-in_err-headers-clause-quiet : goal.returns-in_err-headers-clause-quiet
-returns-in_err-headers-clause-quiet g c =
-    let p = err_from_is_err_and c.from_residual.result c.from_residual.ensures.1 in
-    none_at_error _ c.from_residual.result _ p.1
-
-pub returns-in_err-survey_store-clause-state : goal.returns-in_err-survey_store-clause-state
-returns-in_err-survey_store-clause-state g c =
-    λ honest. let p = err_from_is_err_and c.from_residual-in_err-survey_store.result
-    c.from_residual-in_err-survey_store.ensures.1 in
-    none_in_error _ c.from_residual-in_err-survey_store.result _ p.1
-
-pub returns-in_err-survey_store-clause-kept : goal.returns-in_err-survey_store-clause-kept
-returns-in_err-survey_store-clause-kept g c =
-    λ honest. let p = err_from_is_err_and c.from_residual-in_err-survey_store.result
-    c.from_residual-in_err-survey_store.ensures.1 in
-    none_in_error _ c.from_residual-in_err-survey_store.result _ p.1
-
-pub returns-in_err-survey_store-clause-quiet : goal.returns-in_err-survey_store-clause-quiet
-returns-in_err-survey_store-clause-quiet g c =
-    let p = err_from_is_err_and c.from_residual-in_err-survey_store.result c.from_residual-in_err-survey_store.ensures.1
-    in none_at_error _ c.from_residual-in_err-survey_store.result _ p.1
-
 pub returns-in_err-headers-clause-damaged : goal.returns-in_err-headers-clause-damaged
 returns-in_err-headers-clause-damaged g c =
     λ honest told. let p = err_from_is_err_and c.from_residual.result c.from_residual.ensures.1 in
     absurd (device_no_damage c.from_residual.result (p.1 ∙ ap Err p.2) told)
 
-pub returns-in_err-headers-clause-unchanged : goal.returns-in_err-headers-clause-unchanged
-returns-in_err-headers-clause-unchanged g c =
-    λ honest. let p = err_from_is_err_and c.from_residual.result c.from_residual.ensures.1 in
-    device_err _ c.from_residual.result _ (p.1 ∙ ap Err p.2)
+pub returns-in-New-clause-opened : goal.returns-in-New-clause-opened
+returns-in-New-clause-opened g c = λ honest.
+    opens_then _ _ _ c.begin.result
+    (record { seen = c.in_ok-headers.ensures.seen honest; time = c.read_synced.ensures.time honest })
+    (c.begin.ensures.opened honest)
 
-pub returns-in_err-headers-clause-untouched : goal.returns-in_err-headers-clause-untouched
-returns-in_err-headers-clause-untouched g c =
-    λ honest. let p = err_from_is_err_and c.from_residual.result c.from_residual.ensures.1 in
-    device_err _ c.from_residual.result _ (p.1 ∙ ap Err p.2)
+pub returns-in-New-clause-failures : goal.returns-in-New-clause-failures
+returns-in-New-clause-failures g c =
+    counts_then _ _ _ c.begin.result c.in_ok-headers.ensures.failures.ok c.begin.ensures.failures
 
-pub returns-in_err-headers-clause-still : goal.returns-in_err-headers-clause-still
-returns-in_err-headers-clause-still g c =
+pub returns-in-InUse-default-true-clause-opened : goal.returns-in-InUse-default-true-clause-opened
+returns-in-InUse-default-true-clause-opened g c = λ honest.
+    opens_then _ _ _ c.go_on_next.result
+    (record { seen = c.in_ok-headers.ensures.seen honest; time = c.read_synced.ensures.time honest })
+    (c.go_on_next.ensures.opened honest)
+
+pub returns-in-InUse-default-true-clause-failures : goal.returns-in-InUse-default-true-clause-failures
+returns-in-InUse-default-true-clause-failures g c =
+    counts_then _ _ _ c.go_on_next.result c.in_ok-headers.ensures.failures.ok c.go_on_next.ensures.failures
+
+pub returns-in-InUse-default-false-clause-opened : goal.returns-in-InUse-default-false-clause-opened
+returns-in-InUse-default-false-clause-opened g c = λ honest.
+    opens_then _ _ _ c.go_on.result
+    (record { seen = c.in_ok-headers.ensures.seen honest; time = c.read_synced.ensures.time honest })
+    (c.go_on.ensures.opened honest)
+
+pub returns-in-InUse-default-false-clause-failures : goal.returns-in-InUse-default-false-clause-failures
+returns-in-InUse-default-false-clause-failures g c =
+    counts_then _ _ _ c.go_on.result c.in_ok-headers.ensures.failures.ok c.go_on.ensures.failures
+
+pub returns-in_err-headers-clause-opened : goal.returns-in_err-headers-clause-opened
+returns-in_err-headers-clause-opened g c = λ honest.
     let p = err_from_is_err_and c.from_residual.result c.from_residual.ensures.1 in
-    device_err _ c.from_residual.result _ (p.1 ∙ ap Err p.2)
+    opens_device _ _ c.from_residual.result (p.1 ∙ ap Err p.2)
 
-pub returns-in_err-survey_store-clause-unchanged : goal.returns-in_err-survey_store-clause-unchanged
-returns-in_err-survey_store-clause-unchanged g c =
-    λ honest. right_err _ _ c.from_residual-in_err-survey_store.result (c.in_ok-headers.ensures.seen honest)
+pub returns-in_err-headers-clause-failures : goal.returns-in_err-headers-clause-failures
+returns-in_err-headers-clause-failures g c =
+    let p = err_from_is_err_and c.from_residual.result c.from_residual.ensures.1 in
+    counts_device _ _ c.from_residual.result (p.1 ∙ ap Err p.2) c.in_err-headers.ensures.failures.err
 
-pub returns-in_err-survey_store-clause-untouched : goal.returns-in_err-survey_store-clause-untouched
-returns-in_err-survey_store-clause-untouched g c =
-    λ honest. right_err _ _ c.from_residual-in_err-survey_store.result (c.read_synced.ensures.time honest)
+pub returns-in_err-survey_store-clause-opened : goal.returns-in_err-survey_store-clause-opened
+returns-in_err-survey_store-clause-opened g c = λ honest.
+    let p =
+    err_from_is_err_and c.from_residual-in_err-survey_store.result c.from_residual-in_err-survey_store.ensures.1 in
+    opens_nothing _ _ c.from_residual-in_err-survey_store.result _ (p.1 ∙ ap Err p.2)
+    (record { seen = c.in_ok-headers.ensures.seen honest; time = c.read_synced.ensures.time honest })
 
-pub returns-in_err-survey_store-clause-still : goal.returns-in_err-survey_store-clause-still
-returns-in_err-survey_store-clause-still g c =
-    right_err _ _ c.from_residual-in_err-survey_store.result c.in_ok-headers.ensures.failures.ok
+pub returns-in_err-survey_store-clause-failures : goal.returns-in_err-survey_store-clause-failures
+returns-in_err-survey_store-clause-failures g c =
+    let p =
+    err_from_is_err_and c.from_residual-in_err-survey_store.result c.from_residual-in_err-survey_store.ensures.1 in
+    counts_other _ _ c.from_residual-in_err-survey_store.result _ (p.1 ∙ ap Err p.2)
+    (λ told. elim c.in_err-survey_store.ensures.faults [
+      | inl version ↦ cc (version, told)
+      | inr damaged ↦ cc (damaged, told)
+    ])
+    c.in_ok-headers.ensures.failures.ok

@@ -1,4 +1,4 @@
-use Rattle.std.proofs.Common.{◌≡◌, ◌∙◌, sym, subst}
+use Rattle.std.proofs.Common.{◌≡◌, Err, inl, inr, ap, ◌∙◌, sym, subst}
 use Rattle.std.proofs.lemmas.Result.{err_from_is_err_and}
 use Rattle.disk.specs.Slots.{slot_of}
 use Rattle.ipc_model.specs.state.State.{State}
@@ -9,7 +9,7 @@ use Rattle.recover.specs.Replayed.{Replays}
 use Rattle.slot_steps.proofs.Moments.{unchanged_then}
 use Rattle.recover.proofs.Streams.{IsLeft, all_replayed, left_on, none_left, unread}
 use Rattle.recover.proofs.Surveys.{some_is}
-use Rattle.recover.proofs.Faults.{none_at_error, none_in_error}
+use Rattle.recover.proofs.Faults.{counts_ok, counts_other, counts_read, none_in_error}
 use Rattle.recover.proofs.reading.replay_all.Goals as goal
 
 -- nothing is encoded from here on
@@ -96,37 +96,50 @@ loop-now-preserved g c =
       quiet = (rw c.in_ok-now.ensures.ok.1 at c.next-next.ensures.quiet) ∙ inv.quiet;
     }
 
-pub returns-in_default-clause-time : goal.returns-in_default-clause-time
-returns-in_default-clause-time g c =
-    λ honest. unchanged_then (g.D.Disk.view c.args.disk.now) (g.D.Disk.view c.loop-now.disk)
-    (g.D.Disk.view c.next-next.new.disk) (c.loop-now.invariant.time honest) (c.next-next.ensures.time honest)
+pub returns-in_default-clause-reads_only : goal.returns-in_default-clause-reads_only
+returns-in_default-clause-reads_only g c = λ honest. record {
+  seen = c.next-next.ensures.seen honest ∙ c.loop-now.invariant.seen honest;
+  time = unchanged_then _ _ _ (c.loop-now.invariant.time honest) (c.next-next.ensures.time honest);
+}
 
-pub returns-in_err-now-clause-time : goal.returns-in_err-now-clause-time
-returns-in_err-now-clause-time g c =
-    λ honest. unchanged_then (g.D.Disk.view c.args.disk.now) (g.D.Disk.view c.loop-now.disk)
-    (g.D.Disk.view c.next-next.new.disk) (c.loop-now.invariant.time honest) (c.next-next.ensures.time honest)
+pub returns-in_default-clause-failures : goal.returns-in_default-clause-failures
+returns-in_default-clause-failures g c =
+    counts_ok _ _ _ ((rw c.in_ok-now.ensures.ok.1 at c.next-next.ensures.quiet) ∙ c.loop-now.invariant.quiet)
 
-pub returns-in_err-state-clause-time : goal.returns-in_err-state-clause-time
-returns-in_err-state-clause-time g c =
-    λ honest. unchanged_then (g.D.Disk.view c.args.disk.now) (g.D.Disk.view c.loop-now.disk)
-    (g.D.Disk.view c.next-next.new.disk) (c.loop-now.invariant.time honest) (c.next-next.ensures.time honest)
+pub returns-in_err-now-clause-reads_only : goal.returns-in_err-now-clause-reads_only
+returns-in_err-now-clause-reads_only g c = λ honest. record {
+  seen = c.next-next.ensures.seen honest ∙ c.loop-now.invariant.seen honest;
+  time = unchanged_then _ _ _ (c.loop-now.invariant.time honest) (c.next-next.ensures.time honest);
+}
+
+pub returns-in_err-now-clause-failures : goal.returns-in_err-now-clause-failures
+returns-in_err-now-clause-failures g c =
+    let p = err_from_is_err_and c.from_residual.result c.from_residual.ensures.1 in
+    counts_read _ _ _ c.next-next.result _ c.from_residual.result c.loop-now.invariant.quiet c.in_err-now.ensures.err
+    (p.1 ∙ ap Err p.2) c.next-next.ensures.still c.next-next.ensures.device
 
 pub returns-in_err-now-clause-state : goal.returns-in_err-now-clause-state
 returns-in_err-now-clause-state g c =
     λ honest. let p = err_from_is_err_and c.from_residual.result c.from_residual.ensures.1 in
     none_in_error _ c.from_residual.result _ p.1
 
-pub returns-in_err-now-clause-quiet : goal.returns-in_err-now-clause-quiet
-returns-in_err-now-clause-quiet g c =
-    let p = err_from_is_err_and c.from_residual.result c.from_residual.ensures.1 in
-    none_at_error _ c.from_residual.result _ p.1
+pub returns-in_err-state-clause-reads_only : goal.returns-in_err-state-clause-reads_only
+returns-in_err-state-clause-reads_only g c = λ honest. record {
+  seen = c.next-next.ensures.seen honest ∙ c.loop-now.invariant.seen honest;
+  time = unchanged_then _ _ _ (c.loop-now.invariant.time honest) (c.next-next.ensures.time honest);
+}
+
+pub returns-in_err-state-clause-failures : goal.returns-in_err-state-clause-failures
+returns-in_err-state-clause-failures g c =
+    let p = err_from_is_err_and c.from_residual-in_err-state.result c.from_residual-in_err-state.ensures.1 in
+    counts_other _ _ c.from_residual-in_err-state.result _ (p.1 ∙ ap Err p.2)
+    (λ told. elim c.in_err-state.ensures.faults [
+      | inl damaged ↦ cc (damaged, told)
+      | inr memory ↦ cc (memory, told)
+    ])
+    ((rw c.in_ok-now.ensures.ok.1 at c.next-next.ensures.quiet) ∙ c.loop-now.invariant.quiet)
 
 pub returns-in_err-state-clause-state : goal.returns-in_err-state-clause-state
 returns-in_err-state-clause-state g c =
     λ honest. let p = err_from_is_err_and c.from_residual-in_err-state.result c.from_residual-in_err-state.ensures.1 in
     none_in_error _ c.from_residual-in_err-state.result _ p.1
-
-pub returns-in_err-state-clause-quiet : goal.returns-in_err-state-clause-quiet
-returns-in_err-state-clause-quiet g c =
-    let p = err_from_is_err_and c.from_residual-in_err-state.result c.from_residual-in_err-state.ensures.1 in
-    none_at_error _ c.from_residual-in_err-state.result _ p.1

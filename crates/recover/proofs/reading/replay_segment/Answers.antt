@@ -3,7 +3,7 @@ use Rattle.std.proofs.lemmas.Result.{err_from_is_err_and}
 use Rattle.disk.specs.Slots.{slot_of}
 use Rattle.journal.specs.Reading.{Place}
 use Rattle.recover.specs.Replayed.{Replays, ReplaysAll}
-use Rattle.recover.proofs.Faults.{memory_no_damage, memory_no_device, none_at_error, none_in_error, of_memory, right_err}
+use Rattle.recover.proofs.Faults.{counts_memory, counts_ok, counts_passed, memory_no_damage, none_in_error, of_memory, reads_nothing}
 use Rattle.recover.proofs.Streams.{first_place, never_replayed, replayed_all}
 use Rattle.recover.proofs.reading.replay_segment.Goals as goal
 
@@ -36,23 +36,10 @@ returns-in_err-base-clause-state g c =
     λ honest. let p = err_from_is_err_and c.from_residual.result c.from_residual.ensures.1 in
     none_in_error _ c.from_residual.result _ p.1
 
-pub returns-in_err-base-clause-quiet : goal.returns-in_err-base-clause-quiet
-returns-in_err-base-clause-quiet g c =
-    let p = err_from_is_err_and c.from_residual.result c.from_residual.ensures.1 in
-    none_at_error _ c.from_residual.result _ p.1
-
 pub returns-in_err-base-clause-damaged : goal.returns-in_err-base-clause-damaged
 returns-in_err-base-clause-damaged g c =
     λ honest told. let p = err_from_is_err_and c.from_residual.result c.from_residual.ensures.1 in
     absurd (memory_no_damage c.from_residual.result (p.1 ∙ ap Err p.2) told)
-
-pub returns-in_err-base-clause-still : goal.returns-in_err-base-clause-still
-returns-in_err-base-clause-still g c = right_err _ _ c.from_residual.result refl
-
-pub returns-in_err-base-clause-device : goal.returns-in_err-base-clause-device
-returns-in_err-base-clause-device g c =
-    λ told. let p = err_from_is_err_and c.from_residual.result c.from_residual.ensures.1 in
-    absurd (memory_no_device c.from_residual.result (p.1 ∙ ap Err p.2) told)
 
 pub returns-in_err-base-clause-faults : goal.returns-in_err-base-clause-faults
 returns-in_err-base-clause-faults g c =
@@ -64,22 +51,24 @@ returns-in_err-kernel-clause-state g c =
     λ honest. let p = err_from_is_err_and c.from_residual-in_err-kernel.result c.from_residual-in_err-kernel.ensures.1
     in none_in_error _ c.from_residual-in_err-kernel.result _ p.1
 
-pub returns-in_err-kernel-clause-quiet : goal.returns-in_err-kernel-clause-quiet
-returns-in_err-kernel-clause-quiet g c =
+pub returns-in_err-base-clause-reads_only : goal.returns-in_err-base-clause-reads_only
+returns-in_err-base-clause-reads_only g c = λ honest. reads_nothing (g.D.Disk.view c.args.disk.now)
+
+pub returns-in_err-base-clause-failures : goal.returns-in_err-base-clause-failures
+returns-in_err-base-clause-failures g c =
+    let p = err_from_is_err_and c.from_residual.result c.from_residual.ensures.1 in
+    counts_memory _ _ c.from_residual.result (p.1 ∙ ap Err p.2) refl
+
+pub returns-in_err-kernel-clause-reads_only : goal.returns-in_err-kernel-clause-reads_only
+returns-in_err-kernel-clause-reads_only g c = λ honest. c.replay_all.ensures.reads_only honest
+
+pub returns-in_err-kernel-clause-failures : goal.returns-in_err-kernel-clause-failures
+returns-in_err-kernel-clause-failures g c =
     let p = err_from_is_err_and c.from_residual-in_err-kernel.result c.from_residual-in_err-kernel.ensures.1 in
-    none_at_error _ c.from_residual-in_err-kernel.result _ p.1
+    counts_passed _ _ _ c.from_residual-in_err-kernel.result (p.1 ∙ ap Err p.2) c.in_err-kernel.ensures.failures
 
-pub returns-in_err-kernel-clause-seen : goal.returns-in_err-kernel-clause-seen
-returns-in_err-kernel-clause-seen g c = λ honest. c.replay_all.ensures.seen honest
+pub returns-clause-reads_only : goal.returns-clause-reads_only
+returns-clause-reads_only g c = λ honest. c.replay_all.ensures.reads_only honest
 
-pub returns-in_err-kernel-clause-time : goal.returns-in_err-kernel-clause-time
-returns-in_err-kernel-clause-time g c = λ honest. c.replay_all.ensures.time honest
-
-pub returns-clause-seen : goal.returns-clause-seen
-returns-clause-seen g c = λ honest. c.replay_all.ensures.seen honest
-
-pub returns-clause-time : goal.returns-clause-time
-returns-clause-time g c = λ honest. c.replay_all.ensures.time honest
-
-pub returns-clause-quiet : goal.returns-clause-quiet
-returns-clause-quiet g c = c.in_ok-kernel.ensures.quiet
+pub returns-clause-failures : goal.returns-clause-failures
+returns-clause-failures g c = counts_ok _ _ _ c.in_ok-kernel.ensures.failures.quiet
