@@ -1,5 +1,5 @@
 -- What each step of the half that stores does, on one slot.
-use Rattle.std.specs.Prelude.{◌≡◌, ◌⊎◌, ℕ, ◌+◌, ◌<◌, ◌^◌, true, false, [], ◌∷◌, ◌++◌, Option, None, Some, length, take, drop}
+use Rattle.std.specs.Prelude.{◌≡◌, ◌⊎◌, ℕ, ◌+◌, ◌<◌, ◌^◌, Bool, true, false, [], ◌∷◌, ◌++◌, Option, None, Some, Result, length, take, drop, IfErr, IfNone, IfOk, IfSome, MatchBool}
 use Rattle.checkpoint.specs.Images.{IsFinishing, open_image}
 use Rattle.disk.specs.Moments.{View, Follows, IsSynced, Passes}
 use Rattle.disk.specs.Slots.{Slots, slot_of, with_slot}
@@ -43,6 +43,30 @@ HasPieceLeft (Some checkpoint) = (0 < checkpoint.imaged) × (checkpoint.imaged <
 abbrev pub CanFinish : Option CheckpointValue → Type 0
 CanFinish None = ⊥
 CanFinish (Some checkpoint) = (checkpoint.imaged ≡ pieces_of checkpoint.encoding + 1) × (checkpoint.rolled ≡ 3)
+
+-- what a step of a checkpoint returns
+
+-- A step that isn't possible now changes nothing.
+abbrev pub IsNotNow : {D : Type 0} → StoreValue D → Type 0 → StoreValue D → Type 0
+IsNotNow old possible new = (old.failed ≡ false) × (possible → ⊥) × (new ≡ old)
+
+-- The device failed in an earlier step, and nothing changed; or it failed in this one.
+abbrev pub IsFault : {D : Type 0} → StoreValue D → StoreFault → Type 0 → StoreValue D → Type 0
+IsFault old fault fails new = ((fault ≡ Failed) × (old.failed ≡ true) × (new ≡ old)) ⊎ ((fault ≡ Device) × fails)
+
+-- the same for a step that allocates: or it ran out of memory, and nothing changed
+abbrev pub IsFaultOrShortage : {D : Type 0} → StoreValue D → StoreFault → Type 0 → Type 0 → StoreValue D → Type 0
+IsFaultOrShortage old fault possible fails new =
+    IsFault old fault fails new ⊎ ((fault ≡ NoMemory) × (old.failed ≡ false) × possible × (new ≡ old))
+
+-- A step says whether it was done; otherwise it isn't possible now.
+abbrev pub IsDoneIf : {D : Type 0} → StoreValue D → (possible done : Type 0) → StoreValue D → Result Bool StoreFault
+    → Type 0
+IsDoneIf old possible done new result = IfOk result (λ is_done. MatchBool is_done done (IsNotNow old possible new))
+
+-- Without a receipt the checkpoint can't end yet.
+abbrev pub FinishNotNow : {D : Type 0} → StoreValue D → StoreValue D → Result (Option ℕ) StoreFault → Type 0
+FinishNotNow old new result = IfOk result (λ receipt. IfNone receipt (IsNotNow old (CanFinish old.checkpoint) new))
 
 module _ {D : Type 0} (honest : Type 0) (view : D → View) where
   -- The next segment's slot has a closed gate.
@@ -203,15 +227,46 @@ module _ {D : Type 0} (honest : Type 0) (view : D → View) where
         → Passes (view old.disk) (view new.disk)
         (Follows (view old.disk) (image_slot checkpoint.epoch) (IsFinishing checkpoint.epoch checkpoint.encoding))
 
--- A step that isn't possible now changes nothing.
-abbrev pub IsNotNow : {D : Type 0} → StoreValue D → Type 0 → StoreValue D → Type 0
-IsNotNow old possible new = (old.failed ≡ false) × (possible → ⊥) × (new ≡ old)
+  -- What each step returns where the device doesn't fail: whether it was done.
 
--- The device failed in an earlier step, and nothing changed; or it failed in this one.
-abbrev pub IsFault : {D : Type 0} → StoreValue D → StoreFault → Type 0 → StoreValue D → Type 0
-IsFault old fault fails new = ((fault ≡ Failed) × (old.failed ≡ true) × (new ≡ old)) ⊎ ((fault ≡ Device) × fails)
+  abbrev pub RollCloseDone : StoreValue D → StoreValue D → Result Bool StoreFault → Type 0
+  RollCloseDone old new result = IsDoneIf old (IsRolled old.checkpoint 0) (RollsClose old new) new result
 
--- the same for a step that allocates: or it ran out of memory, and nothing changed
-abbrev pub IsFaultOrShortage : {D : Type 0} → StoreValue D → StoreFault → Type 0 → Type 0 → StoreValue D → Type 0
-IsFaultOrShortage old fault possible fails new =
-    IsFault old fault fails new ⊎ ((fault ≡ NoMemory) × (old.failed ≡ false) × possible × (new ≡ old))
+  abbrev pub RollHeadDone : StoreValue D → StoreValue D → Result Bool StoreFault → Type 0
+  RollHeadDone old new result = IsDoneIf old (IsRolled old.checkpoint 1) (RollsHead old new) new result
+
+  abbrev pub RollOpenDone : StoreValue D → StoreValue D → Result Bool StoreFault → Type 0
+  RollOpenDone old new result = IsDoneIf old (CanOpen old old.checkpoint) (RollsOpen old new) new result
+
+  abbrev pub CloseImageDone : StoreValue D → StoreValue D → Result Bool StoreFault → Type 0
+  CloseImageDone old new result = IsDoneIf old (HasImaged old.checkpoint 0) (ClosesImage old new) new result
+
+  abbrev pub WritePieceDone : StoreValue D → StoreValue D → Result Bool StoreFault → Type 0
+  WritePieceDone old new result = IsDoneIf old (HasPieceLeft old.checkpoint) (WritesPiece old new) new result
+
+  -- at the end the receipt of the epoch's image
+  abbrev pub FinishDone : StoreValue D → StoreValue D → Result (Option ℕ) StoreFault → Type 0
+  FinishDone old new result =
+      IfOk result (λ receipt. IfSome receipt (λ finished. (finished ≡ old.segment.epoch) × Finishes old new))
+
+  -- What each step's fault says: the device failed, in this step or an earlier one.
+
+  abbrev pub RollCloseFaults : {T : Type 0} → StoreValue D → StoreValue D → Result T StoreFault → Type 0
+  RollCloseFaults old new result = IfErr result (λ fault. IsFault old fault (FailsToRollClose old new) new)
+
+  abbrev pub RollHeadFaults : {T : Type 0} → StoreValue D → StoreValue D → Result T StoreFault → Type 0
+  RollHeadFaults old new result = IfErr result (λ fault. IsFault old fault (FailsToRollHead old new) new)
+
+  abbrev pub RollOpenFaults : {T : Type 0} → StoreValue D → StoreValue D → Result T StoreFault → Type 0
+  RollOpenFaults old new result = IfErr result (λ fault. IsFault old fault (FailsToRollOpen old new) new)
+
+  -- or memory was short
+  abbrev pub CloseImageFaults : {T : Type 0} → StoreValue D → StoreValue D → Result T StoreFault → Type 0
+  CloseImageFaults old new result =
+      IfErr result (λ fault. IsFaultOrShortage old fault (HasImaged old.checkpoint 0) (FailsToCloseImage old new) new)
+
+  abbrev pub WritePieceFaults : {T : Type 0} → StoreValue D → StoreValue D → Result T StoreFault → Type 0
+  WritePieceFaults old new result = IfErr result (λ fault. IsFault old fault (FailsToWritePiece old new) new)
+
+  abbrev pub FinishFaults : {T : Type 0} → StoreValue D → StoreValue D → Result T StoreFault → Type 0
+  FinishFaults old new result = IfErr result (λ fault. IsFault old fault (FailsToFinish old new) new)

@@ -1,9 +1,9 @@
-ghost use Rattle.std.specs.Prelude.{◌≡◌, ◌↔◌, ◌⊎◌, ◌+◌, ◌<◌, ◌≤◌, true, false, length, None, Some, IfOk, IfErr, IfSome, IfNone, MatchBool, MatchResult, OnOk, is_some};
+ghost use Rattle.std.specs.Prelude.{◌≡◌, ◌↔◌, ◌⊎◌, ◌+◌, ◌<◌, ◌≤◌, true, false, length, None, Some, IfOk, IfErr, MatchResult, OnOk, is_some};
 ghost use Rattle.codes.specs.declared.limits.TheConstants.{MAX_RECORDS};
 ghost use Rattle.disk.specs.Moments.{IsSynced, one_more};
 ghost use Rattle.disk.specs.Slots.{slot_of};
 ghost use Rattle.slot_steps.specs.Steps.{segment_slot};
-ghost use Rattle.store_half.specs.Changes.{CanFinish, CanOpen, ClosesImage, FailsToCloseImage, FailsToFinish, FailsToRollClose, FailsToRollHead, FailsToRollOpen, FailsToWritePiece, Finishes, HasImaged, HasPieceLeft, IsAppended, IsFault, IsFaultOrShortage, IsNotNow, IsRolled, PassesAppend, RollsClose, RollsHead, RollsOpen, WritesPiece};
+ghost use Rattle.store_half.specs.Changes.{CloseImageDone, CloseImageFaults, FinishDone, FinishFaults, FinishNotNow, IsAppended, PassesAppend, RollCloseDone, RollCloseFaults, RollHeadDone, RollHeadFaults, RollOpenDone, RollOpenFaults, WritePieceDone, WritePieceFaults};
 ghost use Rattle.store_half.specs.Counting.{counted, counted_fault};
 ghost use Rattle.store_half.specs.Values.{begun};
 
@@ -167,11 +167,8 @@ impl<D: Disk> StoreHalf<D> {
     ///
     /// `Failed`: the device failed in an earlier call, and nothing changed. `Device`: the device failed.
     pub fn roll_close(&mut self) -> Result<bool, StoreFault>
-        ensures done { IfOk result
-            (λ is_done. MatchBool is_done (RollsClose D.honest D.view self.old self.new)
-            (IsNotNow self.old (IsRolled self.old.checkpoint 0) self.new)) }
-        ensures faults { IfErr result
-            (λ fault. IsFault self.old fault (FailsToRollClose D.honest D.view self.old self.new) self.new) }
+        ensures done { RollCloseDone D.honest D.view self.old self.new result }
+        ensures faults { RollCloseFaults D.honest D.view self.old self.new result }
         ensures failures { D.failed_calls self.new.disk ≡ counted result (D.failed_calls self.old.disk) }
     {
         if self.failed {
@@ -193,11 +190,8 @@ impl<D: Disk> StoreHalf<D> {
 
     /// Writes the header of the next segment. Returns whether it did, like `roll_close`; its faults are the same.
     pub fn roll_head(&mut self) -> Result<bool, StoreFault>
-        ensures done { IfOk result
-            (λ is_done. MatchBool is_done (RollsHead D.honest D.view self.old self.new)
-            (IsNotNow self.old (IsRolled self.old.checkpoint 1) self.new)) }
-        ensures faults { IfErr result
-            (λ fault. IsFault self.old fault (FailsToRollHead D.honest D.view self.old self.new) self.new) }
+        ensures done { RollHeadDone D.honest D.view self.old self.new result }
+        ensures faults { RollHeadFaults D.honest D.view self.old self.new result }
         ensures failures { D.failed_calls self.new.disk ≡ counted result (D.failed_calls self.old.disk) }
     {
         if self.failed {
@@ -220,11 +214,8 @@ impl<D: Disk> StoreHalf<D> {
     /// Opens the next segment, once the one in use holds its whole epoch log; from then on the next epoch's batches are
     /// stored there. Returns whether it did; its faults are those of `roll_close`.
     pub fn roll_open(&mut self) -> Result<bool, StoreFault>
-        ensures done { IfOk result
-            (λ is_done. MatchBool is_done (RollsOpen D.honest D.view self.old self.new)
-            (IsNotNow self.old (CanOpen self.old self.old.checkpoint) self.new)) }
-        ensures faults { IfErr result
-            (λ fault. IsFault self.old fault (FailsToRollOpen D.honest D.view self.old self.new) self.new) }
+        ensures done { RollOpenDone D.honest D.view self.old self.new result }
+        ensures faults { RollOpenFaults D.honest D.view self.old self.new result }
         ensures failures { D.failed_calls self.new.disk ≡ counted result (D.failed_calls self.old.disk) }
     {
         if self.failed {
@@ -250,12 +241,8 @@ impl<D: Disk> StoreHalf<D> {
     ///
     /// `NoMemory`: an allocation failed, and nothing changed. The other faults are those of `roll_close`.
     pub fn close_image(&mut self, alloc: Global) -> Result<bool, StoreFault>
-        ensures done { IfOk result
-            (λ is_done. MatchBool is_done (ClosesImage D.honest D.view self.old self.new)
-            (IsNotNow self.old (HasImaged self.old.checkpoint 0) self.new)) }
-        ensures faults { IfErr result
-            (λ fault. IsFaultOrShortage self.old fault (HasImaged self.old.checkpoint 0)
-            (FailsToCloseImage D.honest D.view self.old self.new) self.new) }
+        ensures done { CloseImageDone D.honest D.view self.old self.new result }
+        ensures faults { CloseImageFaults D.honest D.view self.old self.new result }
         ensures failures { D.failed_calls self.new.disk ≡ counted result (D.failed_calls self.old.disk) }
     {
         if self.failed {
@@ -281,11 +268,8 @@ impl<D: Disk> StoreHalf<D> {
     /// Writes the next piece of the image. Returns whether it did: it does if the image was closed and a piece is left.
     /// Its faults are those of `roll_close`.
     pub fn write_piece(&mut self) -> Result<bool, StoreFault>
-        ensures done { IfOk result
-            (λ is_done. MatchBool is_done (WritesPiece D.honest D.view self.old self.new)
-            (IsNotNow self.old (HasPieceLeft self.old.checkpoint) self.new)) }
-        ensures faults { IfErr result
-            (λ fault. IsFault self.old fault (FailsToWritePiece D.honest D.view self.old self.new) self.new) }
+        ensures done { WritePieceDone D.honest D.view self.old self.new result }
+        ensures faults { WritePieceFaults D.honest D.view self.old self.new result }
         ensures failures { D.failed_calls self.new.disk ≡ counted result (D.failed_calls self.old.disk) }
     {
         if self.failed {
@@ -310,12 +294,9 @@ impl<D: Disk> StoreHalf<D> {
     /// Opens the gate of the image, whose whole encoding is written, once the next segment is open. The checkpoint is
     /// then over, and the receipt says so. Its faults are those of `roll_close`.
     pub fn finish(&mut self) -> Result<Option<Finished>, StoreFault>
-        ensures done { IfOk result (λ receipt. IfSome receipt
-            (λ finished. (finished ≡ self.old.segment.epoch) × Finishes D.honest D.view self.old self.new)) }
-        ensures not_now { IfOk result
-            (λ receipt. IfNone receipt (IsNotNow self.old (CanFinish self.old.checkpoint) self.new)) }
-        ensures faults { IfErr result
-            (λ fault. IsFault self.old fault (FailsToFinish D.honest D.view self.old self.new) self.new) }
+        ensures done { FinishDone D.honest D.view self.old self.new result }
+        ensures not_now { FinishNotNow self.old self.new result }
+        ensures faults { FinishFaults D.honest D.view self.old self.new result }
         ensures failures { D.failed_calls self.new.disk ≡ counted result (D.failed_calls self.old.disk) }
     {
         if self.failed {

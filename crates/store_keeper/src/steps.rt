@@ -1,7 +1,7 @@
 //! The steps of a checkpoint. A crash at any moment of each of them leaves what is stored.
-ghost use Rattle.std.specs.Prelude.{◌≡◌, false, IfOk, IfErr, IfSome, IfNone, MatchBool};
+ghost use Rattle.std.specs.Prelude.{◌≡◌};
 ghost use Rattle.store_keeper.specs.Storing.{LosesNothing};
-ghost use Rattle.store_half.specs.Changes.{CanFinish, CanOpen, ClosesImage, FailsToCloseImage, FailsToFinish, FailsToRollClose, FailsToRollHead, FailsToRollOpen, FailsToWritePiece, Finishes, HasImaged, HasPieceLeft, IsFault, IsFaultOrShortage, IsNotNow, IsRolled, RollsClose, RollsHead, RollsOpen, WritesPiece};
+ghost use Rattle.store_half.specs.Changes.{CanOpen, CloseImageDone, CloseImageFaults, FinishDone, FinishFaults, FinishNotNow, IsDoneIf, RollCloseDone, RollCloseFaults, RollHeadDone, RollHeadFaults, RollOpenDone, RollOpenFaults, RollsOpen, WritePieceDone, WritePieceFaults};
 ghost use Rattle.store_half.specs.Counting.{counted};
 
 use crate::StoreKeeper;
@@ -16,12 +16,8 @@ impl<L: Founding, D: Disk> StoreKeeper<L, D> {
     ///
     /// `Failed`: the device failed in an earlier step, and nothing changed. `Device`: the device failed.
     pub fn roll_close(&mut self) -> Result<bool, StoreFault>
-        ensures done { IfOk result
-            (λ is_done. MatchBool is_done (RollsClose D.honest D.view self.old.store self.new.store)
-            (IsNotNow self.old.store (IsRolled self.old.store.checkpoint 0) self.new.store)) }
-        ensures faults { IfErr result
-            (λ fault. IsFault self.old.store fault
-            (FailsToRollClose D.honest D.view self.old.store self.new.store) self.new.store) }
+        ensures done { RollCloseDone D.honest D.view self.old.store self.new.store result }
+        ensures faults { RollCloseFaults D.honest D.view self.old.store self.new.store result }
         ensures failures { D.failed_calls self.new.store.disk ≡ counted result (D.failed_calls self.old.store.disk) }
         ensures rest { self.new ≡ record self.old { store = self.new.store } }
         ensures any_moment { D.honest → LosesNothing D.view L.base self.old self.new }
@@ -32,12 +28,8 @@ impl<L: Founding, D: Disk> StoreKeeper<L, D> {
     /// Writes the header of the next segment. Returns whether that was the next step; its faults are those of
     /// `roll_close`.
     pub fn roll_head(&mut self) -> Result<bool, StoreFault>
-        ensures done { IfOk result
-            (λ is_done. MatchBool is_done (RollsHead D.honest D.view self.old.store self.new.store)
-            (IsNotNow self.old.store (IsRolled self.old.store.checkpoint 1) self.new.store)) }
-        ensures faults { IfErr result
-            (λ fault. IsFault self.old.store fault
-            (FailsToRollHead D.honest D.view self.old.store self.new.store) self.new.store) }
+        ensures done { RollHeadDone D.honest D.view self.old.store self.new.store result }
+        ensures faults { RollHeadFaults D.honest D.view self.old.store self.new.store result }
         ensures failures { D.failed_calls self.new.store.disk ≡ counted result (D.failed_calls self.old.store.disk) }
         ensures rest { self.new ≡ record self.old { store = self.new.store } }
         ensures any_moment { D.honest → LosesNothing D.view L.base self.old self.new }
@@ -48,12 +40,10 @@ impl<L: Founding, D: Disk> StoreKeeper<L, D> {
     /// Opens the next segment. Returns whether that was the next step, and all records are stored that led to the
     /// checkpoint's state; its faults are those of `roll_close`.
     pub fn roll_open(&mut self) -> Result<bool, StoreFault>
-        ensures done { IfOk result
-            (λ is_done. MatchBool is_done (RollsOpen D.honest D.view self.old.store self.new.store)
-            (IsNotNow self.old.store (CanOpen self.old.store self.old.store.checkpoint × (self.old.stored ≡ self.old.earlier)) self.new.store)) }
-        ensures faults { IfErr result
-            (λ fault. IsFault self.old.store fault
-            (FailsToRollOpen D.honest D.view self.old.store self.new.store) self.new.store) }
+        ensures done { IsDoneIf self.old.store
+            (CanOpen self.old.store self.old.store.checkpoint × (self.old.stored ≡ self.old.earlier))
+            (RollsOpen D.honest D.view self.old.store self.new.store) self.new.store result }
+        ensures faults { RollOpenFaults D.honest D.view self.old.store self.new.store result }
         ensures failures { D.failed_calls self.new.store.disk ≡ counted result (D.failed_calls self.old.store.disk) }
         ensures rest { self.new ≡ record self.old { store = self.new.store } }
         ensures any_moment { D.honest → LosesNothing D.view L.base self.old self.new }
@@ -70,12 +60,8 @@ impl<L: Founding, D: Disk> StoreKeeper<L, D> {
     /// Opens the next segment, if all is stored that the segment before has to hold.
     fn open_next(&mut self) -> Result<bool, StoreFault>
         requires { self.old.stored ≡ self.old.earlier }
-        ensures done { IfOk result
-            (λ is_done. MatchBool is_done (RollsOpen D.honest D.view self.old.store self.new.store)
-            (IsNotNow self.old.store (CanOpen self.old.store self.old.store.checkpoint) self.new.store)) }
-        ensures faults { IfErr result
-            (λ fault. IsFault self.old.store fault
-            (FailsToRollOpen D.honest D.view self.old.store self.new.store) self.new.store) }
+        ensures done { RollOpenDone D.honest D.view self.old.store self.new.store result }
+        ensures faults { RollOpenFaults D.honest D.view self.old.store self.new.store result }
         ensures failures { D.failed_calls self.new.store.disk ≡ counted result (D.failed_calls self.old.store.disk) }
         ensures rest { self.new ≡ record self.old { store = self.new.store } }
         ensures any_moment { D.honest → LosesNothing D.view L.base self.old self.new }
@@ -87,12 +73,8 @@ impl<L: Founding, D: Disk> StoreKeeper<L, D> {
     ///
     /// `NoMemory`: an allocation failed, and nothing changed. Its other faults are those of `roll_close`.
     pub fn close_image(&mut self, alloc: Global) -> Result<bool, StoreFault>
-        ensures done { IfOk result
-            (λ is_done. MatchBool is_done (ClosesImage D.honest D.view self.old.store self.new.store)
-            (IsNotNow self.old.store (HasImaged self.old.store.checkpoint 0) self.new.store)) }
-        ensures faults { IfErr result
-            (λ fault. IsFaultOrShortage self.old.store fault (HasImaged self.old.store.checkpoint 0)
-            (FailsToCloseImage D.honest D.view self.old.store self.new.store) self.new.store) }
+        ensures done { CloseImageDone D.honest D.view self.old.store self.new.store result }
+        ensures faults { CloseImageFaults D.honest D.view self.old.store self.new.store result }
         ensures failures { D.failed_calls self.new.store.disk ≡ counted result (D.failed_calls self.old.store.disk) }
         ensures rest { self.new ≡ record self.old { store = self.new.store } }
         ensures any_moment { D.honest → LosesNothing D.view L.base self.old self.new }
@@ -103,12 +85,8 @@ impl<L: Founding, D: Disk> StoreKeeper<L, D> {
     /// Writes the next piece of the image. Returns whether one was left and the image was closed; its faults are those
     /// of `roll_close`.
     pub fn write_piece(&mut self) -> Result<bool, StoreFault>
-        ensures done { IfOk result
-            (λ is_done. MatchBool is_done (WritesPiece D.honest D.view self.old.store self.new.store)
-            (IsNotNow self.old.store (HasPieceLeft self.old.store.checkpoint) self.new.store)) }
-        ensures faults { IfErr result
-            (λ fault. IsFault self.old.store fault
-            (FailsToWritePiece D.honest D.view self.old.store self.new.store) self.new.store) }
+        ensures done { WritePieceDone D.honest D.view self.old.store self.new.store result }
+        ensures faults { WritePieceFaults D.honest D.view self.old.store self.new.store result }
         ensures failures { D.failed_calls self.new.store.disk ≡ counted result (D.failed_calls self.old.store.disk) }
         ensures rest { self.new ≡ record self.old { store = self.new.store } }
         ensures any_moment { D.honest → LosesNothing D.view L.base self.old self.new }
@@ -119,14 +97,9 @@ impl<L: Founding, D: Disk> StoreKeeper<L, D> {
     /// Finishes the image, once all of it is written and the next segment is open. The checkpoint is then over, and the
     /// receipt says so. Its faults are those of `roll_close`.
     pub fn finish(&mut self) -> Result<Option<Finished>, StoreFault>
-        ensures done { IfOk result (λ receipt. IfSome receipt
-            (λ finished. (finished ≡ self.old.store.segment.epoch)
-            × Finishes D.honest D.view self.old.store self.new.store)) }
-        ensures not_now { IfOk result
-            (λ receipt. IfNone receipt (IsNotNow self.old.store (CanFinish self.old.store.checkpoint) self.new.store)) }
-        ensures faults { IfErr result
-            (λ fault. IsFault self.old.store fault
-            (FailsToFinish D.honest D.view self.old.store self.new.store) self.new.store) }
+        ensures done { FinishDone D.honest D.view self.old.store self.new.store result }
+        ensures not_now { FinishNotNow self.old.store self.new.store result }
+        ensures faults { FinishFaults D.honest D.view self.old.store self.new.store result }
         ensures failures { D.failed_calls self.new.store.disk ≡ counted result (D.failed_calls self.old.store.disk) }
         ensures rest { self.new ≡ record self.old { store = self.new.store } }
         ensures any_moment { D.honest → LosesNothing D.view L.base self.old self.new }

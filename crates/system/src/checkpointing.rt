@@ -1,6 +1,6 @@
 //! The steps of a checkpoint, by which a core goes over to the next epoch.
-ghost use Rattle.std.specs.Prelude.{◌≡◌, true, false, MatchBool, IfOk, IfErr, OnErr};
-ghost use Rattle.store_half.specs.Changes.{CanFinish, CanOpen, ClosesImage, FailsToCloseImage, FailsToFinish, FailsToRollClose, FailsToRollHead, FailsToRollOpen, FailsToWritePiece, HasImaged, HasPieceLeft, IsFault, IsFaultOrShortage, IsNotNow, IsRolled, RollsClose, RollsHead, RollsOpen, WritesPiece};
+ghost use Rattle.std.specs.Prelude.{◌≡◌, true, false, MatchBool, IfOk, OnErr};
+ghost use Rattle.store_half.specs.Changes.{CanFinish, CloseImageDone, CloseImageFaults, FinishFaults, RollCloseDone, RollCloseFaults, RollHeadDone, RollHeadFaults, RollOpenDone, RollOpenFaults, WritePieceDone, WritePieceFaults};
 ghost use Rattle.system.specs.Changes.{BeginsEpoch, FinishesImage};
 ghost use Rattle.system.specs.Counting.{counted};
 ghost use Rattle.system.specs.Halves.{CanCut};
@@ -31,12 +31,8 @@ impl<D: Disk> System<D> {
     ///
     /// `Failed`: the device failed in an earlier step, and nothing changed. `Device`: the device failed.
     pub fn roll_close(&mut self) -> Result<bool, StoreFault>
-        ensures done { IfOk result
-            (λ is_done. MatchBool is_done (RollsClose D.honest D.view self.old.store self.new.store)
-            (IsNotNow self.old.store (IsRolled self.old.store.checkpoint 0) self.new.store)) }
-        ensures faults { IfErr result
-            (λ fault. IsFault self.old.store fault
-            (FailsToRollClose D.honest D.view self.old.store self.new.store) self.new.store) }
+        ensures done { RollCloseDone D.honest D.view self.old.store self.new.store result }
+        ensures faults { RollCloseFaults D.honest D.view self.old.store self.new.store result }
         ensures failures { D.failed_calls self.new.store.disk ≡ counted result (D.failed_calls self.old.store.disk) }
         ensures rest { self.new ≡ record self.old { store = self.new.store } }
     {
@@ -46,12 +42,8 @@ impl<D: Disk> System<D> {
     /// Writes the header of the next segment. Returns whether that was the next step; its faults are those of
     /// `roll_close`.
     pub fn roll_head(&mut self) -> Result<bool, StoreFault>
-        ensures done { IfOk result
-            (λ is_done. MatchBool is_done (RollsHead D.honest D.view self.old.store self.new.store)
-            (IsNotNow self.old.store (IsRolled self.old.store.checkpoint 1) self.new.store)) }
-        ensures faults { IfErr result
-            (λ fault. IsFault self.old.store fault
-            (FailsToRollHead D.honest D.view self.old.store self.new.store) self.new.store) }
+        ensures done { RollHeadDone D.honest D.view self.old.store self.new.store result }
+        ensures faults { RollHeadFaults D.honest D.view self.old.store self.new.store result }
         ensures failures { D.failed_calls self.new.store.disk ≡ counted result (D.failed_calls self.old.store.disk) }
         ensures rest { self.new ≡ record self.old { store = self.new.store } }
     {
@@ -61,12 +53,8 @@ impl<D: Disk> System<D> {
     /// Opens the next segment. Returns whether that was the next step, and the segment in use holds its whole epoch
     /// log; its faults are those of `roll_close`.
     pub fn roll_open(&mut self) -> Result<bool, StoreFault>
-        ensures done { IfOk result
-            (λ is_done. MatchBool is_done (RollsOpen D.honest D.view self.old.store self.new.store)
-            (IsNotNow self.old.store (CanOpen self.old.store self.old.store.checkpoint) self.new.store)) }
-        ensures faults { IfErr result
-            (λ fault. IsFault self.old.store fault
-            (FailsToRollOpen D.honest D.view self.old.store self.new.store) self.new.store) }
+        ensures done { RollOpenDone D.honest D.view self.old.store self.new.store result }
+        ensures faults { RollOpenFaults D.honest D.view self.old.store self.new.store result }
         ensures failures { D.failed_calls self.new.store.disk ≡ counted result (D.failed_calls self.old.store.disk) }
         ensures rest { self.new ≡ record self.old { store = self.new.store } }
     {
@@ -77,12 +65,8 @@ impl<D: Disk> System<D> {
     ///
     /// `NoMemory`: an allocation failed, and nothing changed. Its other faults are those of `roll_close`.
     pub fn close_image(&mut self) -> Result<bool, StoreFault>
-        ensures done { IfOk result
-            (λ is_done. MatchBool is_done (ClosesImage D.honest D.view self.old.store self.new.store)
-            (IsNotNow self.old.store (HasImaged self.old.store.checkpoint 0) self.new.store)) }
-        ensures faults { IfErr result
-            (λ fault. IsFaultOrShortage self.old.store fault (HasImaged self.old.store.checkpoint 0)
-            (FailsToCloseImage D.honest D.view self.old.store self.new.store) self.new.store) }
+        ensures done { CloseImageDone D.honest D.view self.old.store self.new.store result }
+        ensures faults { CloseImageFaults D.honest D.view self.old.store self.new.store result }
         ensures failures { D.failed_calls self.new.store.disk ≡ counted result (D.failed_calls self.old.store.disk) }
         ensures rest { self.new ≡ record self.old { store = self.new.store } }
     {
@@ -92,12 +76,8 @@ impl<D: Disk> System<D> {
     /// Writes the next piece of the image. Returns whether one was left and the image was closed; its faults are those
     /// of `roll_close`.
     pub fn write_piece(&mut self) -> Result<bool, StoreFault>
-        ensures done { IfOk result
-            (λ is_done. MatchBool is_done (WritesPiece D.honest D.view self.old.store self.new.store)
-            (IsNotNow self.old.store (HasPieceLeft self.old.store.checkpoint) self.new.store)) }
-        ensures faults { IfErr result
-            (λ fault. IsFault self.old.store fault
-            (FailsToWritePiece D.honest D.view self.old.store self.new.store) self.new.store) }
+        ensures done { WritePieceDone D.honest D.view self.old.store self.new.store result }
+        ensures faults { WritePieceFaults D.honest D.view self.old.store self.new.store result }
         ensures failures { D.failed_calls self.new.store.disk ≡ counted result (D.failed_calls self.old.store.disk) }
         ensures rest { self.new ≡ record self.old { store = self.new.store } }
     {
@@ -109,9 +89,7 @@ impl<D: Disk> System<D> {
     pub fn finish(&mut self) -> Result<bool, StoreFault>
         ensures done { IfOk result (λ is_done. MatchBool is_done (FinishesImage D.honest D.view self.old self.new)
             ((self.old.store.failed ≡ false) × (CanFinish self.old.store.checkpoint → ⊥) × (self.new ≡ self.old))) }
-        ensures faults { IfErr result
-            (λ fault. IsFault self.old.store fault
-            (FailsToFinish D.honest D.view self.old.store self.new.store) self.new.store) }
+        ensures faults { FinishFaults D.honest D.view self.old.store self.new.store result }
         ensures failures { D.failed_calls self.new.store.disk ≡ counted result (D.failed_calls self.old.store.disk) }
         ensures rest { OnErr result (self.new ≡ record self.old { store = self.new.store }) }
     {
