@@ -1,12 +1,11 @@
-ghost use Rattle.std.specs.Prelude.{◌≡◌, ◌⊎◌, ◌+◌, ◌<◌, ◌≤◌, [], None, Some, true, false, IfOk, IfErr, OnOk, MatchBool, is_some};
-ghost use Rattle.codes.specs.declared.limits.TheConstants.{MAX_RECORDS};
-ghost use Rattle.disk.specs.Moments.{MayLeave, one_more};
+ghost use Rattle.std.specs.Prelude.{◌≡◌, ◌⊎◌, ◌+◌, ◌<◌, ◌≤◌, [], None, Some, true, false, IfErr, OnOk, MatchBool, is_some};
+ghost use Rattle.disk.specs.Moments.{MayLeave};
 ghost use Rattle.disk.specs.Slots.{Slots};
 ghost use Rattle.history.specs.Entries.{Begins, records_of};
 ghost use Rattle.ipc_model.specs.state.Circular.{Acyclic};
 ghost use Rattle.ipc_model.specs.state.Lawful.{Lawful};
 ghost use Rattle.checkpoint_phases.specs.Passed.{IsKept};
-ghost use Rattle.store_fault.specs.declared.fault.StoreFault.{StoreFault};
+ghost use Rattle.store_keeper.specs.Appending.{CountsDevice, GivesLoadBack, HadFailed, StoresLoad, WouldOverfill, WritesNothingElse};
 ghost use Rattle.store_keeper.specs.Faults.{IsWhyNotStored};
 ghost use Rattle.store_keeper.specs.Storing.{CanBegin, IsNext, IsRecorded, LosesNothing, StandsFor};
 ghost use Rattle.store_half.specs.Values.{begun};
@@ -170,21 +169,16 @@ impl<L: Founding, D: Disk> StoreKeeper<L, D> {
     /// With `Store(Device)` it isn't known whether it is stored until the store is opened again. `Store(Failed)`,
     /// `Store(Full)`, `NotNow`, `NoMemory`: nothing was written.
     pub fn append(&mut self, load: Load<L>) -> Result<Receipt, (NotStored, Load<L>)>
-        ensures stored { IfOk result (λ receipt. (receipt ≡ load.batch.count)
-            × (self.new.stored ≡ self.old.stored + load.batch.count)) }
+        ensures stored { StoresLoad self.old self.new load result }
         ensures next { OnOk result (IsNext self.old.store self.old.stored load) }
         ensures not_now { IfErr result
             (λ fault. fault.0 ≡ NotStored.NotNow → IsNext self.old.store self.old.stored load → ⊥) }
-        ensures back { IfErr result (λ fault. (fault.1 ≡ load) × (self.new.stored ≡ self.old.stored)) }
-        ensures unwritten { IfErr result
-            (λ fault. (fault.0 ≡ NotStored.Store StoreFault.Device → ⊥) → self.new.store ≡ self.old.store) }
+        ensures back { GivesLoadBack self.old self.new load result }
+        ensures unwritten { WritesNothingElse self.old.store self.new.store result }
         ensures quiet { OnOk result (D.failed_calls self.new.store.disk ≡ D.failed_calls self.old.store.disk) }
-        ensures device { IfErr result (λ fault. fault.0 ≡ NotStored.Store StoreFault.Device
-            → D.failed_calls self.new.store.disk ≡ one_more (D.failed_calls self.old.store.disk)) }
-        ensures failed { IfErr result (λ fault. fault.0 ≡ NotStored.Store StoreFault.Failed
-            → self.old.store.failed ≡ true) }
-        ensures full { IfErr result (λ fault. fault.0 ≡ NotStored.Store StoreFault.Full
-            → MAX_RECORDS < self.old.store.segment.records + load.batch.count) }
+        ensures device { CountsDevice (D.failed_calls self.old.store.disk) (D.failed_calls self.new.store.disk) result }
+        ensures failed { HadFailed self.old.store result }
+        ensures full { WouldOverfill self.old.store load result }
         ensures faults { IfErr result (λ fault. IsWhyNotStored fault.0) }
         ensures earlier { self.new.earlier ≡ self.old.earlier }
         ensures begins { Begins self.old.entries self.new.entries }
@@ -214,19 +208,14 @@ impl<L: Founding, D: Disk> StoreKeeper<L, D> {
     fn store_next(&mut self, load: Load<L>) -> Result<Receipt, (NotStored, Load<L>)>
         requires next { IsNext self.old.store self.old.stored load }
         requires begins { Begins load.entries self.old.entries }
-        ensures stored { IfOk result (λ receipt. (receipt ≡ load.batch.count)
-            × (self.new.stored ≡ self.old.stored + load.batch.count)) }
-        ensures back { IfErr result (λ fault. (fault.1 ≡ load) × (self.new.stored ≡ self.old.stored)) }
+        ensures stored { StoresLoad self.old self.new load result }
+        ensures back { GivesLoadBack self.old self.new load result }
         ensures fault { IfErr result (λ fault. fault.0 ≡ NotStored.NotNow → ⊥) }
-        ensures unwritten { IfErr result
-            (λ fault. (fault.0 ≡ NotStored.Store StoreFault.Device → ⊥) → self.new.store ≡ self.old.store) }
+        ensures unwritten { WritesNothingElse self.old.store self.new.store result }
         ensures quiet { OnOk result (D.failed_calls self.new.store.disk ≡ D.failed_calls self.old.store.disk) }
-        ensures device { IfErr result (λ fault. fault.0 ≡ NotStored.Store StoreFault.Device
-            → D.failed_calls self.new.store.disk ≡ one_more (D.failed_calls self.old.store.disk)) }
-        ensures failed { IfErr result (λ fault. fault.0 ≡ NotStored.Store StoreFault.Failed
-            → self.old.store.failed ≡ true) }
-        ensures full { IfErr result (λ fault. fault.0 ≡ NotStored.Store StoreFault.Full
-            → MAX_RECORDS < self.old.store.segment.records + load.batch.count) }
+        ensures device { CountsDevice (D.failed_calls self.old.store.disk) (D.failed_calls self.new.store.disk) result }
+        ensures failed { HadFailed self.old.store result }
+        ensures full { WouldOverfill self.old.store load result }
         ensures faults { IfErr result (λ fault. IsWhyNotStored fault.0) }
         ensures earlier { self.new.earlier ≡ self.old.earlier }
         ensures entries { self.new.entries ≡ self.old.entries }
