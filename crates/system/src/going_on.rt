@@ -7,7 +7,7 @@ ghost use Rattle.system.specs.Calling.{IsResting};
 ghost use Rattle.store_fault.specs.declared.fault.StoreFault.{StoreFault};
 ghost use Rattle.store_half.specs.Changes.{HasImaged};
 ghost use Rattle.system.specs.Counting.{counted};
-ghost use Rattle.system.specs.GoingOn.{GoesOn, GoesOnImage, GoesOnPieces, IsFirstStep, IsRolledOver, IsStanding, Recovers, RollsOver, TakesMemory};
+ghost use Rattle.system.specs.GoingOn.{GoesOn, GoesOnImage, GoesOnPieces, IsFirstStep, IsRolledOver, Recovers, RecoversSince, RollsOver, StaysStanding, TakesMemory};
 
 use crate::system::System;
 use disk::Disk;
@@ -27,10 +27,8 @@ impl<D: Disk> System<D> {
         ensures rests { OnOk result (IsResting self.new) }
         ensures kernel { self.new.core.kernel ≡ self.old.core.kernel }
         ensures tickets { (self.new.core.log.made ≡ self.old.core.log.made) × (self.new.tickets ≡ self.old.tickets) }
-        ensures kept { D.honest → IsStanding D.view self.old.store self.old.core.kernel
-            → OnOk result (IsStanding D.view self.new.store self.new.core.kernel) }
-        ensures passes { D.honest → IsStanding D.view self.old.store self.old.core.kernel
-            → Passes (D.view self.old.store.disk) (D.view self.new.store.disk) (Recovers self.old.core.kernel) }
+        ensures kept { D.honest → StaysStanding D.view self.old self.new result }
+        ensures passes { D.honest → RecoversSince D.view self.old self.new }
         ensures faults { IfErr result (λ fault. (fault ≡ StoreFault.Device)
             ⊎ ((fault ≡ StoreFault.NoMemory) × TakesMemory records self.old.store self.old.store.checkpoint
             × (self.new ≡ self.old))) }
@@ -85,10 +83,8 @@ impl<D: Disk> System<D> {
         ensures rests { OnOk result (IsResting self.new) }
         ensures kernel { self.new.core.kernel ≡ self.old.core.kernel }
         ensures tickets { (self.new.core.log.made ≡ self.old.core.log.made) × (self.new.tickets ≡ self.old.tickets) }
-        ensures kept { D.honest → IsStanding D.view self.old.store self.old.core.kernel
-            → OnOk result (IsStanding D.view self.new.store self.new.core.kernel) }
-        ensures passes { D.honest → IsStanding D.view self.old.store self.old.core.kernel
-            → Passes (D.view self.old.store.disk) (D.view self.new.store.disk) (Recovers self.old.core.kernel) }
+        ensures kept { D.honest → StaysStanding D.view self.old self.new result }
+        ensures passes { D.honest → RecoversSince D.view self.old self.new }
         ensures faults { IfErr result (λ fault. (fault ≡ StoreFault.Device)
             ⊎ ((fault ≡ StoreFault.NoMemory) × HasImaged self.old.store.checkpoint 0 × (self.new ≡ self.old))) }
         ensures failures { D.failed_calls self.new.store.disk ≡ counted result (D.failed_calls self.old.store.disk) }
@@ -106,10 +102,8 @@ impl<D: Disk> System<D> {
         ensures rests { OnOk result (IsResting self.new) }
         ensures kernel { self.new.core.kernel ≡ self.old.core.kernel }
         ensures tickets { (self.new.core.log.made ≡ self.old.core.log.made) × (self.new.tickets ≡ self.old.tickets) }
-        ensures kept { D.honest → IsStanding D.view self.old.store self.old.core.kernel
-            → OnOk result (IsStanding D.view self.new.store self.new.core.kernel) }
-        ensures passes { D.honest → IsStanding D.view self.old.store self.old.core.kernel
-            → Passes (D.view self.old.store.disk) (D.view self.new.store.disk) (Recovers self.old.core.kernel) }
+        ensures kept { D.honest → StaysStanding D.view self.old self.new result }
+        ensures passes { D.honest → RecoversSince D.view self.old self.new }
         ensures faults { IfErr result (λ fault. fault ≡ StoreFault.Device) }
         ensures failures { D.failed_calls self.new.store.disk ≡ counted result (D.failed_calls self.old.store.disk) }
     {
