@@ -4,7 +4,7 @@ use crate::row::{Script, ScriptStep, code_of};
 use calls::read_recorded_reply;
 use codes::KernReturn;
 use ipc_model::{Call, Reply};
-use script::{push_call, push_reply};
+use script_printing::{push_call, push_reply};
 use std::alloc::{AllocError, Global};
 use std::{io, str};
 

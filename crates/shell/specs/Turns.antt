@@ -10,7 +10,7 @@ use Rattle.ipc_model.specs.declared.call.Call.{Call}
 use Rattle.ipc_model.specs.declared.call.Reply.{Reply}
 use Rattle.script.specs.declared.fault.LineFault.{LineFault}
 use Rattle.script.specs.declared.fault.LineFault.TheVariants as line_fault
-use Rattle.script.specs.declared.line.Exchange.{Exchange}
+use Rattle.script_printing.specs.declared.line.Exchange.{Exchange}
 use Rattle.words.specs.Words.{frame_encoding}
 use Rattle.shell.specs.declared.asked.Asked.{Asked}
 use Rattle.shell.specs.declared.asked.Asked.TheVariants as asked
