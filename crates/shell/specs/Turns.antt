@@ -34,10 +34,11 @@ said_well asked.Nothing answer = true
 said_well (asked.Call c) answer = true
 said_well (asked.Exchange x) answer = is_same_reply answer x.reply
 
--- What is printed for a line whose call is answered by a frame of this content.
+-- What is printed for a line whose call is answered by a frame of this content. If it is a reply to the call, that is
+-- the one that is printed.
 abbrev pub Tells : ℕ → Call → Asked → List ℕ → List ℕ → Bool → Type 0
 Tells number c a content text well =
-    ((text ≡ strange_line number) × (well ≡ false))
+    (((answer : Reply) → IsReplyTo (number_of_call c) content answer → ⊥) × (text ≡ strange_line number) × (well ≡ false))
     ⊎ ((answer : Reply) × IsReplyTo (number_of_call c) content answer × (text ≡ said_text number a answer)
     × (well ≡ said_well a answer))
 

@@ -1,7 +1,7 @@
 use Rattle.std.proofs.Common.{◌≡◌, ◌<◌, ◌^◌, ◌++◌, List, ℕ, length, flat_map}
 use Rattle.std.specs.Prelude.{All}
 use Rattle.words.specs.Words.{word}
-use Rattle.shell.proofs.rows.read_members.Given as goal
+use Rattle.calls.proofs.reply_rows.read_members.Given as goal
 
 -- what was read, with what is left, is the whole
 pub record Left (whole : List ℕ) (members : List ℕ) (rest : List ℕ) : Type 0 where

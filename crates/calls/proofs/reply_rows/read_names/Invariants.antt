@@ -2,7 +2,7 @@ use Rattle.std.proofs.Common.{◌≡◌, ◌<◌, ◌^◌, ◌++◌, List, ℕ, 
 use Rattle.std.specs.Prelude.{All}
 use Rattle.ipc_model.specs.declared.call.NamedType.{NamedType}
 use Rattle.words.specs.Words.{word}
-use Rattle.shell.proofs.rows.read_names.Given as goal
+use Rattle.calls.proofs.reply_rows.read_names.Given as goal
 
 -- what was read, with what is left, is the whole
 pub record Left (whole : List ℕ) (names : List NamedType) (rest : List ℕ) : Type 0 where
