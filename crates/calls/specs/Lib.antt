@@ -1,3 +1,5 @@
+pub mod Codes
+pub mod Replies
 pub mod Requests
 pub mod Rows
 pub mod Shapes

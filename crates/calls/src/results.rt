@@ -1,20 +1,12 @@
-ghost use Rattle.std.specs.Prelude.{true, false, ◌≡◌, ◌≢◌, ◌<◌, ◌^◌, ◌++◌, ◌||◌, None, Some, IsTrue, IfOk, IfSome, IfNone, length};
-ghost use Rattle.codes.specs.KernReturn.{number_of};
-ghost use Rattle.codes.specs.declared.kern_return.KernReturn.{KernReturn};
-ghost use Rattle.ipc_model.specs.declared.call.Call.{Call};
+ghost use Rattle.std.specs.Prelude.{true, false, ◌≡◌, ◌||◌, Some, IsTrue, IfOk, IfSome};
 ghost use Rattle.ipc_model.specs.declared.call.Reply.{Reply};
-ghost use Rattle.ipc_model.specs.calls.Step.{number_of_call, has_destroyed, is_recorded, is_success, succeeded};
-ghost use Rattle.ipc_model.specs.encodings.Encodings.{reply_encoding, done_encoding, has_no_results, number_of_reply, Brings, FitsReply, HasItsResults, IsOfReceive, IsRecordedReply};
-ghost use Rattle.words.specs.Words.{word};
+ghost use Rattle.ipc_model.specs.calls.Step.{has_destroyed, is_success, succeeded, destroyed_message};
+ghost use Rattle.ipc_model.specs.encodings.Encodings.{reply_encoding, has_no_results, Brings, HasItsResults, IsOfReceive, IsRecordedReply};
 
-use crate::word_rows::{one_word, two_words};
-use codes::{
-    KernReturn, MACH_MSG, MACH_PORT_ALLOCATE, MACH_PORT_DEAD, MACH_PORT_EXTRACT_RIGHT,
-    MACH_PORT_NULL, MACH_PORT_REQUEST_NOTIFICATION, SPACE_CREATE,
-};
-use ipc_model::{Call, Reply, RightKind, Sequence, is_message_size};
+use crate::reply::read_reply;
+use codes::{KernReturn, MACH_PORT_DEAD, MACH_PORT_NULL};
+use ipc_model::{Call, Reply, is_message_size};
 use std::alloc::{AllocError, Global};
-use words::take_word;
 
 /// Whether the call is a receive that destroys a message that is too large.
 fn destroys(call: &Call) -> bool
@@ -23,21 +15,6 @@ fn destroys(call: &Call) -> bool
     match call {
         Call::Receive { large, .. } => !*large,
         _ => false,
-    }
-}
-
-/// The code of a `mach_msg` that has a record.
-fn recorded_code(call: &Call, number: u32) -> Option<KernReturn>
-    ensures found { IfSome result (λ code. (number_of code ≡ number)
-        × IsTrue (is_success code || has_destroyed call.now code)) }
-    ensures only { (code : KernReturn) → number_of code ≡ number
-        → IsTrue (is_success code || has_destroyed call.now code)
-        → result ≡ Some code }
-{
-    match number {
-        0 => Some(KernReturn::Success),
-        0x1000_4004 if destroys(call) => Some(KernReturn::RcvTooLarge),
-        _ => None,
     }
 }
 
@@ -84,112 +61,63 @@ fn brings(call: &Call, code: KernReturn, size: u32, member: u32, message: &[u8])
     }
 }
 
-/// The size, the port's name and the message that stand after the code of a `mach_msg`.
-fn take_message(results: &[u8]) -> Option<(u32, u32, &[u8])>
-    ensures found { IfSome result (λ r. results.now ≡ word r.0 ++ (word r.1 ++ r.2.now)) }
-    ensures fits { IfSome result (λ r. (r.0 < 2 ^ 32) × (r.1 < 2 ^ 32)) }
-    ensures none { IfNone result (length results.now < 8) }
+/// Whether a record has a `mach_msg` with this code.
+fn has_recorded_code(call: &Call, code: KernReturn) -> bool
+    ensures { result ≡ (is_success code || has_destroyed call.now code) }
 {
-    let (size, rest) = take_word(results)?;
-    let (member, message) = take_word(rest)?;
-    Some((size, member, message))
+    match code {
+        KernReturn::Success => true,
+        KernReturn::RcvTooLarge => destroys(call),
+        _ => false,
+    }
 }
 
-#[tactic(auto, unfolding(ipc_model::specs::encodings::Encodings::reply_encoding))]
-/// The reply to a `mach_msg` that has a record, from its code and what stands after it.
-fn read_message_reply(
-    alloc: Global,
+/// Whether a record has a `mach_msg` with these results.
+fn is_recorded_message(
     call: &Call,
-    code: u32,
-    results: &[u8],
-) -> Result<Option<Reply>, AllocError>
-    requires of_call { number_of_call call.now ≡ MACH_MSG }
-    requires recorded { is_recorded call.now ≡ true }
-    ensures found { IfOk result (λ found. IfSome found (λ answer.
-        (word MACH_MSG ++ (word code ++ results.now) ≡ reply_encoding answer) × IsRecordedReply call.now answer)) }
-    ensures only { (answer : Reply) → IsRecordedReply call.now answer → 0 < length results.now
-        → word MACH_MSG ++ (word code ++ results.now) ≡ reply_encoding answer
-        → IfOk result (λ found. found ≡ Some answer) }
+    code: KernReturn,
+    size: u32,
+    member: u32,
+    message: &[u8],
+) -> bool
+    ensures yes { result ≡ true → Brings call.now code size member message.now × IsTrue (is_success code
+        || has_destroyed call.now code) }
+    ensures no { result ≡ false → Brings call.now code size member message.now → IsTrue (is_success code
+        || has_destroyed call.now code) → ⊥ }
 {
-    let Some(code) = recorded_code(call, code) else {
-        return Ok(None);
-    };
-    let Some((size, member, message)) = take_message(results) else {
-        return Ok(None);
-    };
-    if !brings(call, code, size, member, message) {
-        return Ok(None);
-    }
-    let message = Sequence::new(Vec::from_slice(alloc, message)?);
-    Ok(Some(Reply::Message {
-        code,
-        size,
-        member,
-        message,
-    }))
-}
-
-#[tactic(auto, unfolding(ipc_model::specs::encodings::Encodings::reply_encoding))]
-/// The reply to a call with this number, any but `mach_msg`, that was done and has these results.
-fn read_plain_reply(number: u32, results: &[u8]) -> Option<Reply>
-    ensures found { IfSome result (λ answer. (done_encoding number results.now ≡ reply_encoding answer)
-        × FitsReply answer
-        × (number_of_reply answer ≡ number)
-        × ((c : Call) → (succeeded c answer ≡ true) × HasItsResults c answer)) }
-    ensures only { (c : Call) (answer : Reply) → IsRecordedReply c answer → number_of_call c ≡ number
-        → number ≢ MACH_MSG
-        → 0 < length results.now → done_encoding number results.now ≡ reply_encoding answer → result ≡ Some answer }
-{
-    match number {
-        MACH_PORT_ALLOCATE => {
-            let name = one_word(results)?;
-            Some(Reply::Allocate { name })
-        }
-        MACH_PORT_REQUEST_NOTIFICATION => {
-            let name = one_word(results)?;
-            Some(Reply::PreviousTarget { name })
-        }
-        MACH_PORT_EXTRACT_RIGHT => {
-            let (name, kind) = two_words(results)?;
-            let kind = RightKind::from_number(kind)?;
-            Some(Reply::Extracted { name, kind })
-        }
-        SPACE_CREATE => {
-            let (space, name) = two_words(results)?;
-            Some(Reply::SpaceCreated { space, name })
-        }
-        _ => None,
+    if has_recorded_code(call, code) {
+        brings(call, code, size, member, message)
+    } else {
+        false
     }
 }
 
-#[tactic(auto, unfolding(ipc_model::specs::encodings::Encodings::reply_encoding))]
-/// The reply to a call that has a record, from its code and what stands after it.
-fn read_results(
-    alloc: Global,
-    call: &Call,
-    code: u32,
-    results: &[u8],
-) -> Result<Option<Reply>, AllocError>
-    requires { is_recorded call.now ≡ true }
-    ensures found { IfOk result (λ found. IfSome found (λ answer.
-        (word (number_of_call call.now) ++ (word code ++ results.now) ≡ reply_encoding answer) × IsRecordedReply call.now answer)) }
-    ensures only { (answer : Reply) → IsRecordedReply call.now answer
-        → word (number_of_call call.now) ++ (word code ++ results.now) ≡ reply_encoding answer
-        → IfOk result (λ found. found ≡ Some answer) }
+/// Whether a record of this call, which has one, can have this reply to it.
+fn is_recorded_reply(call: &Call, answer: &Reply) -> bool
+    ensures yes { result ≡ true → HasItsResults call.now answer.now × IsTrue (succeeded call.now answer.now
+        || destroyed_message call.now answer.now) }
+    ensures no { result ≡ false → HasItsResults call.now answer.now → IsTrue (succeeded call.now answer.now
+        || destroyed_message call.now answer.now) → ⊥ }
 {
-    let number = call.number();
-    if code == 0 {
-        if results.is_empty() {
-            return Ok(has_no_results(call).then_some(Reply::Done { number }));
-        }
-        if number != MACH_MSG {
-            return Ok(read_plain_reply(number, results));
-        }
+    match answer {
+        Reply::Refused { .. } => false,
+        Reply::Done { .. } => has_no_results(call),
+        Reply::Message {
+            code,
+            size,
+            member,
+            message,
+        } => is_recorded_message(call, *code, *size, *member, message.as_slice()),
+        Reply::Names { .. }
+        | Reply::Type { .. }
+        | Reply::Allocate { .. }
+        | Reply::References { .. }
+        | Reply::ReceiveStatus { .. }
+        | Reply::SetStatus { .. }
+        | Reply::PreviousTarget { .. }
+        | Reply::Extracted { .. }
+        | Reply::SpaceCreated { .. } => true,
     }
-    if number == MACH_MSG {
-        return read_message_reply(alloc, call, code, results);
-    }
-    Ok(None)
 }
 
 /// The reply that these bytes encode, if they encode a reply in a record of this call. It can run out of memory only
@@ -204,17 +132,16 @@ pub fn read_recorded_reply(
     ensures only { (answer : Reply) → IsRecordedReply call.now answer → content.now ≡ reply_encoding answer
         → IfOk result (λ found. found ≡ Some answer) }
 {
-    let Some((number, rest)) = take_word(content) else {
-        return Ok(None);
-    };
-    let Some((code, results)) = take_word(rest) else {
-        return Ok(None);
-    };
-    if number != call.number() {
-        return Ok(None);
-    }
     if !call.is_recorded() {
         return Ok(None);
     }
-    read_results(alloc, call, code, results)
+    let found = read_reply(alloc, call.number(), content)?;
+    let Some(answer) = found else {
+        return Ok(None);
+    };
+    if is_recorded_reply(call, &answer) {
+        Ok(Some(answer))
+    } else {
+        Ok(None)
+    }
 }

@@ -1,10 +1,8 @@
 use crate::expect::{is_there, same, same_bytes, same_in_row};
 use codes::KernReturn;
 use ipc_model::{Call, ReceiveStatus, Reply, Sequence};
-use script::{
-    Exchange, Expected, Line, LineFault, push_call, push_exchange, push_reply, read_line,
-    read_request_line, read_script,
-};
+use script::{Exchange, Expected, Line, LineFault, read_line, read_request_line, read_script};
+use script_printing::{push_call, push_exchange, push_reply};
 use std::alloc::{AllocError, Global};
 
 // Whether an exchange is printed as this line.

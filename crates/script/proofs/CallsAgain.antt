@@ -4,17 +4,19 @@ use Rattle.std.specs.Prelude.{codes, find}
 use Rattle.std.specs.Str.{bytes_eq}
 use Rattle.ipc_model.specs.declared.call.Call.{Call}
 use Rattle.ipc_model.specs.declared.call.Call.TheVariants as call
-use Rattle.script.specs.declared.kind.Kind.{Kind}
-use Rattle.script.specs.declared.kind.Kind.TheVariants.{Hexadecimal, Decimal, Signed, Right, Disposition, Notification, Absent}
+use Rattle.script_words.specs.declared.kind.Kind.{Kind}
+use Rattle.script_words.specs.declared.kind.Kind.TheVariants.{Hexadecimal, Decimal, Signed, Right, Disposition, Notification, Absent}
+use Rattle.script_words.specs.declared.verb.Verb.{Verb}
+use Rattle.script_words.specs.declared.verb.Verb.TheVariants as verb
+use Rattle.script_words.specs.Kinds.{value_word}
+use Rattle.script_words.specs.Verbs.{verb_word, all_verbs}
+use Rattle.script_printing.specs.Calls.{verb_of, argument_words, call_words}
+use Rattle.script_printing.specs.Messages.{flag_words}
 use Rattle.script.specs.declared.plain.Arguments.{Arguments}
-use Rattle.script.specs.declared.verb.Verb.{Verb}
-use Rattle.script.specs.declared.verb.Verb.TheVariants as verb
-use Rattle.script.specs.Calls.{verb_of, argument_words, call_words, HasLine, receive_at, send_at, after_at, call_at}
-use Rattle.script.specs.Kinds.{value_word}
-use Rattle.script.specs.Messages.{flag_words, message_at}
+use Rattle.script.specs.Calls.{HasLine, receive_at, send_at, after_at, call_at}
+use Rattle.script.specs.Messages.{message_at}
 use Rattle.script.specs.Plain.{three_kinds, kinds_of, plain_call, arguments_at, plain_at}
 use Rattle.script.specs.Reading.{number_at, value_at, labelled_at, flag_at}
-use Rattle.script.specs.Verbs.{verb_word, all_verbs}
 use Rattle.script.proofs.MessagesAgain.{message_again}
 use Rattle.script.proofs.ReadingAgain.{value_again, labelled_again, flag_again, past_flag, NoLabel}
 

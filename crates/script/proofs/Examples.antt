@@ -3,16 +3,16 @@ use Rattle.std.proofs.Common.{◌≡◌, [], ◌∷◌, ◌++◌, refl}
 use Rattle.std.specs.Prelude.{codes, Ok, Err}
 use Rattle.ipc_model.specs.declared.call.Call.TheVariants as call
 use Rattle.ipc_model.specs.declared.call.Reply.TheVariants as reply
+use Rattle.script_words.specs.Kinds.{read_word}
+use Rattle.script_words.specs.Spaced.{words_of, column_of}
 use Rattle.script.specs.declared.fault.Expected.TheVariants as expected
 use Rattle.script.specs.declared.fault.LineFault.TheVariants as line_fault
 use Rattle.script.specs.Calls.{call_at, after_at}
-use Rattle.script.specs.Kinds.{read_word}
 use Rattle.script.specs.Lines.{exchange_at, line_read}
 use Rattle.script.specs.Plain.{arguments_at, plain_at}
 use Rattle.script.specs.Reading.{number_at, value_at, last}
 use Rattle.script.specs.Replies.{last_value, results_at, reply_at, silence}
 use Rattle.script.specs.Scripts.{lines_of, lines_read, script_read}
-use Rattle.script.specs.Spaced.{words_of, column_of}
 
 -- a comment and a blank line hold no call, but count as lines
 comments_count : script_read (codes "# a task" ++ 10 ∷ 10 ∷ codes "type 256 = 0x30000" ++ 10 ∷ codes " destroy 0x1 # done")

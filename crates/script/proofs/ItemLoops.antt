@@ -1,16 +1,14 @@
--- Bodies item by item.
+-- Bodies read item by item.
 use Rattle.std.proofs.Common.{◌≡◌, ℕ, zero, suc, ◌-◌, ◌<◌, List, [], ◌∷◌, ◌++◌, length, refl, sym, ap, ◌∙◌, arith, Option, Some, None, Ok, Err, append_assoc}
-use Rattle.std.specs.Prelude.{codes, OnOk, Result, ⊤}
+use Rattle.std.specs.Prelude.{codes}
 use Rattle.std.proofs.lemmas.List.{append-nil}
+use Rattle.script_words.specs.declared.kind.Kind.TheVariants.{Hexadecimal}
+use Rattle.script_words.specs.Kinds.{read_word}
 use Rattle.script.specs.declared.fault.Fault.{Fault}
 use Rattle.script.specs.declared.fault.Fault.TheVariants as fault
-use Rattle.script.specs.declared.kind.Kind.TheVariants.{Hexadecimal}
-use Rattle.script.specs.Bytes.{optional_bytes, optional_bytes_at}
-use Rattle.script.specs.Items.{numbers_at, item_front, body_within, body_words, item_at, after_bytes, parts_at, body_at, AddsItem}
-use Rattle.script.specs.Kinds.{read_word}
+use Rattle.script.specs.Bytes.{optional_bytes_at}
+use Rattle.script.specs.Items.{numbers_at, item_at, after_bytes, parts_at, body_at}
 use Rattle.script.specs.Reading.{Reading, ◌>>=◌, number_at, label_at, Fails}
-use Rattle.script.specs.Spaced.{spaced}
-use Rattle.script.proofs.WordsOf.{spaced_more}
 
 -- a number is read after others
 abbrev with_done : List ℕ → List ℕ × List (List ℕ) → List ℕ × List (List ℕ)
@@ -57,35 +55,6 @@ numbers_done done words all none is =
     sym is ∙ ap (λ (p : List ℕ × List (List ℕ)). (done ++ p.0, p.1)) (numbers_stop words none) ∙ ap
     (λ (l : List ℕ). (l, words)) (append-nil done)
 
--- one more item is printed
-pub item_pushed : (old line body behind : List ℕ) (left : ℕ) (words : List (List ℕ))
-    → item_front body ≡ Some (words, behind) → 0 < left → line ≡ old ++ spaced words
-    → line ++ spaced (body_within (left - 1) behind) ≡ old ++ spaced (body_within left body)
-unfolding body_within
-item_pushed old line body behind zero words is some pushed = absurd (omega arith)
-item_pushed old line body behind (suc n) words is some pushed =
-    let e : suc n - 1 ≡ n = omega arith in
-    ap (λ (k : ℕ). line ++ spaced (body_within k behind)) e
-    ∙ ap (λ (l : List ℕ). l ++ spaced (body_within n behind)) pushed
-    ∙ spaced_more old words (body_within n behind)
-    ∙ ap (λ (front : Option (List (List ℕ) × List ℕ)). old ++ spaced (elim front as (λ _. List (List ℕ)) [ None ↦ optional_bytes (codes "data") body | Some i ↦ i.0 ++ body_within n i.1 ])) (sym is)
-
-pub no_item_left : (body : List ℕ) (left : ℕ) → item_front body ≡ None → body_within left body ≡ optional_bytes (codes "data") body
-unfolding body_within
-no_item_left body zero none = refl
-no_item_left body (suc n) none = rw (none, body_within) refl
-
-pub none_left : (body : List ℕ) (left : ℕ) → left ≡ 0 → body_within left body ≡ optional_bytes (codes "data") body
-unfolding body_within
-none_left body left none = rw none refl
-
-pub rest_pushed : {E : Type 0} (r : Result ⊤ E) (old line new : List ℕ) (words rest all : List (List ℕ)) → words ≡ rest
-    → line ++ spaced words ≡ old ++ spaced all
-    → OnOk r (new ≡ line ++ spaced rest) → OnOk r (new ≡ old ++ spaced all)
-rest_pushed (Ok done) old line new words rest all is same pushed =
-    pushed ∙ sym (ap (λ (l : List (List ℕ)). line ++ spaced l) is) ∙ same
-rest_pushed (Err e) old line new words rest all is same pushed = tt
-
 -- one more item is read
 more_bytes : (done item : List ℕ) (read : Reading (List ℕ × List (List ℕ)))
     → after_bytes (done ++ item) read ≡ after_bytes done (after_bytes item read)
@@ -122,23 +91,6 @@ no_item_read (suc n) words none = rw (none, parts_at) refl
 pub none_to_read : (left : ℕ) (words : List (List ℕ)) → left ≡ 0 → parts_at left words ≡ optional_bytes_at (codes "data") words
 unfolding parts_at
 none_to_read left words none = rw none refl
-
--- what was added of an item
-pub added_some : (old new behind : List ℕ) (front : Option (List (List ℕ) × List ℕ))
-    → AddsItem old new (Some behind) front
-    → (words : List (List ℕ)) × (front ≡ Some (words, behind)) × (new ≡ old ++ spaced words)
-added_some old new behind (Some i) added = (i.0, ap (λ (b : List ℕ). Some (i.0, b)) (sym added.1), added.0)
-added_some old new behind None added = absurd added
-
-pub added_none : (old new : List ℕ) (front : Option (List (List ℕ) × List ℕ)) → AddsItem old new None front
-    → (front ≡ None) × (new ≡ old)
-added_none old new None added = (refl, added)
-added_none old new (Some i) added = absurd added
-
-pub all_pushed : (line body : List ℕ)
-    → line ++ spaced (body_within (length body) body) ≡ line ++ spaced (body_words body)
-unfolding body_words
-all_pushed line body = refl
 
 pub all_read : (body : List ℕ) (n : ℕ) (words : List (List ℕ)) → body ≡ [] → n ≡ length words
     → after_bytes body (parts_at n words) ≡ body_at words

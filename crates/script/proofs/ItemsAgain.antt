@@ -11,12 +11,15 @@ use Rattle.byteorder.specs.Numbers.{little_from-lt}
 use Rattle.words.specs.WordLaws.{word-little_number}
 use Rattle.words.specs.Words.{AreBytes, word}
 use Rattle.ipc_model.specs.messages.Items.{item_encoding}
+use Rattle.script_words.specs.declared.kind.Kind.{Kind}
+use Rattle.script_words.specs.declared.kind.Kind.TheVariants as kind
+use Rattle.script_words.specs.Items.{zeros, descriptor}
+use Rattle.script_words.specs.Kinds.{value_word, read_word}
+use Rattle.script_printing.specs.Bytes.{bytes_word, optional_bytes}
+use Rattle.script_printing.specs.Items.{element_kind, words_item_words, bytes_item_words, ◌>>?◌, word_front, split_front, number_told, numbers_in, words_front, bytes_front, item_front, body_within, body_words}
 use Rattle.script.specs.declared.fault.Expected.TheVariants as expected
-use Rattle.script.specs.declared.kind.Kind.{Kind}
-use Rattle.script.specs.declared.kind.Kind.TheVariants as kind
-use Rattle.script.specs.Bytes.{bytes_word, bytes_at, optional_bytes, optional_bytes_at}
-use Rattle.script.specs.Items.{words_item, zeros, bytes_item, element_kind, words_item_words, bytes_item_words, ◌>>?◌, word_front, split_front, descriptor, number_told, numbers_in, words_front, bytes_front, item_front, body_within, body_words, numbers_at, words_item_at, bytes_item_at, item_at, parts_at, body_at}
-use Rattle.script.specs.Kinds.{value_word, read_word}
+use Rattle.script.specs.Bytes.{bytes_at, optional_bytes_at}
+use Rattle.script.specs.Items.{words_item, bytes_item, numbers_at, words_item_at, bytes_item_at, item_at, parts_at, body_at}
 use Rattle.script.specs.Reading.{label_at, bounded_at}
 use Rattle.script.proofs.ReadingAgain.{bounded_again, label_again, other_label, past_bytes, bytes_at_again, optional_bytes_again, numbers_end, NoLabel}
 use Rattle.script.proofs.ValuesAgain.{word_again, in_decimal}

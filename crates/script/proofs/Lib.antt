@@ -5,10 +5,9 @@ pub mod ItemsAgain
 pub mod LinesAgain
 pub mod MessagesAgain
 pub mod NumbersAgain
+pub mod Printed
 pub mod ReadingAgain
 pub mod RepliesAgain
 pub mod Rows
 pub mod ScriptsAgain
-pub mod Printed
 pub mod ValuesAgain
-pub mod WordsOf

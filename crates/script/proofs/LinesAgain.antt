@@ -2,22 +2,25 @@
 use Rattle.std.proofs.Common.{◌≡◌, ℕ, List, [], refl, sym, ap, ◌∙◌, Option, ◌∷◌, ◌++◌, Some, None, Result, Ok, Err, append-nil}
 use Rattle.ipc_model.specs.declared.call.Call.{Call}
 use Rattle.ipc_model.specs.calls.Step.{number_of_call}
+use Rattle.script_words.specs.Spaced.{words_of}
+use Rattle.script_words.specs.Verbs.{verb_word}
+use Rattle.script_words.proofs.WordsOf.{line_again}
+use Rattle.script_printing.specs.declared.line.Exchange.{Exchange}
+use Rattle.script_printing.specs.Calls.{verb_of, argument_words, call_words, call_line}
+use Rattle.script_printing.specs.Lines.{exchange_words, exchange_line}
+use Rattle.script_printing.specs.Replies.{reply_words}
 use Rattle.script.specs.declared.fault.Fault.{Fault}
 use Rattle.script.specs.declared.fault.Fault.TheVariants as fault
 use Rattle.script.specs.declared.fault.LineFault.{LineFault}
 use Rattle.script.specs.declared.fault.LineFault.TheVariants as line_fault
-use Rattle.script.specs.declared.line.Exchange.{Exchange}
-use Rattle.script.specs.Calls.{verb_of, argument_words, call_words, call_line, call_at, HasLine}
-use Rattle.script.specs.Lines.{IsExchange, exchange_words, exchange_line, exchange_at, request_at, fault_of, on_line, words_read, line_read, request_read, IsRead, UnlessMemory}
+use Rattle.script.specs.Calls.{call_at, HasLine}
+use Rattle.script.specs.Lines.{IsExchange, exchange_at, request_at, fault_of, on_line, words_read, line_read, request_read, IsRead, UnlessMemory}
 use Rattle.script.specs.Reading.{Reading, ◌>>=◌, Fails}
-use Rattle.script.specs.Replies.{reply_words, reply_at}
-use Rattle.script.specs.Spaced.{words_of}
-use Rattle.script.specs.Verbs.{verb_word}
+use Rattle.script.specs.Replies.{reply_at}
 use Rattle.script.proofs.CallsAgain.{call_again}
 use Rattle.script.proofs.ReadingAgain.{no_label_end}
 use Rattle.script.proofs.RepliesAgain.{reply_again, reply_no_label}
 use Rattle.script.proofs.Printed.{call_printed, reply_printed, printed_both}
-use Rattle.script.proofs.WordsOf.{line_again}
 
 pub request_again : (c : Call) → HasLine c → request_at (call_words c) ≡ Ok c
 unfolding request_at

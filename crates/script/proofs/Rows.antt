@@ -1,14 +1,14 @@
 -- Rows that are read one after another.
 use Rattle.std.proofs.Common.{◌≡◌, ℕ, suc, ◌<◌, List, [], ◌∷◌, ◌++◌, length, refl, sym, ap, ◌∙◌, arith, Option, Some, None, Ok, Err, append_assoc, append-nil}
 use Rattle.ipc_model.specs.declared.call.NamedType.{NamedType}
-use Rattle.script.specs.declared.kind.Kind.TheVariants.{Hexadecimal}
+use Rattle.script_words.specs.declared.kind.Kind.TheVariants.{Hexadecimal}
+use Rattle.script_words.specs.Kinds.{read_word}
 use Rattle.script.specs.declared.fault.Fault.{Fault}
 use Rattle.script.specs.declared.fault.Fault.TheVariants as fault
 use Rattle.script.specs.declared.fault.Expected.TheVariants.{Number}
 use Rattle.script.specs.declared.fault.Stop.{Stop}
 use Rattle.script.specs.Reading.{Reading, ◌>>=◌, stop, wanted, number_at, value_at, Fails}
-use Rattle.script.specs.Kinds.{read_word}
-use Rattle.script.specs.Replies.{in_front_of, named_at, member_at, names_at, members_at, names_words, members_words}
+use Rattle.script.specs.Replies.{in_front_of, named_at, member_at, names_at, members_at}
 
 -- what is read, after what was read before
 abbrev pub after_all : {A : Type 0} → List A → Reading (List A) → Reading (List A)
@@ -172,14 +172,3 @@ pub members_fault : (e : Fault) (done : List ℕ) (words : List (List ℕ)) (all
     → Fails e (member_at words) → after_all done (members_at words) ≡ all → Fails e all
 members_fault fault.NoMemory done words all fails is = tt
 members_fault (fault.Unreadable place) done words all fails is = sym is ∙ members_stop done words place fails
-
--- no rows have no words
-pub names_gone : (names : List NamedType) → length names ≡ 0 → names_words names ≡ []
-unfolding names_words
-names_gone [] e = refl
-names_gone (x ∷ names) e = absurd (omega arith)
-
-pub members_gone : (members : List ℕ) → length members ≡ 0 → members_words members ≡ []
-unfolding members_words
-members_gone [] e = refl
-members_gone (x ∷ members) e = absurd (omega arith)

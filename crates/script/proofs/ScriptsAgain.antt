@@ -7,20 +7,21 @@ use Rattle.std.proofs.lemmas.Bool.{and_parts}
 use Rattle.std.proofs.lemmas.Bool.Decides.{nat_tests}
 use Rattle.std.proofs.lemmas.List.{append-nil}
 use Rattle.std.proofs.lemmas.List.Elements.{All-head, All-tail}
+use Rattle.script_words.specs.Spaced.{is_word_byte, in_front, spaced, line_of}
+use Rattle.script_words.proofs.WordsOf.{are_word_bytes, is_word, are_words}
+use Rattle.script_printing.specs.declared.line.Exchange.{Exchange}
+use Rattle.script_printing.specs.Calls.{call_words}
+use Rattle.script_printing.specs.Lines.{exchange_line, exchange_words}
+use Rattle.script_printing.specs.Replies.{reply_words}
 use Rattle.script.specs.declared.fault.LineFault.{LineFault}
 use Rattle.script.specs.declared.fault.LineFault.TheVariants as line_fault
 use Rattle.script.specs.declared.fault.ScriptFault.{ScriptFault}
-use Rattle.script.specs.declared.line.Exchange.{Exchange}
 use Rattle.script.specs.declared.text.Line.{Line}
-use Rattle.script.specs.Calls.{call_words}
-use Rattle.script.specs.Lines.{exchange_line, exchange_words, line_read, IsExchange}
+use Rattle.script.specs.Lines.{line_read, IsExchange}
 use Rattle.script.specs.Reading.{◌>>=◌}
-use Rattle.script.specs.Replies.{reply_words}
 use Rattle.script.specs.Scripts.{in_line, script_text, numbered, lines_of, and_below, lines_read, script_read, Adds, IsFault, AreExchanges}
-use Rattle.script.specs.Spaced.{is_word_byte, in_front, spaced, line_of}
 use Rattle.script.proofs.LinesAgain.{words_of_exchange, line_read_again}
 use Rattle.script.proofs.Printed.{call_printed, reply_printed, printed_both}
-use Rattle.script.proofs.WordsOf.{are_word_bytes, is_word, are_words}
 
 -- no byte ends a line
 abbrev are_in_line : List ℕ → Bool

@@ -1,14 +1,9 @@
 pub mod Bytes
 pub mod Calls
-pub mod Codes
 pub mod Items
-pub mod Kinds
 pub mod Lines
 pub mod Messages
-pub mod Numbers
 pub mod Plain
 pub mod Reading
 pub mod Replies
 pub mod Scripts
-pub mod Spaced
-pub mod Verbs

@@ -1,20 +1,19 @@
--- Lines of scripts.
-use Rattle.std.specs.Prelude.{◌≡◌, ℕ, ◌-◌, List, [], ◌∷◌, ◌++◌, length, Option, None, Some, Result, Ok, Err}
+-- Reading lines.
+use Rattle.std.specs.Prelude.{◌≡◌, ℕ, ◌-◌, List, [], ◌∷◌, length, Option, None, Some, Result, Ok, Err}
 use Rattle.ipc_model.specs.calls.Step.{number_of_call}
 use Rattle.ipc_model.specs.encodings.Encodings.{number_of_reply, FitsReply}
 use Rattle.ipc_model.specs.declared.call.Call.{Call}
+use Rattle.script_words.specs.Spaced.{words_of, column_of}
+use Rattle.script_printing.specs.declared.line.Exchange.{Exchange}
 use Rattle.script.specs.declared.fault.Expected.TheVariants.{End}
 use Rattle.script.specs.declared.fault.Fault.{Fault}
 use Rattle.script.specs.declared.fault.Fault.TheVariants as fault
 use Rattle.script.specs.declared.fault.LineFault.{LineFault}
 use Rattle.script.specs.declared.fault.LineFault.TheVariants as line_fault
-use Rattle.ipc_model.specs.declared.call.Reply.{Reply}
 use Rattle.script.specs.declared.fault.Stop.{Stop}
-use Rattle.script.specs.declared.line.Exchange.{Exchange}
-use Rattle.script.specs.Calls.{call_words, call_at, HasLine}
+use Rattle.script.specs.Calls.{call_at, HasLine}
 use Rattle.script.specs.Reading.{Reading, ◌>>=◌, stop}
-use Rattle.script.specs.Replies.{reply_words, reply_at, IsOwn}
-use Rattle.script.specs.Spaced.{words_of, column_of, line_of, spaced}
+use Rattle.script.specs.Replies.{reply_at, IsOwn}
 
 -- A call and what it answered have a line.
 pub record IsExchange (x : Exchange) : Type 0 where
@@ -22,18 +21,6 @@ pub record IsExchange (x : Exchange) : Type 0 where
   pub reply : FitsReply x.reply
   pub own : IsOwn x.reply
   pub of_one_call : number_of_reply x.reply ≡ number_of_call x.call
-
--- the words of the call, and of what it answered
-abbrev pub exchange_words : Exchange → List (List ℕ)
-exchange_words x = call_words x.call ++ reply_words x.reply
-
--- the line that they make
-unfoldable pub exchange_line : Exchange → List ℕ
-exchange_line x = line_of (exchange_words x)
-
--- what follows the call in it
-abbrev pub reply_line : Reply → List ℕ
-reply_line r = spaced (reply_words r)
 
 -- the call of a line and what it answered
 unfoldable pub exchange_at : List (List ℕ) → Reading Exchange

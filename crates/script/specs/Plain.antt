@@ -2,12 +2,12 @@
 use Rattle.std.specs.Prelude.{ℕ, List, Option, None, Some, Ok}
 use Rattle.ipc_model.specs.declared.call.Call.{Call}
 use Rattle.ipc_model.specs.declared.call.Call.TheVariants as call
-use Rattle.script.specs.declared.kind.Kind.{Kind}
-use Rattle.script.specs.declared.kind.Kind.TheVariants.{Hexadecimal, Decimal, Signed, Right, Disposition, Notification, Absent}
+use Rattle.script_words.specs.declared.kind.Kind.{Kind}
+use Rattle.script_words.specs.declared.kind.Kind.TheVariants.{Hexadecimal, Decimal, Signed, Right, Disposition, Notification, Absent}
+use Rattle.script_words.specs.declared.verb.Verb.{Verb}
+use Rattle.script_words.specs.declared.verb.Verb.TheVariants as verb
 use Rattle.script.specs.declared.plain.Arguments.{Arguments}
 use Rattle.script.specs.declared.plain.Kinds.{Kinds}
-use Rattle.script.specs.declared.verb.Verb.{Verb}
-use Rattle.script.specs.declared.verb.Verb.TheVariants as verb
 use Rattle.script.specs.declared.fault.Expected.TheVariants.{CallName}
 use Rattle.script.specs.Reading.{Reading, ◌>>=◌, wanted, value_at}
 

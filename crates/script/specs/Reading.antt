@@ -1,14 +1,14 @@
 -- Reading words: what they are read as and the words left, or what was expected, and at which words.
 use Rattle.std.specs.Prelude.{◌≡◌, ℕ, Bool, true, false, nat_lt, List, [], ◌∷◌, length, Option, None, Some, Result, Ok, Err, if◌then◌else◌}
 use Rattle.std.specs.Str.{bytes_eq}
+use Rattle.script_words.specs.declared.kind.Kind.{Kind}
+use Rattle.script_words.specs.declared.kind.Kind.TheVariants as kind
+use Rattle.script_words.specs.Kinds.{read_word}
 use Rattle.script.specs.declared.fault.Expected.{Expected}
 use Rattle.script.specs.declared.fault.Expected.TheVariants.{Number, Label, End}
 use Rattle.script.specs.declared.fault.Fault.{Fault}
 use Rattle.script.specs.declared.fault.Fault.TheVariants as fault
 use Rattle.script.specs.declared.fault.Stop.{Stop}
-use Rattle.script.specs.declared.kind.Kind.{Kind}
-use Rattle.script.specs.declared.kind.Kind.TheVariants as kind
-use Rattle.script.specs.Kinds.{read_word}
 
 -- a value, or where reading stopped
 abbrev pub Reading : Type 0 → Type 0

@@ -1,13 +1,14 @@
 -- Scripts: lines, one below the other.
 use Rattle.std.specs.Prelude.{◌≡◌, ℕ, ◌+◌, Bool, not, ◌==◌, List, [], ◌∷◌, ◌++◌, All, flat_map, Option, None, Some, Result, Ok, Err, if◌then◌else◌}
+use Rattle.script_words.specs.Spaced.{in_front}
+use Rattle.script_printing.specs.declared.line.Exchange.{Exchange}
+use Rattle.script_printing.specs.Lines.{exchange_line}
 use Rattle.script.specs.declared.fault.LineFault.{LineFault}
 use Rattle.script.specs.declared.fault.LineFault.TheVariants as line_fault
 use Rattle.script.specs.declared.fault.ScriptFault.{ScriptFault}
-use Rattle.script.specs.declared.line.Exchange.{Exchange}
 use Rattle.script.specs.declared.text.Line.{Line}
-use Rattle.script.specs.Lines.{exchange_line, line_read, IsExchange}
+use Rattle.script.specs.Lines.{line_read, IsExchange}
 use Rattle.script.specs.Reading.{◌>>=◌}
-use Rattle.script.specs.Spaced.{in_front}
 
 -- a byte of a line
 abbrev pub in_line : ℕ → Bool

@@ -1,13 +1,12 @@
-ghost use Rattle.std.specs.Prelude.{◌≡◌, ◌++◌, [], ◌∷◌, OnOk};
-ghost use Rattle.script.specs.Bytes.{bytes_word, read_bytes, bytes_at, optional_bytes, optional_bytes_at};
+ghost use Rattle.script_words.specs.Spaced.{words_of};
+ghost use Rattle.script.specs.Bytes.{bytes_at, optional_bytes_at};
 ghost use Rattle.script.specs.Reading.{Gives};
-ghost use Rattle.script.specs.Spaced.{words_of, spaced};
 
 use crate::fault::{Expected, Fault};
-use crate::spaced::{push_spaced, take_word};
 use crate::values::after_label;
 use hex::FromHexError;
-use std::alloc::{AllocError, Global};
+use script_words::take_word;
+use std::alloc::Global;
 
 #[tactic(auto, unfolding(crate::specs::Bytes::bytes_at))]
 /// The bytes in front, two hexadecimal digits each or `none`, and the text after them.
@@ -40,32 +39,4 @@ pub(crate) fn read_optional_bytes<'a>(
         Some(rest) => read_bytes(alloc, rest),
         None => Ok((Vec::new(alloc), text)),
     }
-}
-
-#[tactic(auto, unfolding(crate::specs::Bytes::bytes_word))]
-/// Adds bytes as a word, with a space in front. If an allocation fails, some of it may have been added.
-pub(crate) fn push_bytes(line: &mut Vec<u8>, bytes: &[u8]) -> Result<(), AllocError>
-    ensures { OnOk result (line.new.items ≡ line.old.items ++ spaced (bytes_word bytes.now ∷ [])) }
-{
-    if bytes.is_empty() {
-        return push_spaced(line, b"none");
-    }
-    let text = hex::encode(*line.allocator(), bytes)?;
-    push_spaced(line, text.as_bytes())
-}
-
-#[tactic(auto, using(crate::proofs::WordsOf::spaced_laws), unfolding(crate::specs::Bytes::optional_bytes))]
-/// Adds bytes after a word, if there are any.
-pub(crate) fn push_optional_bytes(
-    line: &mut Vec<u8>,
-    label: &[u8],
-    bytes: &[u8],
-) -> Result<(), AllocError>
-    ensures { OnOk result (line.new.items ≡ line.old.items ++ spaced (optional_bytes label.now bytes.now)) }
-{
-    if bytes.is_empty() {
-        return Ok(());
-    }
-    push_spaced(line, label)?;
-    push_bytes(line, bytes)
 }

@@ -1,26 +1,20 @@
-ghost use Rattle.std.specs.Prelude.{◌≡◌, ◌++◌, [], None, Some, OnOk, OnErr};
+ghost use Rattle.std.specs.Prelude.{◌≡◌, [], None, Some};
 ghost use Rattle.ipc_model.specs.declared.call.Call.{Call};
-ghost use Rattle.script.specs.declared.line.Exchange.{Exchange};
-ghost use Rattle.script.specs.Calls.{call_words, call_line, HasLine};
-ghost use Rattle.script.specs.Lines.{exchange_words, exchange_line, exchange_at, request_at, fault_of, line_read, request_read, reply_line, IsExchange, IsRead, UnlessMemory};
+ghost use Rattle.script_words.specs.Spaced.{words_of};
+ghost use Rattle.script_printing.specs.declared.line.Exchange.{Exchange};
+ghost use Rattle.script_printing.specs.Calls.{call_words, call_line};
+ghost use Rattle.script_printing.specs.Lines.{exchange_words, exchange_line};
+ghost use Rattle.script.specs.Calls.{HasLine};
+ghost use Rattle.script.specs.Lines.{exchange_at, request_at, fault_of, line_read, request_read, IsExchange, IsRead, UnlessMemory};
 ghost use Rattle.script.specs.Reading.{Gives};
-ghost use Rattle.script.specs.Spaced.{words_of};
 
-use crate::call::{push_call_words, read_call};
+use crate::call::read_call;
 use crate::fault::{Expected, Fault, LineFault};
-use crate::reply::{push_reply_words, read_reply};
-use crate::spaced::{column_of, count_words, take_word};
-use ipc_model::{Call, Reply};
-use std::alloc::{AllocError, Global};
-
-/// A call and its answer.
-#[derive(Drop)]
-pub struct Exchange {
-    /// The call.
-    pub call: Call,
-    /// Its answer, which is one to a call with its number.
-    pub reply: Reply,
-}
+use crate::reply::read_reply;
+use ipc_model::Call;
+use script_printing::Exchange;
+use script_words::{column_of, count_words, take_word};
+use std::alloc::Global;
 
 /// The fault of a line.
 fn line_fault(line: &[u8], fault: Fault) -> LineFault
@@ -88,39 +82,4 @@ pub fn read_request_line(alloc: Global, line: &[u8]) -> Result<Call, LineFault>
         Ok(call) => Ok(call),
         Err(fault) => Err(line_fault(line, fault)),
     }
-}
-
-#[tactic(auto, using(crate::proofs::WordsOf::spaced_laws), unfolding(crate::specs::Calls::call_line, crate::specs::Calls::call_words))]
-/// Adds the line of a call, without its answer or an end of line. An `Err` changes nothing.
-pub fn push_call(out: &mut Vec<u8>, call: &Call) -> Result<(), AllocError>
-    ensures ok { OnOk result (out.new.items ≡ out.old.items ++ call_line call.now) }
-    ensures err { OnErr result (out.new.items ≡ out.old.items) }
-{
-    let mut line = Vec::new(*out.allocator());
-    push_call_words(&mut line, call)?;
-    out.extend_from_slice(line.as_slice())
-}
-
-#[tactic(auto, using(crate::proofs::WordsOf::spaced_laws))]
-/// Adds the answer to a call, as it stands after the call in a line: each word has a space in front. Nothing is added
-/// if the call was done and has no results. An `Err` changes nothing.
-pub fn push_reply(out: &mut Vec<u8>, reply: &Reply) -> Result<(), AllocError>
-    ensures ok { OnOk result (out.new.items ≡ out.old.items ++ reply_line reply.now) }
-    ensures err { OnErr result (out.new.items ≡ out.old.items) }
-{
-    let mut line = Vec::new(*out.allocator());
-    push_reply_words(&mut line, reply)?;
-    out.extend_from_slice(line.as_slice())
-}
-
-#[tactic(auto, using(crate::proofs::WordsOf::spaced_laws), unfolding(crate::specs::Lines::exchange_line, crate::specs::Calls::call_words))]
-/// Adds the line of a call and its answer, without an end of line. An `Err` changes nothing.
-pub fn push_exchange(out: &mut Vec<u8>, exchange: &Exchange) -> Result<(), AllocError>
-    ensures ok { OnOk result (out.new.items ≡ out.old.items ++ exchange_line exchange.now) }
-    ensures err { OnErr result (out.new.items ≡ out.old.items) }
-{
-    let mut line = Vec::new(*out.allocator());
-    push_call_words(&mut line, &exchange.call)?;
-    push_reply_words(&mut line, &exchange.reply)?;
-    out.extend_from_slice(line.as_slice())
 }

@@ -1,13 +1,12 @@
 ghost use Rattle.std.specs.Prelude.{◌≡◌};
+ghost use Rattle.script_words.specs.Spaced.{words_of};
 ghost use Rattle.script.specs.Plain.{three_kinds, kinds_of, short_call, pair_call, long_call, plain_call, arguments_at, plain_at};
 ghost use Rattle.script.specs.Reading.{Gives};
-ghost use Rattle.script.specs.Spaced.{words_of};
 
 use crate::fault::{Expected, Fault};
-use crate::kind::Kind;
 use crate::values::read_value;
-use crate::verb::Verb;
 use ipc_model::Call;
+use script_words::{Kind, Verb};
 
 /// How the arguments of a call are written, with `Absent` after the last.
 #[derive(Clone, Copy)]

@@ -1,12 +1,9 @@
-ghost use Rattle.std.specs.Prelude.{◌≡◌, ◌<◌, MatchOption, None, Some, OnOk, IfOk, ◌++◌, ◌∷◌, []};
-ghost use Rattle.script.specs.Kinds.{value_word};
+ghost use Rattle.std.specs.Prelude.{◌≡◌, ◌<◌, MatchOption, None, Some, IfOk};
+ghost use Rattle.script_words.specs.Spaced.{words_of};
 ghost use Rattle.script.specs.Reading.{Gives, number_at, bounded_at, value_at, label_at, labelled_at, optional_at, flag_at};
-ghost use Rattle.script.specs.Spaced.{words_of, spaced};
 
 use crate::fault::{Expected, Fault};
-use crate::kind::{Kind, push_value};
-use crate::spaced::take_word;
-use std::alloc::AllocError;
+use script_words::{Kind, take_word};
 
 #[tactic(auto, unfolding(crate::specs::Reading::number_at))]
 /// The number in front and the text after it, if there is one.
@@ -103,33 +100,4 @@ pub(crate) fn read_flag<'a>(label: &[u8], text: &'a [u8]) -> (bool, &'a [u8])
         Some(rest) => (true, rest),
         None => (false, text),
     }
-}
-
-#[tactic(auto, using(crate::proofs::WordsOf::spaced_laws))]
-/// Adds two numbers, each as a word. If an allocation fails, some may have been added.
-pub(crate) fn push_two(
-    line: &mut Vec<u8>,
-    first: (Kind, u32),
-    second: (Kind, u32),
-) -> Result<(), AllocError>
-    ensures { OnOk result (line.new.items ≡ line.old.items
-        ++ spaced (value_word first.0 first.1 ∷ value_word second.0 second.1 ∷ [])) }
-{
-    push_value(line, first.0, first.1)?;
-    push_value(line, second.0, second.1)
-}
-
-#[tactic(auto, using(crate::proofs::WordsOf::spaced_laws))]
-/// Adds three numbers, each as a word. If an allocation fails, some may have been added.
-pub(crate) fn push_three(
-    line: &mut Vec<u8>,
-    first: (Kind, u32),
-    second: (Kind, u32),
-    third: (Kind, u32),
-) -> Result<(), AllocError>
-    ensures { OnOk result (line.new.items ≡ line.old.items
-        ++ spaced (value_word first.0 first.1 ∷ value_word second.0 second.1 ∷ value_word third.0 third.1 ∷ [])) }
-{
-    push_two(line, first, second)?;
-    push_value(line, third.0, third.1)
 }

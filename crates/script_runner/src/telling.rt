@@ -1,56 +1,16 @@
 use crate::failure::{Difference, Failure, Place, Unanswered};
 use crate::reading::ReadFault;
-use crate::row::{Script, ScriptStep, code_of};
-use calls::read_recorded_reply;
-use codes::KernReturn;
+use crate::row::{Script, ScriptStep};
+use calls::read_reply;
 use ipc_model::{Call, Reply};
-use script::{push_call, push_reply};
+use script_printing::{push_call, push_reply};
 use std::alloc::{AllocError, Global};
 use std::{io, str};
 
-/// The return codes with which calls other than `mach_msg` are refused.
-static REFUSALS: [KernReturn; 13] = [
-    KernReturn::NoSpace,
-    KernReturn::InvalidArgument,
-    KernReturn::Failure,
-    KernReturn::ResourceShortage,
-    KernReturn::NotInSet,
-    KernReturn::NameExists,
-    KernReturn::InvalidName,
-    KernReturn::InvalidTask,
-    KernReturn::InvalidRight,
-    KernReturn::InvalidValue,
-    KernReturn::UrefsOverflow,
-    KernReturn::InvalidCapability,
-    KernReturn::RightExists,
-];
-
-/// How many bytes the frame of a refusal has.
-const REFUSAL_LENGTH: usize = 12;
-
-/// The refusal of a call that a frame is, if it is one.
-fn refusal_of(call: &Call, frame: &[u8]) -> Option<Reply> {
-    if frame.len() != REFUSAL_LENGTH {
-        return None;
-    }
-    let number = code_of(frame)?;
-    let code = REFUSALS
-        .iter()
-        .copied()
-        .find(|code| code.number() == number)?;
-    Some(Reply::Refused {
-        number: call.number(),
-        code,
-    })
-}
-
-/// The reply to a call that a frame is, if it is a refusal or one that is recorded.
+/// The reply to a call that a frame is, if it is one.
 fn reply_of(alloc: Global, call: &Call, frame: &[u8]) -> Result<Option<Reply>, AllocError> {
-    if let Some(refusal) = refusal_of(call, frame) {
-        return Ok(Some(refusal));
-    }
     match frame {
-        [_, _, _, _, content @ ..] => read_recorded_reply(alloc, call, content),
+        [_, _, _, _, content @ ..] => read_reply(alloc, call.number(), content),
         _ => Ok(None),
     }
 }

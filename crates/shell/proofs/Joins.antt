@@ -1,15 +1,14 @@
--- Parts that are joined, and a row of names.
-use Rattle.std.proofs.Common.{◌≡◌, ℕ, ◌<◌, ◌^◌, Bool, true, false, List, [], ◌∷◌, ◌++◌, Option, None, Some, inl, inr, ◌+◌, ◌&&◌, length, flat_map, Result, Ok, Err, if◌then◌else◌, refl, sym, ap, subst, ◌∙◌, append_assoc}
-use Rattle.std.specs.Prelude.{All, OnErr, OnOk}
+-- Parts that are joined, and replies that have a line.
+use Rattle.std.proofs.Common.{◌≡◌, ℕ, Bool, true, false, List, [], ◌∷◌, ◌++◌, Option, None, Some, inl, inr, ◌+◌, ◌&&◌, Result, Ok, Err, if◌then◌else◌, refl, sym, ap, subst, ◌∙◌, append_assoc}
+use Rattle.std.specs.Prelude.{IfOk, IfSome, OnErr, OnOk}
 use Rattle.std.specs.Result.{is_ok}
-use Rattle.codes.specs.declared.call_number.TheConstants.{MACH_PORT_NAMES}
-use Rattle.ipc_model.specs.declared.call.NamedType.{NamedType}
+use Rattle.ipc_model.specs.declared.call.Reply.{Reply}
 use Rattle.ipc_model.specs.declared.call.Reply.TheVariants as reply
-use Rattle.ipc_model.specs.encodings.Encodings.{reply_encoding, done_encoding}
+use Rattle.calls.specs.Replies.{Answers, IsWellFormed}
+use Rattle.script.specs.Replies.{IsOwn}
 use Rattle.std.specs.Io.KnownBytes.{Consumes, IsAtEnd}
 use Rattle.std.proofs.KnownBytes.{Appends-nil}
 use Rattle.relay.specs.Relaying.{Side, TakesAll, as_left}
-use Rattle.words.specs.Words.{word}
 use Rattle.shell.specs.Answers.{IsReplyTo}
 use Rattle.shell.specs.Asking.{asked_read}
 use Rattle.shell.specs.Turns.{Does, DoesPart, Hears, Stops, Talk, one_more}
@@ -38,23 +37,18 @@ pub not_chosen : (b : Bool) (x y : ℕ) → b ≡ false → y ≡ (if b then x e
 not_chosen true x y is = absurd cc
 not_chosen false x y is = refl
 
-pub names_reply : (results rows : List ℕ) (count : ℕ) (items names : List NamedType) → results ≡ word count ++ rows
-    → count < 2 ^ 32
-    → rows ≡ flat_map (λ (n : NamedType). word n.name ++ word n.bits) items
-    → All (λ (n : NamedType). (n.name < 2 ^ 32) × (n.bits < 2 ^ 32)) items → length items ≡ count → names ≡ items
-    → IsReplyTo MACH_PORT_NAMES (done_encoding MACH_PORT_NAMES results) (reply.Names names)
-unfolding reply_encoding
-names_reply results rows count items names front fits row fit few is =
-    subst (λ (ns : List NamedType). IsReplyTo MACH_PORT_NAMES (done_encoding MACH_PORT_NAMES results) (reply.Names ns))
-    (sym is) (record {
-      text =
-          ap (λ (l : List ℕ). done_encoding MACH_PORT_NAMES l)
-          (front ∙ ap (λ (n : ℕ). word n ++ rows) (sym few) ∙ ap (λ (l : List ℕ). word (length items) ++ l) row);
-      fits = (subst (λ (n : ℕ). n < 2 ^ 32) (sym few) fits, fit);
-      of_call = refl;
-      own = tt;
-      refusal = tt;
-    })
+-- a reply to a call can be written after it
+own : (answer : Reply) → IsWellFormed answer → IsOwn answer
+own (reply.Refused number code) well = well.0
+own (reply.Done number) well = well
+own answer well = tt
+
+pub has_line : {E : Type 0} (r : Result (Option Reply) E) (number : ℕ) (content : List ℕ)
+    → IfOk r (λ found. IfSome found (Answers number content)) → IfOk r (λ found. IfSome found (IsReplyTo number content))
+has_line (Ok (Some answer)) number content found =
+    record { answers = found; own = own answer found.well_formed }
+has_line (Ok None) number content found = tt
+has_line (Err e) number content found = tt
 
 -- the end of known bytes is where they are all taken
 pub takes_all : (old new : Option (List ℕ)) (bytes : List ℕ) → IsAtEnd old → Consumes old new bytes → TakesAll old new

@@ -8,7 +8,7 @@ use Rattle.ipc_model.specs.declared.call.Call.TheVariants as call
 use Rattle.ipc_model.specs.encodings.Encodings.{call_encoding}
 use Rattle.script.specs.Lines.{line_read, request_read}
 use Rattle.script.specs.declared.fault.LineFault.{LineFault}
-use Rattle.script.specs.declared.line.Exchange.{Exchange}
+use Rattle.script_printing.specs.declared.line.Exchange.{Exchange}
 use Rattle.words.specs.Words.{word}
 use Rattle.shell.specs.declared.asked.Asked.{Asked}
 use Rattle.shell.specs.declared.asked.Asked.TheVariants as asked

@@ -10,7 +10,7 @@ use Rattle.ipc_model.specs.declared.call.Call.{Call}
 use Rattle.ipc_model.specs.declared.call.Reply.{Reply}
 use Rattle.script.specs.declared.fault.LineFault.{LineFault}
 use Rattle.script.specs.declared.fault.LineFault.TheVariants as line_fault
-use Rattle.script.specs.declared.line.Exchange.{Exchange}
+use Rattle.script_printing.specs.declared.line.Exchange.{Exchange}
 use Rattle.words.specs.Words.{frame_encoding}
 use Rattle.shell.specs.declared.asked.Asked.{Asked}
 use Rattle.shell.specs.declared.asked.Asked.TheVariants as asked
@@ -34,10 +34,11 @@ said_well asked.Nothing answer = true
 said_well (asked.Call c) answer = true
 said_well (asked.Exchange x) answer = is_same_reply answer x.reply
 
--- What is printed for a line whose call is answered by a frame of this content.
+-- What is printed for a line whose call is answered by a frame of this content. If it is a reply to the call, that is
+-- the one that is printed.
 abbrev pub Tells : ℕ → Call → Asked → List ℕ → List ℕ → Bool → Type 0
 Tells number c a content text well =
-    ((text ≡ strange_line number) × (well ≡ false))
+    (((answer : Reply) → IsReplyTo (number_of_call c) content answer → ⊥) × (text ≡ strange_line number) × (well ≡ false))
     ⊎ ((answer : Reply) × IsReplyTo (number_of_call c) content answer × (text ≡ said_text number a answer)
     × (well ≡ said_well a answer))
 

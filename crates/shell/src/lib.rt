@@ -3,9 +3,7 @@
 
 mod asked;
 mod attempt;
-mod code;
 mod reply;
-mod rows;
 mod run;
 mod talk;
 mod told;

@@ -2,7 +2,8 @@ ghost use Rattle.std.specs.Prelude.{◌≡◌, ◌++◌, decimal, IfOk, OnOk};
 ghost use Rattle.shell.specs.Telling.{answered_line, column_encoding, difference_line, expected_place, expected_text, expected_words, is_same_reply, long_line, place_encoding, strange_line, wrong_line};
 
 use ipc_model::{Call, Reply};
-use script::{Expected, push_call, push_reply};
+use script::Expected;
+use script_printing::{push_call, push_reply};
 use std::alloc::{AllocError, Global};
 
 /// Adds a number in decimal digits.

@@ -169,7 +169,8 @@ fn tell_content(
 ) -> Result<Told, AllocError>
     ensures { IfOk result (λ told. Tells place.number call.now asked.now content.now told.text.items told.is_well) }
 {
-    match read_reply(alloc, call.number(), content)? {
+    let found = read_reply(alloc, call.number(), content)?;
+    match found {
         None => tell_strange(alloc, place),
         Some(reply) => {
             let told = tell_reply(alloc, place, call, asked, &reply);

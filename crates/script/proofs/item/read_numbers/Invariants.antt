@@ -1,6 +1,6 @@
 use Rattle.std.proofs.Common.{◌≡◌, ◌++◌, length}
+use Rattle.script_words.specs.Spaced.{words_of}
 use Rattle.script.specs.Items.{numbers_at}
-use Rattle.script.specs.Spaced.{words_of}
 use Rattle.script.proofs.item.read_numbers.Given as goal
 
 abbrev pub invariant-loop-number : goal.invariant-loop-number

@@ -1,6 +1,6 @@
 use Rattle.std.proofs.Common.{◌≡◌, length}
+use Rattle.script_words.specs.Spaced.{words_of}
 use Rattle.script.specs.Replies.{members_at}
-use Rattle.script.specs.Spaced.{words_of}
 use Rattle.script.proofs.Rows.{after_all}
 use Rattle.script.proofs.reply.read_members.Given as goal
 

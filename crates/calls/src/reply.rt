@@ -1,0 +1,281 @@
+ghost use Rattle.std.specs.Prelude.{◌≡◌, ◌≢◌, ◌<◌, ◌^◌, ◌++◌, [], ℕ, List, Some, flat_map, length, IfOk, IfSome, IfNone};
+ghost use Rattle.codes.specs.KernReturn.{number_of};
+ghost use Rattle.ipc_model.specs.declared.call.NamedType.{NamedType};
+ghost use Rattle.ipc_model.specs.declared.call.Reply.{Reply};
+ghost use Rattle.ipc_model.specs.declared.call.Reply.TheVariants as reply;
+ghost use Rattle.ipc_model.specs.encodings.Encodings.{done_encoding, FitsReply};
+ghost use Rattle.words.specs.Words.{AreBytes, word};
+ghost use Rattle.calls.specs.Replies.{has_results, HasResults, Answers, IsWellFormed};
+ghost use Rattle.calls.specs.Rows.{names_encoding};
+
+use crate::code::code_of_number;
+use crate::reply_rows::{read_members, read_names, read_status};
+use crate::word_rows::{one_word, two_words};
+use codes::{
+    KernReturn, MACH_MSG, MACH_PORT_ALLOCATE, MACH_PORT_EXTRACT_RIGHT,
+    MACH_PORT_GET_RECEIVE_STATUS, MACH_PORT_GET_REFS, MACH_PORT_GET_SET_STATUS, MACH_PORT_NAMES,
+    MACH_PORT_REQUEST_NOTIFICATION, MACH_PORT_TYPE, SPACE_CREATE,
+};
+use ipc_model::{NamedType, Reply, RightKind, Sequence};
+use std::alloc::{AllocError, Global};
+use words::take_word;
+
+/// The names of a space, after their number.
+fn read_name_row(alloc: Global, results: &[u8]) -> Result<Option<Sequence<NamedType>>, AllocError>
+    ensures found { IfOk result (λ found. IfSome found (λ names.
+        results.now ≡ word (length names) ++ names_encoding names)) }
+    ensures fits { IfOk result (λ found. IfSome found (λ names. FitsReply (reply.Names names))) }
+    ensures only { (names : List NamedType) → FitsReply (reply.Names names)
+        → results.now ≡ word (length names) ++ names_encoding names → IfOk result (λ found. found ≡ Some names) }
+{
+    let Some((count, rows)) = take_word(results) else {
+        return Ok(None);
+    };
+    let Some(names) = read_names(alloc, rows)? else {
+        return Ok(None);
+    };
+    if names.len() != count as usize {
+        return Ok(None);
+    }
+    Ok(Some(Sequence::new(names)))
+}
+
+/// The members of a set, after their number.
+fn read_member_row(alloc: Global, results: &[u8]) -> Result<Option<Sequence<u32>>, AllocError>
+    ensures found { IfOk result (λ found. IfSome found (λ members.
+        results.now ≡ word (length members) ++ flat_map word members)) }
+    ensures fits { IfOk result (λ found. IfSome found (λ members. FitsReply (reply.SetStatus members))) }
+    ensures only { (members : List ℕ) → FitsReply (reply.SetStatus members)
+        → results.now ≡ word (length members) ++ flat_map word members → IfOk result (λ found. found ≡ Some members) }
+{
+    let Some((count, rows)) = take_word(results) else {
+        return Ok(None);
+    };
+    let Some(members) = read_members(alloc, rows)? else {
+        return Ok(None);
+    };
+    if members.len() != count as usize {
+        return Ok(None);
+    }
+    Ok(Some(Sequence::new(members)))
+}
+
+#[tactic(auto, unfolding(ipc_model::specs::encodings::Encodings::reply_encoding))]
+/// The names of a space, as the reply to the call that asks for them.
+fn read_name_reply(alloc: Global, results: &[u8]) -> Result<Option<Reply>, AllocError>
+    ensures found { IfOk result (λ found. IfSome found
+        (Answers MACH_PORT_NAMES (done_encoding MACH_PORT_NAMES results.now))) }
+    ensures only { (answer : Reply) → HasResults MACH_PORT_NAMES results.now answer → 0 < length results.now
+        → IfOk result (λ found. found ≡ Some answer) }
+{
+    let found = read_name_row(alloc, results)?;
+    match found {
+        Some(names) => Ok(Some(Reply::Names { names })),
+        None => Ok(None),
+    }
+}
+
+#[tactic(auto, unfolding(ipc_model::specs::encodings::Encodings::reply_encoding))]
+/// The members of a set, as the reply to the call that asks for them.
+fn read_member_reply(alloc: Global, results: &[u8]) -> Result<Option<Reply>, AllocError>
+    ensures found { IfOk result (λ found. IfSome found
+        (Answers MACH_PORT_GET_SET_STATUS (done_encoding MACH_PORT_GET_SET_STATUS results.now))) }
+    ensures only { (answer : Reply) → HasResults MACH_PORT_GET_SET_STATUS results.now answer → 0 < length results.now
+        → IfOk result (λ found. found ≡ Some answer) }
+{
+    let found = read_member_row(alloc, results)?;
+    match found {
+        Some(members) => Ok(Some(Reply::SetStatus { members })),
+        None => Ok(None),
+    }
+}
+
+#[tactic(auto, unfolding(ipc_model::specs::encodings::Encodings::reply_encoding))]
+/// The reply to a call with this number that was done, if its results are one number or two, or the state of a port.
+fn read_plain_reply(number: u32, results: &[u8]) -> Option<Reply>
+    ensures found { IfSome result (Answers number (done_encoding number results.now)) }
+    ensures only { (answer : Reply) → HasResults number results.now answer → number ≢ MACH_PORT_NAMES
+        → number ≢ MACH_PORT_GET_SET_STATUS → 0 < length results.now → result ≡ Some answer }
+{
+    match number {
+        MACH_PORT_TYPE => {
+            let bits = one_word(results)?;
+            Some(Reply::Type { bits })
+        }
+        MACH_PORT_ALLOCATE => {
+            let name = one_word(results)?;
+            Some(Reply::Allocate { name })
+        }
+        MACH_PORT_GET_REFS => {
+            let count = one_word(results)?;
+            Some(Reply::References { count })
+        }
+        MACH_PORT_GET_RECEIVE_STATUS => {
+            let status = read_status(results)?;
+            Some(Reply::ReceiveStatus { status })
+        }
+        MACH_PORT_REQUEST_NOTIFICATION => {
+            let name = one_word(results)?;
+            Some(Reply::PreviousTarget { name })
+        }
+        MACH_PORT_EXTRACT_RIGHT => {
+            let (name, kind) = two_words(results)?;
+            let kind = RightKind::from_number(kind)?;
+            Some(Reply::Extracted { name, kind })
+        }
+        SPACE_CREATE => {
+            let (space, name) = two_words(results)?;
+            Some(Reply::SpaceCreated { space, name })
+        }
+        _ => None,
+    }
+}
+
+/// Whether a call with this number that was done has results.
+fn has_results(number: u32) -> bool
+    ensures { result ≡ has_results number }
+{
+    matches!(
+        number,
+        MACH_PORT_NAMES
+            | MACH_PORT_TYPE
+            | MACH_PORT_ALLOCATE
+            | MACH_PORT_GET_REFS
+            | MACH_PORT_GET_RECEIVE_STATUS
+            | MACH_PORT_GET_SET_STATUS
+            | MACH_PORT_REQUEST_NOTIFICATION
+            | MACH_PORT_EXTRACT_RIGHT
+            | SPACE_CREATE
+            | MACH_MSG
+    )
+}
+
+#[tactic(auto, unfolding(ipc_model::specs::encodings::Encodings::reply_encoding))]
+/// The reply to a call with this number that was done, if it has no results.
+fn read_done(number: u32) -> Option<Reply>
+    ensures found { IfSome result (Answers number (done_encoding number [])) }
+    ensures only { (answer : Reply) → HasResults number [] answer → IsWellFormed answer → result ≡ Some answer }
+{
+    if has_results(number) {
+        None
+    } else {
+        Some(Reply::Done { number })
+    }
+}
+
+/// The reply to a call with this number, any but `mach_msg`, that was done and has these results.
+fn read_results(alloc: Global, number: u32, results: &[u8]) -> Result<Option<Reply>, AllocError>
+    ensures found { IfOk result (λ found. IfSome found (Answers number (done_encoding number results.now))) }
+    ensures only { (answer : Reply) → HasResults number results.now answer → IsWellFormed answer
+        → IfOk result (λ found. found ≡ Some answer) }
+{
+    if results.is_empty() {
+        return Ok(read_done(number));
+    }
+    match number {
+        MACH_PORT_NAMES => read_name_reply(alloc, results),
+        MACH_PORT_GET_SET_STATUS => read_member_reply(alloc, results),
+        _ => Ok(read_plain_reply(number, results)),
+    }
+}
+
+#[tactic(auto, unfolding(ipc_model::specs::encodings::Encodings::reply_encoding))]
+/// The reply to a call with this number, any but `mach_msg`, that was refused.
+fn read_refusal(number: u32, code: KernReturn, results: &[u8]) -> Option<Reply>
+    requires number { number ≢ MACH_MSG }
+    requires code { code ≢ KernReturn.Success }
+    ensures found { IfSome result (Answers number (word number ++ (word (number_of code) ++ results.now))) }
+    ensures only { (answer : Reply) → Answers number (word number ++ (word (number_of code) ++ results.now)) answer
+        → result ≡ Some answer }
+{
+    if results.is_empty() {
+        return Some(Reply::Refused { number, code });
+    }
+    None
+}
+
+/// The size, the port's name and the message that stand after the code of a `mach_msg`.
+fn take_message(results: &[u8]) -> Option<(u32, u32, &[u8])>
+    ensures found { IfSome result (λ r. results.now ≡ word r.0 ++ (word r.1 ++ r.2.now)) }
+    ensures fits { IfSome result (λ r. (r.0 < 2 ^ 32) × (r.1 < 2 ^ 32)) }
+    ensures none { IfNone result (length results.now < 8) }
+{
+    let (size, rest) = take_word(results)?;
+    let (member, message) = take_word(rest)?;
+    Some((size, member, message))
+}
+
+/// The bytes of a message.
+fn keep(alloc: Global, message: &[u8]) -> Result<Sequence<u8>, AllocError>
+    ensures value { IfOk result (λ kept. kept ≡ message.now) }
+    ensures bytes { IfOk result (λ kept. AreBytes kept) }
+{
+    Ok(Sequence::new(Vec::from_slice(alloc, message)?))
+}
+
+#[tactic(auto, unfolding(ipc_model::specs::encodings::Encodings::reply_encoding))]
+/// The reply to a `mach_msg`, after its code.
+fn read_message(
+    alloc: Global,
+    code: KernReturn,
+    results: &[u8],
+) -> Result<Option<Reply>, AllocError>
+    ensures found { IfOk result (λ found. IfSome found
+        (Answers MACH_MSG (word MACH_MSG ++ (word (number_of code) ++ results.now)))) }
+    ensures only { (answer : Reply)
+        → Answers MACH_MSG (word MACH_MSG ++ (word (number_of code) ++ results.now)) answer
+        → IfOk result (λ found. found ≡ Some answer) }
+{
+    let Some((size, member, message)) = take_message(results) else {
+        return Ok(None);
+    };
+    let message = keep(alloc, message)?;
+    Ok(Some(Reply::Message {
+        code,
+        size,
+        member,
+        message,
+    }))
+}
+
+/// The reply to a call with this number, from its code and what stands after it.
+fn read_answer(
+    alloc: Global,
+    number: u32,
+    code: KernReturn,
+    results: &[u8],
+) -> Result<Option<Reply>, AllocError>
+    ensures found { IfOk result (λ found. IfSome found
+        (Answers number (word number ++ (word (number_of code) ++ results.now)))) }
+    ensures only { (answer : Reply) → Answers number (word number ++ (word (number_of code) ++ results.now)) answer
+        → IfOk result (λ found. found ≡ Some answer) }
+{
+    if number == MACH_MSG {
+        return read_message(alloc, code, results);
+    }
+    if code == KernReturn::Success {
+        return read_results(alloc, number, results);
+    }
+    Ok(read_refusal(number, code, results))
+}
+
+/// The reply to a call with this number that a frame's content encodes, if it encodes one. It can run out of memory only
+/// for a message, for names or for members.
+pub fn read_reply(alloc: Global, number: u32, content: &[u8]) -> Result<Option<Reply>, AllocError>
+    ensures found { IfOk result (λ found. IfSome found (Answers number content.now)) }
+    ensures only { (answer : Reply) → Answers number content.now answer → IfOk result (λ found. found ≡ Some answer) }
+{
+    let Some((front, rest)) = take_word(content) else {
+        return Ok(None);
+    };
+    let Some((code, results)) = take_word(rest) else {
+        return Ok(None);
+    };
+    if front != number {
+        return Ok(None);
+    }
+    match code_of_number(code) {
+        Some(code) => read_answer(alloc, number, code, results),
+        None => Ok(None),
+    }
+}

@@ -1,0 +1,2 @@
+pub mod ItemLoops
+pub mod Rows

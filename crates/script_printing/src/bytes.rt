@@ -1,0 +1,34 @@
+ghost use Rattle.std.specs.Prelude.{◌≡◌, ◌++◌, [], ◌∷◌, OnOk};
+ghost use Rattle.script_words.specs.Spaced.{spaced};
+ghost use Rattle.script_printing.specs.Bytes.{bytes_word, optional_bytes};
+
+use script_words::push_spaced;
+use std::alloc::AllocError;
+
+#[tactic(auto, unfolding(crate::specs::Bytes::bytes_word))]
+/// Adds bytes as a word, with a space in front. If an allocation fails, some of it may have been added.
+pub(crate) fn push_bytes(line: &mut Vec<u8>, bytes: &[u8]) -> Result<(), AllocError>
+    ensures { OnOk result (line.new.items ≡ line.old.items ++ spaced (bytes_word bytes.now ∷ [])) }
+{
+    if bytes.is_empty() {
+        return push_spaced(line, b"none");
+    }
+    let text = hex::encode(*line.allocator(), bytes)?;
+    push_spaced(line, text.as_bytes())
+}
+
+#[tactic(auto, using(script_words::proofs::WordsOf::spaced_laws), unfolding(crate::specs::Bytes::optional_bytes))]
+/// Adds bytes after a word, if there are any.
+pub(crate) fn push_optional_bytes(
+    line: &mut Vec<u8>,
+    label: &[u8],
+    bytes: &[u8],
+) -> Result<(), AllocError>
+    ensures { OnOk result (line.new.items ≡ line.old.items ++ spaced (optional_bytes label.now bytes.now)) }
+{
+    if bytes.is_empty() {
+        return Ok(());
+    }
+    push_spaced(line, label)?;
+    push_bytes(line, bytes)
+}

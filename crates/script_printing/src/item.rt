@@ -1,0 +1,158 @@
+ghost use Rattle.std.specs.Prelude.{◌≡◌, ◌<◌, ◌++◌, map, MatchOption, None, Some, OnOk, IfOk};
+ghost use Rattle.std.specs.Option.{option_map};
+ghost use Rattle.script_words.specs.Items.{descriptor};
+ghost use Rattle.script_words.specs.Kinds.{value_word};
+ghost use Rattle.script_words.specs.Spaced.{spaced};
+ghost use Rattle.script_printing.specs.Items.{element_kind, words_item_words, bytes_item_words, word_front, split_front, number_told, numbers_in, words_front, bytes_front, item_front, body_words, AddsItem};
+
+use crate::bytes::{push_bytes, push_optional_bytes};
+use byteorder::{ByteOrder, LittleEndian};
+use script_words::{
+    BYTE_BITS, BYTE_TYPE, Kind, WORD_BITS, descriptor, push_spaced, push_value, zeros,
+};
+use std::alloc::AllocError;
+use words::take_word;
+
+/// The number of elements that a short descriptor gives.
+fn number_told(descriptor: u32) -> u32
+    ensures told { result ≡ number_told descriptor }
+    ensures small { result < 0x1000 }
+{
+    descriptor / 0x1_0000 % 0x1000
+}
+
+fn element_kind(type_name: u32) -> Kind
+    ensures { result ≡ element_kind type_name }
+{
+    match type_name {
+        16..=21 => Kind::Hexadecimal,
+        _ => Kind::Decimal,
+    }
+}
+
+#[tactic(auto, unfolding(crate::specs::Items::word_front))]
+/// The number in the first four bytes, and the bytes after it.
+fn word_front(bytes: &[u8]) -> Option<(u32, &[u8])>
+    ensures { MatchOption result (word_front bytes.now ≡ None) (λ r. word_front bytes.now ≡ Some (r.0, r.1.now)) }
+{
+    if bytes.len() < 4 {
+        return None;
+    }
+    let (_, behind) = bytes.split_at(4);
+    Some((LittleEndian::read_u32(bytes), behind))
+}
+
+#[tactic(auto, unfolding(crate::specs::Items::split_front))]
+/// The first `count` bytes and those after them, if there are that many.
+fn split_front(bytes: &[u8], count: usize) -> Option<(&[u8], &[u8])>
+    ensures { MatchOption result (split_front count bytes.now ≡ None)
+        (λ r. split_front count bytes.now ≡ Some (r.0.now, r.1.now)) }
+{
+    if bytes.len() < count {
+        return None;
+    }
+    Some(bytes.split_at(count))
+}
+
+#[tactic(auto, unfolding(crate::specs::Items::words_front))]
+/// The item of words that a body begins with: its type, their bytes, and the bytes after it.
+fn words_front(body: &[u8]) -> Option<(u32, &[u8], &[u8])>
+    ensures { MatchOption result (words_front body.now ≡ None)
+        (λ r. words_front body.now ≡ Some (r.0, r.1.now, r.2.now)) }
+{
+    let (word, behind) = word_front(body)?;
+    let type_name = word % 0x100;
+    let number = number_told(word);
+    if word != descriptor(type_name, WORD_BITS, number) {
+        return None;
+    }
+    let (content, behind) = split_front(behind, 4 * number as usize)?;
+    Some((type_name, content, behind))
+}
+
+#[tactic(auto, unfolding(crate::specs::Items::bytes_front))]
+/// The item of bytes that a body begins with: its bytes, and the bytes after it.
+fn bytes_front(body: &[u8]) -> Option<(&[u8], &[u8])>
+    ensures { MatchOption result (bytes_front body.now ≡ None) (λ r. bytes_front body.now ≡ Some (r.0.now, r.1.now)) }
+{
+    let (word, behind) = word_front(body)?;
+    let number = number_told(word);
+    if word != descriptor(BYTE_TYPE, BYTE_BITS, number) {
+        return None;
+    }
+    let (bytes, behind) = split_front(behind, number as usize)?;
+    let zeros = zeros(number as usize);
+    let (tail, behind) = split_front(behind, zeros.len())?;
+    if tail == zeros {
+        Some((bytes, behind))
+    } else {
+        None
+    }
+}
+
+#[tactic(auto, using(script_words::proofs::WordsOf::spaced_laws))]
+/// Adds the numbers in bytes, four bytes each.
+fn push_numbers(line: &mut Vec<u8>, kind: Kind, bytes: &[u8]) -> Result<(), AllocError>
+    ensures { OnOk result (line.new.items ≡ line.old.items ++ spaced (map (value_word kind) (numbers_in bytes.now))) }
+{
+    let mut rest = bytes;
+    while let Some((number, behind)) = take_word(rest) {
+        push_value(line, kind, number)?;
+        rest = behind;
+    }
+    Ok(())
+}
+
+#[tactic(auto, using(script_words::proofs::WordsOf::spaced_laws), unfolding(crate::specs::Items::words_item_words))]
+/// Adds an item of words, which have these bytes.
+fn push_words_item(line: &mut Vec<u8>, type_name: u32, bytes: &[u8]) -> Result<(), AllocError>
+    ensures { OnOk result (line.new.items ≡ line.old.items
+        ++ spaced (words_item_words type_name (numbers_in bytes.now))) }
+{
+    push_spaced(line, b"item")?;
+    push_value(line, Kind::Element, type_name)?;
+    push_numbers(line, element_kind(type_name), bytes)
+}
+
+#[tactic(auto, using(script_words::proofs::WordsOf::spaced_laws), unfolding(crate::specs::Items::bytes_item_words))]
+/// Adds an item of bytes.
+fn push_bytes_item(line: &mut Vec<u8>, bytes: &[u8]) -> Result<(), AllocError>
+    ensures { OnOk result (line.new.items ≡ line.old.items ++ spaced (bytes_item_words bytes.now)) }
+{
+    push_spaced(line, b"item")?;
+    push_spaced(line, b"bytes")?;
+    push_bytes(line, bytes)
+}
+
+#[tactic(auto, unfolding(crate::specs::Items::item_front))]
+/// Adds the item that a body begins with, if it has a written form, and returns the bytes after it.
+fn push_item<'a>(line: &mut Vec<u8>, body: &'a [u8]) -> Result<Option<&'a [u8]>, AllocError>
+    ensures { IfOk result (λ told. AddsItem line.old.items line.new.items (option_map (λ behind. behind.now) told)
+        (item_front body.now)) }
+{
+    if let Some((type_name, bytes, behind)) = words_front(body) {
+        push_words_item(line, type_name, bytes)?;
+        return Ok(Some(behind));
+    }
+    if let Some((bytes, behind)) = bytes_front(body) {
+        push_bytes_item(line, bytes)?;
+        return Ok(Some(behind));
+    }
+    Ok(None)
+}
+
+/// Adds a body: the items in front that have a written form, and the rest as bytes.
+pub(crate) fn push_body(line: &mut Vec<u8>, body: &[u8]) -> Result<(), AllocError>
+    ensures { OnOk result (line.new.items ≡ line.old.items ++ spaced (body_words body.now)) }
+{
+    let mut rest = body;
+    let mut left = body.len();
+    while left > 0 {
+        let Some(behind) = push_item(line, rest)? else {
+            return push_optional_bytes(line, b"data", rest);
+        };
+        rest = behind;
+        left -= 1;
+    }
+    push_optional_bytes(line, b"data", rest)
+}

@@ -1,0 +1,191 @@
+ghost use Rattle.std.specs.Prelude.{◌≡◌, ◌++◌, [], ◌∷◌, OnOk, codes};
+ghost use Rattle.script_words.specs.Spaced.{spaced};
+ghost use Rattle.script_printing.specs.Replies.{yes_or_no, kind_word, place_words, queue_words, answers_words, status_words, names_words, members_words, outcome_words, message_reply_words, reply_words, result_words};
+
+use crate::message::{push_labelled, push_message, push_optional};
+use crate::values::push_two;
+use codes::KernReturn;
+use ipc_model::{NamedType, ReceiveStatus, Reply, RightKind};
+use script_words::{Kind, code_word, push_spaced, push_value};
+use std::alloc::AllocError;
+
+#[tactic(auto, unfolding(crate::specs::Replies::yes_or_no))]
+fn yes_or_no(holds: bool) -> &'static [u8]
+    ensures { result.now ≡ yes_or_no holds }
+{
+    if holds { b"yes" } else { b"no" }
+}
+
+fn kind_word(kind: RightKind) -> &'static [u8]
+    ensures { result.now ≡ kind_word kind }
+{
+    match kind {
+        RightKind::Receive => b"receive",
+        RightKind::Send => b"send",
+        RightKind::SendOnce => b"send_once",
+    }
+}
+
+#[tactic(auto, using(script_words::proofs::WordsOf::spaced_laws))]
+fn push_answer(line: &mut Vec<u8>, label: &[u8], holds: bool) -> Result<(), AllocError>
+    ensures { OnOk result (line.new.items ≡ line.old.items ++ spaced (label.now ∷ yes_or_no holds ∷ [])) }
+{
+    push_spaced(line, label)?;
+    push_spaced(line, yes_or_no(holds))
+}
+
+#[tactic(auto, using(script_words::proofs::WordsOf::spaced_laws))]
+/// Adds what a port's state says of its right.
+fn push_place(line: &mut Vec<u8>, status: &ReceiveStatus) -> Result<(), AllocError>
+    ensures { OnOk result (line.new.items ≡ line.old.items ++ spaced (place_words status.now)) }
+{
+    push_labelled(line, b"set", Kind::Hexadecimal, status.set)?;
+    push_labelled(line, b"seqno", Kind::Decimal, status.sequence_number)?;
+    push_labelled(line, b"mscount", Kind::Decimal, status.make_send_count)
+}
+
+#[tactic(auto, using(script_words::proofs::WordsOf::spaced_laws))]
+/// Adds what a port's state says of its queue.
+fn push_queue(line: &mut Vec<u8>, status: &ReceiveStatus) -> Result<(), AllocError>
+    ensures { OnOk result (line.new.items ≡ line.old.items ++ spaced (queue_words status.now)) }
+{
+    push_labelled(line, b"qlimit", Kind::Decimal, status.limit)?;
+    push_labelled(line, b"messages", Kind::Decimal, status.messages)?;
+    push_labelled(line, b"send_once", Kind::Decimal, status.send_once_count)
+}
+
+#[tactic(auto, using(script_words::proofs::WordsOf::spaced_laws))]
+/// Adds what a port's state says of its other rights.
+fn push_answers(line: &mut Vec<u8>, status: &ReceiveStatus) -> Result<(), AllocError>
+    ensures { OnOk result (line.new.items ≡ line.old.items ++ spaced (answers_words status.now)) }
+{
+    push_answer(line, b"senders", status.has_senders)?;
+    push_answer(line, b"port_destroyed", status.has_port_destroyed_request)?;
+    push_answer(line, b"no_senders", status.has_no_senders_request)
+}
+
+#[tactic(auto, using(script_words::proofs::WordsOf::spaced_laws), unfolding(crate::specs::Replies::status_words, crate::specs::Replies::count_words))]
+/// Adds the state of a port.
+fn push_status(line: &mut Vec<u8>, status: &ReceiveStatus) -> Result<(), AllocError>
+    ensures { OnOk result (line.new.items ≡ line.old.items ++ spaced (status_words status.now)) }
+{
+    push_place(line, status)?;
+    push_queue(line, status)?;
+    push_answers(line, status)
+}
+
+#[tactic(auto, using(script_words::proofs::WordsOf::spaced_laws), unfolding(crate::specs::Replies::names_words))]
+/// Adds names, each with its type.
+fn push_names(line: &mut Vec<u8>, names: &[NamedType]) -> Result<(), AllocError>
+    ensures { OnOk result (line.new.items ≡ line.old.items ++ spaced (names_words names.now)) }
+{
+    let mut rest = names;
+    while let Some((named, behind)) = rest.split_first() {
+        push_two(
+            line,
+            (Kind::Hexadecimal, named.name),
+            (Kind::Hexadecimal, named.bits),
+        )?;
+        rest = behind;
+    }
+    Ok(())
+}
+
+#[tactic(auto, using(script_words::proofs::WordsOf::spaced_laws), unfolding(crate::specs::Replies::members_words))]
+/// Adds names.
+fn push_members(line: &mut Vec<u8>, members: &[u32]) -> Result<(), AllocError>
+    ensures { OnOk result (line.new.items ≡ line.old.items ++ spaced (members_words members.now)) }
+{
+    let mut rest = members;
+    while let Some((member, behind)) = rest.split_first() {
+        push_value(line, Kind::Hexadecimal, *member)?;
+        rest = behind;
+    }
+    Ok(())
+}
+
+#[tactic(auto, using(script_words::proofs::WordsOf::spaced_laws), unfolding(crate::specs::Replies::outcome_words))]
+/// Adds how a `mach_msg` went.
+fn push_outcome(line: &mut Vec<u8>, code: KernReturn, silent: bool) -> Result<(), AllocError>
+    ensures { OnOk result (line.new.items ≡ line.old.items ++ spaced (outcome_words code silent)) }
+{
+    if code != KernReturn::Success {
+        push_spaced(line, b"!")?;
+        return push_spaced(line, code_word(code));
+    }
+    if silent {
+        Ok(())
+    } else {
+        push_spaced(line, b"=")
+    }
+}
+
+#[tactic(auto, using(script_words::proofs::WordsOf::spaced_laws), unfolding(crate::specs::Replies::message_reply_words, crate::specs::Replies::received_words))]
+/// Adds the answer of a `mach_msg`.
+fn push_message_reply(
+    line: &mut Vec<u8>,
+    code: KernReturn,
+    size: u32,
+    member: u32,
+    message: &[u8],
+) -> Result<(), AllocError>
+    ensures { OnOk result (line.new.items ≡ line.old.items
+        ++ spaced (message_reply_words code size member message.now)) }
+{
+    push_outcome(line, code, size == 0 && member == 0 && message.is_empty())?;
+    push_optional(line, b"size", Kind::Decimal, size)?;
+    push_optional(line, b"member", Kind::Hexadecimal, member)?;
+    if message.is_empty() {
+        return Ok(());
+    }
+    push_spaced(line, b"message")?;
+    push_message(line, message)
+}
+
+#[tactic(auto, using(script_words::proofs::WordsOf::spaced_laws))]
+/// Adds the results of a call that was done and has some.
+fn push_results(line: &mut Vec<u8>, reply: &Reply) -> Result<(), AllocError>
+    ensures { OnOk result (line.new.items ≡ line.old.items ++ spaced (codes "=" ∷ result_words reply.now)) }
+{
+    push_spaced(line, b"=")?;
+    match reply {
+        Reply::Names { names } => push_names(line, names.as_slice()),
+        Reply::Type { bits } => push_value(line, Kind::Hexadecimal, *bits),
+        Reply::Allocate { name } | Reply::PreviousTarget { name } => {
+            push_value(line, Kind::Hexadecimal, *name)
+        }
+        Reply::References { count } => push_value(line, Kind::Decimal, *count),
+        Reply::ReceiveStatus { status } => push_status(line, status),
+        Reply::SetStatus { members } => push_members(line, members.as_slice()),
+        Reply::Extracted { name, kind } => {
+            push_value(line, Kind::Hexadecimal, *name)?;
+            push_spaced(line, kind_word(*kind))
+        }
+        Reply::SpaceCreated { space, name } => {
+            push_labelled(line, b"space", Kind::Decimal, *space)?;
+            push_labelled(line, b"name", Kind::Hexadecimal, *name)
+        }
+        _ => Ok(()),
+    }
+}
+
+#[tactic(auto, using(script_words::proofs::WordsOf::spaced_laws))]
+/// Adds the words of a reply, each with a space in front.
+pub(crate) fn push_reply_words(line: &mut Vec<u8>, reply: &Reply) -> Result<(), AllocError>
+    ensures { OnOk result (line.new.items ≡ line.old.items ++ spaced (reply_words reply.now)) }
+{
+    match reply {
+        Reply::Refused { code, .. } => {
+            push_spaced(line, b"!")?;
+            push_spaced(line, code_word(*code))
+        }
+        Reply::Done { .. } => Ok(()),
+        Reply::Message {
+            code,
+            size,
+            member,
+            message,
+        } => push_message_reply(line, *code, *size, *member, message.as_slice()),
+        _ => push_results(line, reply),
+    }
+}

@@ -1,0 +1,35 @@
+ghost use Rattle.std.specs.Prelude.{◌≡◌, OnOk, ◌++◌, ◌∷◌, []};
+ghost use Rattle.script_words.specs.Kinds.{value_word};
+ghost use Rattle.script_words.specs.Spaced.{spaced};
+
+use script_words::{Kind, push_value};
+use std::alloc::AllocError;
+
+#[tactic(auto, using(script_words::proofs::WordsOf::spaced_laws))]
+/// Adds two numbers, each as a word. If an allocation fails, some may have been added.
+pub(crate) fn push_two(
+    line: &mut Vec<u8>,
+    first: (Kind, u32),
+    second: (Kind, u32),
+) -> Result<(), AllocError>
+    ensures { OnOk result (line.new.items ≡ line.old.items
+        ++ spaced (value_word first.0 first.1 ∷ value_word second.0 second.1 ∷ [])) }
+{
+    push_value(line, first.0, first.1)?;
+    push_value(line, second.0, second.1)
+}
+
+#[tactic(auto, using(script_words::proofs::WordsOf::spaced_laws))]
+/// Adds three numbers, each as a word. If an allocation fails, some may have been added.
+pub(crate) fn push_three(
+    line: &mut Vec<u8>,
+    first: (Kind, u32),
+    second: (Kind, u32),
+    third: (Kind, u32),
+) -> Result<(), AllocError>
+    ensures { OnOk result (line.new.items ≡ line.old.items
+        ++ spaced (value_word first.0 first.1 ∷ value_word second.0 second.1 ∷ value_word third.0 third.1 ∷ [])) }
+{
+    push_two(line, first, second)?;
+    push_value(line, third.0, third.1)
+}

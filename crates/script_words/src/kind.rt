@@ -1,0 +1,172 @@
+ghost use Rattle.std.specs.Prelude.{◌≡◌, ◌∷◌, [], ◌++◌, find, OnOk, IfOk};
+ghost use Rattle.std.specs.Option.{option_copied};
+ghost use Rattle.std.specs.String.{string_bytes};
+ghost use Rattle.script_words.specs.Kinds.{begins_with_letter, is_name, name_of, number_text, all_named, value_word, read_word};
+ghost use Rattle.script_words.specs.Spaced.{spaced};
+
+use crate::number::number_of_word;
+use crate::spaced::push_spaced;
+use codes::{MACH_NOTIFY_DEAD_NAME, MACH_NOTIFY_NO_SENDERS, MACH_NOTIFY_PORT_DESTROYED};
+use std::alloc::{AllocError, Global};
+
+/// How a number of a call or of a reply is written.
+#[derive(Clone, Copy)]
+pub enum Kind {
+    /// A name or a type: its hexadecimal digits after `0x`.
+    Hexadecimal,
+    /// A count.
+    Decimal,
+    /// A change of a count, in two's complement.
+    Signed,
+    /// A right's number, by its word.
+    Right,
+    /// A disposition's number, by its word.
+    Disposition,
+    /// The number of a notification's variant, by its word.
+    Notification,
+    /// The number of the type of an item of words, by its word.
+    Element,
+    /// No number: it is read as 0 and takes no word.
+    Absent,
+}
+
+/// Each number that a word stands for, of any kind.
+const ALL_NAMED: [u32; 14] = [0, 1, 2, 3, 4, 16, 17, 18, 19, 20, 21, 69, 70, 72];
+
+impl Kind {
+    /// The word that stands for a number.
+    fn name_of(self, number: u32) -> Option<&'static [u8]>
+        ensures { option_copied result ≡ name_of self number }
+    {
+        match self {
+            Kind::Right => right_name(number),
+            Kind::Disposition => disposition_name(number),
+            Kind::Notification => notification_name(number),
+            Kind::Element => element_name(number),
+            _ => None,
+        }
+    }
+
+    /// Whether a word stands for a number.
+    fn is_name(self, number: u32, word: &[u8]) -> bool
+        ensures { result ≡ is_name self word.now number }
+    {
+        match self.name_of(number) {
+            Some(name) => name == word,
+            None => false,
+        }
+    }
+
+    /// The number that a word stands for.
+    fn number_named(self, word: &[u8]) -> Option<u32>
+        ensures { result ≡ find (λ number. is_name self word.now number) all_named }
+    {
+        ALL_NAMED
+            .iter()
+            .copied()
+            .find(|number| self.is_name(*number, word))
+    }
+
+    #[tactic(auto, unfolding(crate::specs::Kinds::read_word))]
+    /// The number that a word stands for or writes out.
+    pub fn read_word(self, word: &[u8]) -> Option<u32>
+        ensures { result ≡ read_word self word.now }
+    {
+        if begins_with_letter(word) {
+            self.number_named(word)
+        } else {
+            number_of_word(word)
+        }
+    }
+
+    /// A number that no word stands for.
+    fn number_text(self, alloc: Global, number: u32) -> Result<String, AllocError>
+        ensures { IfOk result (λ text. string_bytes text ≡ number_text self number) }
+    {
+        match self {
+            Kind::Hexadecimal => format!(in alloc; "0x{number:x}"),
+            Kind::Signed => signed_text(alloc, number),
+            _ => format!(in alloc; "{number}"),
+        }
+    }
+}
+
+fn right_name(number: u32) -> Option<&'static [u8]>
+    ensures { option_copied result ≡ name_of Kind.Right number }
+{
+    match number {
+        0 => Some(b"send"),
+        1 => Some(b"receive"),
+        2 => Some(b"send_once"),
+        3 => Some(b"port_set"),
+        4 => Some(b"dead_name"),
+        _ => None,
+    }
+}
+
+fn disposition_name(number: u32) -> Option<&'static [u8]>
+    ensures { option_copied result ≡ name_of Kind.Disposition number }
+{
+    match number {
+        16 => Some(b"move_receive"),
+        17 => Some(b"move_send"),
+        18 => Some(b"move_send_once"),
+        19 => Some(b"copy_send"),
+        20 => Some(b"make_send"),
+        21 => Some(b"make_send_once"),
+        _ => None,
+    }
+}
+
+fn element_name(number: u32) -> Option<&'static [u8]>
+    ensures { option_copied result ≡ name_of Kind.Element number }
+{
+    match number {
+        2 => Some(b"words"),
+        _ => disposition_name(number),
+    }
+}
+
+fn notification_name(number: u32) -> Option<&'static [u8]>
+    ensures { option_copied result ≡ name_of Kind.Notification number }
+{
+    match number {
+        MACH_NOTIFY_PORT_DESTROYED => Some(b"port_destroyed"),
+        MACH_NOTIFY_NO_SENDERS => Some(b"no_senders"),
+        MACH_NOTIFY_DEAD_NAME => Some(b"dead_name"),
+        _ => None,
+    }
+}
+
+fn begins_with_letter(word: &[u8]) -> bool
+    ensures { result ≡ begins_with_letter word.now }
+{
+    match word {
+        [first, ..] => *first >= b'a',
+        [] => false,
+    }
+}
+
+fn signed_text(alloc: Global, number: u32) -> Result<String, AllocError>
+    ensures { IfOk result (λ text. string_bytes text ≡ number_text Kind.Signed number) }
+{
+    if number < 0x8000_0000 {
+        return format!(in alloc; "{number}");
+    }
+    let below = 0xffff_ffff - number + 1;
+    format!(in alloc; "-{below}")
+}
+
+#[tactic(auto, unfolding(crate::specs::Kinds::value_word))]
+/// Adds a number as a word, with a space in front. If an allocation fails, some of it may have been added.
+pub fn push_value(line: &mut Vec<u8>, kind: Kind, number: u32) -> Result<(), AllocError>
+    ensures { OnOk result (line.new.items ≡ line.old.items ++ spaced (value_word kind number ∷ [])) }
+{
+    match kind.name_of(number) {
+        Some(name) => push_spaced(line, name),
+        None => {
+            let text = kind.number_text(*line.allocator(), number)?;
+            push_spaced(line, text.as_bytes())
+        }
+    }
+}
