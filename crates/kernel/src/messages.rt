@@ -1,8 +1,7 @@
-ghost use Rattle.std.specs.Prelude.{◌≡◌, [], IfOk, IsSome};
+ghost use Rattle.std.specs.Prelude.{◌≡◌, [], IsSome};
 ghost use Rattle.std.specs.FinMap as map;
-ghost use Rattle.ipc_model.specs.calls.PortCalls.{names_in};
-ghost use Rattle.ipc_model.specs.calls.Step.{ActsIn};
 ghost use Rattle.ipc_model.specs.state.Circular.{Acyclic};
+ghost use Rattle.ipc_model.specs.calls.Step.{Acts};
 ghost use Rattle.ipc_model.specs.state.Lawful.{Lawful};
 
 use codes::{KernReturn, MACH_PORT_NULL};
@@ -25,9 +24,7 @@ pub fn send(
     requires rest { state.old.before ≡ state.old.current }
     requires lawful { Lawful state.old.current }
     requires acyclic { Acyclic state.old.current }
-    ensures acts { IfOk result
-        (λ reply. ActsIn state.old.current space (names_in state.old.current space)
-        (Call.Send message.now) reply state.new.current effects.new) }
+    ensures acts { Acts state.old.current space (Call.Send message.now) result state.new.current effects.new }
     ensures before { state.new.before ≡ state.old.before }
 {
     match sending::send(alloc, state, space, message, effects) {

@@ -5,7 +5,7 @@ ghost use Rattle.ipc_model.specs.declared.call.Call.TheVariants as call;
 ghost use Rattle.ipc_model.specs.effects.Effects.{Effect};
 ghost use Rattle.ipc_model.specs.calls.PortCalls.{names_are_used_up, is_right, names_in, tests_of};
 ghost use Rattle.ipc_model.specs.state.State.{State, IsUnused, ports_are_used_up};
-ghost use Rattle.ipc_model.specs.calls.Step.{ActsIn};
+ghost use Rattle.ipc_model.specs.calls.Step.{Acts, ActsIn};
 ghost use Rattle.ipc_model.specs.calls.Tests.{first_failing};
 
 use crate::entry::{allocated_entry, is_allocatable};
@@ -27,9 +27,7 @@ pub fn allocate(
 ) -> Result<Reply, AllocError>
     requires there { IsSome (map.get state.old.current.spaces space) }
     requires fresh { map.get state.old.current.ports state.old.current.next ≡ None }
-    ensures acts { IfOk result
-        (λ reply. ActsIn state.old.current space (names_in state.old.current space)
-        (call.Allocate right) reply state.new.current []) }
+    ensures acts { Acts state.old.current space (call.Allocate right) result state.new.current [] }
     // If the call may be answered with the preferred name, it is.
     ensures wanted { IfOk result (λ reply. (shown : ℕ) → wanted ≡ Some shown → (new : State) → (effects : List Effect)
         → ActsIn state.old.current space (names_in state.old.current space) (call.Allocate right)
@@ -98,9 +96,7 @@ pub fn allocate_name(
 ) -> Result<Reply, AllocError>
     requires there { IsSome (map.get state.old.current.spaces space) }
     requires fresh { map.get state.old.current.ports state.old.current.next ≡ None }
-    ensures acts { IfOk result
-        (λ reply. ActsIn state.old.current space (names_in state.old.current space)
-        (call.AllocateName right name) reply state.new.current []) }
+    ensures acts { Acts state.old.current space (call.AllocateName right name) result state.new.current [] }
     ensures before { state.new.before ≡ state.old.before }
 {
     let number = MACH_PORT_ALLOCATE_NAME;

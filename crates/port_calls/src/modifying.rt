@@ -1,11 +1,11 @@
-ghost use Rattle.std.specs.Prelude.{◌≡◌, ◌++◌, ◌∷◌, [], Some, false, IfOk, OnOk};
+ghost use Rattle.std.specs.Prelude.{◌≡◌, ◌++◌, ◌∷◌, [], Some, false, OnOk};
 ghost use Rattle.std.specs.FinMap as map;
 ghost use Rattle.ipc_model.specs.declared.call.Call.TheVariants as call;
+ghost use Rattle.ipc_model.specs.calls.Step.{Acts};
 ghost use Rattle.ipc_model.specs.rights.CopyIn.{with_left, notices_of_left};
 ghost use Rattle.ipc_model.specs.effects.Effects.{release};
 ghost use Rattle.ipc_model.specs.calls.PortCalls.{names_in, is_no_name, sum_is_negative, sum_of, falls_by};
 ghost use Rattle.ipc_model.specs.state.State.{entry_at};
-ghost use Rattle.ipc_model.specs.calls.Step.{ActsIn};
 ghost use Rattle.codes.specs.Right.{number_of};
 ghost use Rattle.rights.specs.Passed.{AreFewReferences};
 
@@ -35,9 +35,7 @@ pub fn mod_refs(
     effects: &mut Effects,
 ) -> Result<Reply, AllocError>
     requires none { effects.old ≡ [] }
-    ensures acts { IfOk result
-        (λ reply. ActsIn state.old.current space (names_in state.old.current space)
-        (call.ModRefs name right delta) reply state.new.current effects.new) }
+    ensures acts { Acts state.old.current space (call.ModRefs name right delta) result state.new.current effects.new }
     ensures before { state.new.before ≡ state.old.before }
 {
     let Some(wanted) = Right::from_number(right) else {
@@ -79,9 +77,7 @@ fn mod_send(
     requires a_name { is_no_name (names_in state.old.current space) name ≡ false }
     requires found { map.get (names_in state.old.current space) name ≡ Some (Entry.Port rights) }
     requires at { entry_at state.old.current space name ≡ Some (Entry.Port rights) }
-    ensures acts { IfOk result
-        (λ reply. ActsIn state.old.current space (names_in state.old.current space)
-        (call.ModRefs name (number_of Right.Send) delta) reply state.new.current effects.new) }
+    ensures acts { Acts state.old.current space (call.ModRefs name (number_of Right.Send) delta) result state.new.current effects.new }
     ensures before { state.new.before ≡ state.old.before }
 {
     if rights.send == 0 {
@@ -114,9 +110,7 @@ fn mod_receive(
     requires found { map.get (names_in state.old.current space) name ≡ Some (Entry.Port rights) }
     requires at { entry_at state.old.current space name ≡ Some (Entry.Port rights) }
     requires few { AreFewReferences (Entry.Port rights) }
-    ensures acts { IfOk result
-        (λ reply. ActsIn state.old.current space (names_in state.old.current space)
-        (call.ModRefs name (number_of Right.Receive) delta) reply state.new.current effects.new) }
+    ensures acts { Acts state.old.current space (call.ModRefs name (number_of Right.Receive) delta) result state.new.current effects.new }
     ensures before { state.new.before ≡ state.old.before }
 {
     if !rights.receive {
@@ -171,9 +165,7 @@ fn mod_send_once(
     requires none { effects.old ≡ [] }
     requires a_name { is_no_name (names_in state.old.current space) name ≡ false }
     requires found { map.get (names_in state.old.current space) name ≡ Some (Entry.SendOnce port request) }
-    ensures acts { IfOk result
-        (λ reply. ActsIn state.old.current space (names_in state.old.current space)
-        (call.ModRefs name (number_of Right.SendOnce) delta) reply state.new.current effects.new) }
+    ensures acts { Acts state.old.current space (call.ModRefs name (number_of Right.SendOnce) delta) result state.new.current effects.new }
     ensures before { state.new.before ≡ state.old.before }
 {
     if delta == MINUS_ONE {
@@ -199,9 +191,7 @@ fn mod_dead(
     requires a_name { is_no_name (names_in state.old.current space) name ≡ false }
     requires found { map.get (names_in state.old.current space) name ≡ Some (Entry.Dead references) }
     requires at { entry_at state.old.current space name ≡ Some (Entry.Dead references) }
-    ensures acts { IfOk result
-        (λ reply. ActsIn state.old.current space (names_in state.old.current space)
-        (call.ModRefs name (number_of Right.DeadName) delta) reply state.new.current effects.new) }
+    ensures acts { Acts state.old.current space (call.ModRefs name (number_of Right.DeadName) delta) result state.new.current effects.new }
     ensures before { state.new.before ≡ state.old.before }
 {
     if references == 0 {
@@ -241,9 +231,7 @@ fn mod_set(
     requires a_name { is_no_name (names_in state.old.current space) name ≡ false }
     requires found { map.get (names_in state.old.current space) name ≡ Some Entry.Set }
     requires at { entry_at state.old.current space name ≡ Some Entry.Set }
-    ensures acts { IfOk result
-        (λ reply. ActsIn state.old.current space (names_in state.old.current space)
-        (call.ModRefs name (number_of Right.PortSet) delta) reply state.new.current effects.new) }
+    ensures acts { Acts state.old.current space (call.ModRefs name (number_of Right.PortSet) delta) result state.new.current effects.new }
     ensures before { state.new.before ≡ state.old.before }
 {
     let _none = &effects;

@@ -1,7 +1,7 @@
-ghost use Rattle.std.specs.Prelude.{◌≡◌, [], IfOk};
+ghost use Rattle.std.specs.Prelude.{◌≡◌, []};
 ghost use Rattle.ipc_model.specs.declared.call.Call.TheVariants as call;
-ghost use Rattle.ipc_model.specs.calls.PortCalls.{names_in, is_in_some_set};
-ghost use Rattle.ipc_model.specs.calls.Step.{ActsIn};
+ghost use Rattle.ipc_model.specs.calls.Step.{Acts};
+ghost use Rattle.ipc_model.specs.calls.PortCalls.{is_in_some_set};
 
 use crate::name_lookup::named;
 use crate::reply::refused;
@@ -20,9 +20,7 @@ pub fn move_member(
     member: u32,
     after: u32,
 ) -> Result<Reply, AllocError>
-    ensures acts { IfOk result
-        (λ reply. ActsIn state.old.current space (names_in state.old.current space)
-        (call.MoveMember member after) reply state.new.current []) }
+    ensures acts { Acts state.old.current space (call.MoveMember member after) result state.new.current [] }
     ensures before { state.new.before ≡ state.old.before }
 {
     let number = MACH_PORT_MOVE_MEMBER;

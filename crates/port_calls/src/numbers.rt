@@ -1,7 +1,6 @@
-ghost use Rattle.std.specs.Prelude.{◌≡◌, [], IfOk};
+ghost use Rattle.std.specs.Prelude.{◌≡◌, []};
 ghost use Rattle.ipc_model.specs.declared.call.Call.TheVariants as call;
-ghost use Rattle.ipc_model.specs.calls.PortCalls.{names_in};
-ghost use Rattle.ipc_model.specs.calls.Step.{ActsIn};
+ghost use Rattle.ipc_model.specs.calls.Step.{Acts};
 
 use crate::name_lookup::named;
 use crate::reply::refused;
@@ -22,9 +21,7 @@ pub fn set_qlimit(
     name: u32,
     limit: u32,
 ) -> Result<Reply, AllocError>
-    ensures acts { IfOk result
-        (λ reply. ActsIn state.old.current space (names_in state.old.current space)
-        (call.SetQlimit name limit) reply state.new.current []) }
+    ensures acts { Acts state.old.current space (call.SetQlimit name limit) result state.new.current [] }
     ensures before { state.new.before ≡ state.old.before }
 {
     let number = MACH_PORT_SET_QLIMIT;
@@ -52,9 +49,7 @@ pub fn set_mscount(
     name: u32,
     count: u32,
 ) -> Result<Reply, AllocError>
-    ensures acts { IfOk result
-        (λ reply. ActsIn state.old.current space (names_in state.old.current space)
-        (call.SetMscount name count) reply state.new.current []) }
+    ensures acts { Acts state.old.current space (call.SetMscount name count) result state.new.current [] }
     ensures before { state.new.before ≡ state.old.before }
 {
     let number = MACH_PORT_SET_MSCOUNT;
@@ -86,9 +81,7 @@ pub fn set_seqno(
     name: u32,
     seqno: u32,
 ) -> Result<Reply, AllocError>
-    ensures acts { IfOk result
-        (λ reply. ActsIn state.old.current space (names_in state.old.current space)
-        (call.SetSeqno name seqno) reply state.new.current []) }
+    ensures acts { Acts state.old.current space (call.SetSeqno name seqno) result state.new.current [] }
     ensures before { state.new.before ≡ state.old.before }
 {
     let number = MACH_PORT_SET_SEQNO;

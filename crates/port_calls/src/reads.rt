@@ -5,7 +5,7 @@ ghost use Rattle.ipc_model.specs.state.Placed.{send_once_count};
 ghost use Rattle.ipc_model.specs.state.State.{type_of};
 ghost use Rattle.ipc_model.specs.declared.call.Call.TheVariants as call;
 ghost use Rattle.ipc_model.specs.calls.PortCalls.{names_in, references_of};
-ghost use Rattle.ipc_model.specs.calls.Step.{ActsIn};
+ghost use Rattle.ipc_model.specs.calls.Step.{Acts, ActsIn};
 ghost use Rattle.codes.specs.Right.{number_of};
 
 use crate::name_lookup::named;
@@ -54,8 +54,7 @@ pub fn get_refs(state: &IpcState, space: u32, name: u32, right: u32) -> Reply
 /// `mach_port_names`: the names in use, in ascending order, with their type bits.
 #[tactic(auto, unfolding(ipc_model::specs::calls::PortCalls::tests_of, ipc_model::specs::calls::Actions::Done))]
 pub fn names(alloc: Global, state: &IpcState, space: u32) -> Result<Reply, AllocError>
-    ensures { IfOk result (λ reply. ActsIn state.now.current space
-        (names_in state.now.current space) call.Names reply state.now.current []) }
+    ensures { Acts state.now.current space call.Names result state.now.current [] }
 {
     let names = named_types(alloc, state, space)?;
     Ok(Reply::Names {
@@ -130,8 +129,7 @@ pub fn get_set_status(
     space: u32,
     name: u32,
 ) -> Result<Reply, AllocError>
-    ensures { IfOk result (λ reply. ActsIn state.now.current space (names_in state.now.current space)
-        (call.GetSetStatus name) reply state.now.current []) }
+    ensures { Acts state.now.current space (call.GetSetStatus name) result state.now.current [] }
 {
     let number = MACH_PORT_GET_SET_STATUS;
     match named(state, space, name) {

@@ -1,12 +1,12 @@
-ghost use Rattle.std.specs.Prelude.{◌≡◌, ◌++◌, ◌∷◌, ◌==◌, ◌≤◌, ◌||◌, ◌&&◌, [], IfOk, OnOk, IsSome, Some};
+ghost use Rattle.std.specs.Prelude.{◌≡◌, ◌++◌, ◌∷◌, ◌==◌, ◌≤◌, ◌||◌, ◌&&◌, [], OnOk, IsSome, Some};
 ghost use Rattle.codes.specs.declared.limits.TheConstants.{MAX_SEND_REFERENCES};
 ghost use Rattle.ipc_model.specs.calls.Actions.{release_if, effects_of_name};
+ghost use Rattle.ipc_model.specs.calls.Step.{Acts};
 ghost use Rattle.ipc_model.specs.rights.CopyIn.{with_left, notices_of_left};
 ghost use Rattle.ipc_model.specs.declared.call.Call.TheVariants as call;
 ghost use Rattle.ipc_model.specs.effects.Effects.{release, port_deleted};
-ghost use Rattle.ipc_model.specs.calls.PortCalls.{names_in, is_set, has_receive, send_references};
+ghost use Rattle.ipc_model.specs.calls.PortCalls.{is_set, has_receive, send_references};
 ghost use Rattle.ipc_model.specs.state.State.{entry_at, without_name};
-ghost use Rattle.ipc_model.specs.calls.Step.{ActsIn};
 
 use crate::name_lookup::named;
 use crate::reply::refused;
@@ -25,9 +25,7 @@ pub fn deallocate(
     effects: &mut Effects,
 ) -> Result<Reply, AllocError>
     requires none { effects.old ≡ [] }
-    ensures acts { IfOk result
-        (λ reply. ActsIn state.old.current space (names_in state.old.current space)
-        (call.Deallocate name) reply state.new.current effects.new) }
+    ensures acts { Acts state.old.current space (call.Deallocate name) result state.new.current effects.new }
     ensures before { state.new.before ≡ state.old.before }
 {
     let number = MACH_PORT_DEALLOCATE;

@@ -1,8 +1,8 @@
-ghost use Rattle.std.specs.Prelude.{◌≡◌, [], IfOk, OnOk};
+ghost use Rattle.std.specs.Prelude.{◌≡◌, [], OnOk};
 ghost use Rattle.ipc_model.specs.calls.Actions.{members_moved};
+ghost use Rattle.ipc_model.specs.calls.Step.{Acts};
 ghost use Rattle.ipc_model.specs.declared.call.Call.TheVariants as call;
 ghost use Rattle.ipc_model.specs.calls.PortCalls.{names_in};
-ghost use Rattle.ipc_model.specs.calls.Step.{ActsIn};
 
 use crate::name_lookup::named;
 use crate::references::release_name;
@@ -24,9 +24,7 @@ pub fn destroy(
     effects: &mut Effects,
 ) -> Result<Reply, AllocError>
     requires none { effects.old ≡ [] }
-    ensures acts { IfOk result
-        (λ reply. ActsIn state.old.current space (names_in state.old.current space)
-        (call.Destroy name) reply state.new.current effects.new) }
+    ensures acts { Acts state.old.current space (call.Destroy name) result state.new.current effects.new }
     ensures before { state.new.before ≡ state.old.before }
 {
     let number = MACH_PORT_DESTROY;

@@ -1,10 +1,10 @@
-ghost use Rattle.std.specs.Prelude.{◌≡◌, [], Some, None, IfOk, OnOk, IsSome};
+ghost use Rattle.std.specs.Prelude.{◌≡◌, [], Some, None, OnOk, IsSome};
 ghost use Rattle.std.specs.FinMap as map;
 ghost use Rattle.ipc_model.specs.calls.Actions.{renamed};
+ghost use Rattle.ipc_model.specs.calls.Step.{Acts};
 ghost use Rattle.ipc_model.specs.declared.call.Call.TheVariants as call;
 ghost use Rattle.ipc_model.specs.calls.PortCalls.{names_in};
 ghost use Rattle.ipc_model.specs.state.State.{entry_at};
-ghost use Rattle.ipc_model.specs.calls.Step.{ActsIn};
 
 use crate::name_lookup::{is_null_or_dead, named};
 use crate::reply::refused;
@@ -25,9 +25,7 @@ pub fn rename(
     to: u32,
 ) -> Result<Reply, AllocError>
     requires there { IsSome (map.get state.old.current.spaces space) }
-    ensures acts { IfOk result
-        (λ reply. ActsIn state.old.current space (names_in state.old.current space)
-        (call.Rename from to) reply state.new.current []) }
+    ensures acts { Acts state.old.current space (call.Rename from to) result state.new.current [] }
     ensures before { state.new.before ≡ state.old.before }
 {
     let number = MACH_PORT_RENAME;

@@ -6,7 +6,7 @@ ghost use Rattle.ipc_model.specs.declared.call.Call.TheVariants as call;
 ghost use Rattle.ipc_model.specs.effects.Effects.{Effect};
 ghost use Rattle.ipc_model.specs.calls.PortCalls.{names_in, tests_of};
 ghost use Rattle.ipc_model.specs.state.State.{State, with_names};
-ghost use Rattle.ipc_model.specs.calls.Step.{ActsIn};
+ghost use Rattle.ipc_model.specs.calls.Step.{Acts, ActsIn};
 ghost use Rattle.ipc_model.specs.calls.Tests.{first_failing};
 ghost use Rattle.port_calls.specs.Trying.{Tries};
 ghost use Rattle.rights.specs.Taking.{Takes};
@@ -78,9 +78,7 @@ pub fn space_destroy(
     effects: &mut Effects,
 ) -> Result<Reply, AllocError>
     requires none { effects.old ≡ [] }
-    ensures acts { IfOk result
-        (λ reply. ActsIn state.old.current space
-        (names_in state.old.current space) call.SpaceDestroy reply state.new.current effects.new) }
+    ensures acts { Acts state.old.current space call.SpaceDestroy result state.new.current effects.new }
     ensures before { state.new.before ≡ state.old.before }
 {
     let number = SPACE_DESTROY;

@@ -2,7 +2,7 @@ ghost use Rattle.std.specs.Prelude.{◌≡◌, ◌+◌, ◌≤◌, ◌<◌, ◌+
 ghost use Rattle.std.specs.FinMap as map;
 ghost use Rattle.codes.specs.declared.limits.TheConstants.{MAX_NAMES};
 ghost use Rattle.ipc_model.specs.calls.PortCalls.{names_in};
-ghost use Rattle.ipc_model.specs.calls.Step.{ActsIn};
+ghost use Rattle.ipc_model.specs.calls.Step.{Acts, ActsIn};
 ghost use Rattle.ipc_model.specs.declared.call.Call.TheVariants as call;
 ghost use Rattle.ipc_model.specs.declared.call.Reply as machine;
 ghost use Rattle.ipc_model.specs.effects.Effects as waiting;
@@ -57,9 +57,7 @@ pub fn receive(
     requires none { effects.old ≡ [] }
     requires there { IsSome (map.get state.old.current.spaces space) }
     requires lawful { Lawful state.old.current }
-    ensures acts { IfOk result
-        (λ reply. ActsIn state.old.current space (names_in state.old.current space)
-        (call.Receive asked.limit asked.large asked.name asked.waited) reply state.new.current effects.new) }
+    ensures acts { Acts state.old.current space (call.Receive asked.limit asked.large asked.name asked.waited) result state.new.current effects.new }
     // If the call may be answered by a reply that shows this, it is.
     ensures shown { IfOk result (λ reply. (other : machine.Reply) → (last : State) → (others : List waiting.Effect)
         → preference ≡ preferred_by other → names.now ≡ names_shown (encoding_in other)

@@ -1,6 +1,6 @@
 -- The machine: what each call may answer, and the state that it leaves.
 -- (Kernel Interfaces, mach_msg and "Port Manipulation".)
-use Rattle.std.specs.Prelude.{◌≡◌, ℕ, Bool, true, false, ◌&&◌, ◌||◌, List, [], ◌∷◌, Option, None, Some, MatchResult}
+use Rattle.std.specs.Prelude.{◌≡◌, ℕ, Bool, true, false, ◌&&◌, ◌||◌, List, [], ◌∷◌, Option, None, Some, Result, IfOk, MatchResult}
 use Rattle.std.specs.FinMap as finmap
 use Rattle.codes.specs.declared.call_number.TheConstants.{ATTACH, MACH_PORT_NAMES, MACH_PORT_TYPE, MACH_PORT_RENAME, MACH_PORT_ALLOCATE_NAME, MACH_PORT_ALLOCATE, MACH_PORT_DESTROY, MACH_PORT_DEALLOCATE, MACH_PORT_GET_REFS, MACH_PORT_MOD_REFS, MACH_PORT_SET_QLIMIT, MACH_PORT_SET_MSCOUNT, MACH_PORT_SET_SEQNO, MACH_PORT_GET_RECEIVE_STATUS, MACH_PORT_GET_SET_STATUS, MACH_PORT_MOVE_MEMBER, MACH_PORT_REQUEST_NOTIFICATION, MACH_PORT_INSERT_RIGHT, MACH_PORT_EXTRACT_RIGHT, MACH_MSG, SPACE_CREATE, SPACE_DESTROY}
 use Rattle.codes.specs.declared.kern_return.KernReturn.{KernReturn}
@@ -13,7 +13,7 @@ use Rattle.ipc_model.specs.declared.call.Reply.TheVariants as reply
 use Rattle.ipc_model.specs.declared.record.Record.{Record}
 use Rattle.ipc_model.specs.calls.Actions.{Done}
 use Rattle.ipc_model.specs.effects.Effects.{Effect, Settles, state_after, added}
-use Rattle.ipc_model.specs.calls.PortCalls.{tests_of}
+use Rattle.ipc_model.specs.calls.PortCalls.{names_in, tests_of}
 use Rattle.ipc_model.specs.messages.Receiving.{Receives, without_message}
 use Rattle.ipc_model.specs.messages.Sending.{Ready, ready_to_send, sent}
 use Rattle.ipc_model.specs.state.State.{State, Names}
@@ -73,6 +73,11 @@ ActsIn old space names c answer new effects =
     RefusedOrDone (first_failing (tests_of old space names c))
     (λ code. IsRefusedWith (reply.Refused (number_of_call c) code) old answer new effects)
     (Done old space names c answer new effects)
+
+-- A call of a task of this space is answered as its own action says, and leaves this state with these effects. An error
+-- says nothing: its caller rolls back what was changed.
+abbrev pub Acts : {E : Type 0} → State → ℕ → Call → Result Reply E → State → List Effect → Type 0
+Acts old space c result new effects = IfOk result (λ answer. ActsIn old space (names_in old space) c answer new effects)
 
 -- A caller whose space is gone is refused before any test.
 abbrev pub ActsFrom : State → ℕ → Option Names → Call → Reply → State → List Effect → Type 0
