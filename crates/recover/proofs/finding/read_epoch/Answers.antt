@@ -9,7 +9,7 @@ use Rattle.slot_steps.specs.Steps.{image_slot, segment_slot}
 use Rattle.store_fault.specs.declared.fault.StoreFault.TheVariants as fault
 use Rattle.recover.proofs.Faults.{none_at_error, none_in_error}
 use Rattle.recover.proofs.Ways.{no_run, reads_one}
-use Rattle.slot_steps.proofs.Moments.{unchanged_then}
+use Rattle.disk.proofs.Moments.{unchanged_then}
 use Rattle.recover.proofs.finding.read_epoch.Goals as goal
 
 pub returns-in_err-base-clause-damaged : goal.returns-in_err-base-clause-damaged

@@ -9,7 +9,7 @@ use Rattle.ipc_model.specs.store.Recovery.{Recovered}
 use Rattle.recover.specs.Kept.{IsKept}
 use Rattle.recover.specs.Replayed.{ReplaysAll}
 use Rattle.store_layout.specs.Standing.{as_written}
-use Rattle.slot_steps.proofs.Moments.{unchanged_then}
+use Rattle.disk.proofs.Moments.{unchanged_then}
 use Rattle.slot_steps.specs.Steps.{segment_slot}
 use Rattle.recover.proofs.Apart.{stays_inside}
 use Rattle.recover.proofs.Faults.{device_no_damage, memory_no_damage, memory_no_device, none_at_error, none_in_error, of_device, of_memory, right_err}
