@@ -2,7 +2,7 @@
 //! figures.
 
 use crate::Fault;
-use disk::{Disk, FileDisk};
+use disk::{Disk, FileDisk, HostFolder};
 use std::alloc::Global;
 use std::cell::Cell;
 use std::fs::{self, File};
@@ -91,9 +91,9 @@ pub(crate) trait Folder {
 }
 
 impl<'a> Folder for Context<'a> {
-    type Files = FileDisk<&'a HostRuntime>;
+    type Files = FileDisk<HostFolder<&'a HostRuntime>>;
 
-    fn new_files(&self) -> Result<FileDisk<&'a HostRuntime>, Fault> {
+    fn new_files(&self) -> Result<FileDisk<HostFolder<&'a HostRuntime>>, Fault> {
         let path = self.new_path()?;
         fs::create_dir(self.rt, path.as_str())?;
         match FileDisk::at(self.alloc, self.rt, path.as_str()) {

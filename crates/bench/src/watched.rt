@@ -98,4 +98,6 @@ impl<'a, D: Disk> Disk for Watched<'a, D> {
         }
         Ok(())
     }
+
+    ghost lasts = { λ never watched. never };
 }

@@ -8,7 +8,7 @@ use Rattle.words.specs.Words.{long_word}
 use Rattle.checkpoint.specs.Images.{HoldsAfter, open_image}
 use Rattle.slot_steps.proofs.Gates.{after_first}
 use Rattle.slot_steps.proofs.Lengths.{closed_cut, cut_length, own_of}
-use Rattle.slot_steps.proofs.Moments.{with_twice}
+use Rattle.disk.proofs.Moments.{with_twice}
 
 -- a slot that was truncated to the place of a header, whose gate isn't open
 pub cut_to_header : (slot : Slot) (old new : Slots) → 24 ≤ length (slot_of old slot) → IsClosed (slot_of old slot)

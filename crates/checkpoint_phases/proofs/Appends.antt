@@ -25,7 +25,7 @@ use Rattle.recover.proofs.Rest.{rest_after, rest_but, rest_is_synced}
 use Rattle.recover.proofs.Stages.{one_recovered, run_join, two_recovered}
 use Rattle.recover.specs.Kept.{IsKept}
 use Rattle.slot_steps.proofs.Lengths.{own_of}
-use Rattle.slot_steps.proofs.Moments.{with_own}
+use Rattle.disk.proofs.Moments.{with_own}
 use Rattle.slot_steps.specs.Steps.{image_slot, segment_slot}
 use Rattle.store_layout.proofs.Appended.{in_use_with, mid_encodes}
 use Rattle.store_layout.specs.Changes.{one_image_changed, one_segment_changed, shut_image, two_segment_changed}

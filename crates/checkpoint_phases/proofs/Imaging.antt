@@ -16,7 +16,7 @@ use Rattle.recover.proofs.Rest.{rest_but_changed}
 use Rattle.recover.proofs.Stages.{next_image, one_recovered, two_recovered}
 use Rattle.recover.specs.Kept.{IsKept}
 use Rattle.slot_steps.proofs.Gates.{closed_not_open}
-use Rattle.slot_steps.proofs.Moments.{passes_as, with_own, with_twice}
+use Rattle.disk.proofs.Moments.{passes_as, with_own, with_twice}
 use Rattle.slot_steps.specs.Steps.{IsRemade, IsShut, image_slot, segment_slot}
 use Rattle.store_layout.specs.Changes.{one_image_changed, two_finished, two_image_changed}
 use Rattle.store_layout.specs.Standing.{as_written, InOne, InTwo, IsPassedImage}

@@ -14,7 +14,7 @@ use Rattle.recover.proofs.Stages.{empty_in_use, empty_encodes, one_recovered, tw
 use Rattle.recover.specs.Making.{empty_segment}
 use Rattle.slot_steps.proofs.Gates.{after_first, gate_opened}
 use Rattle.slot_steps.proofs.Lengths.{own_of}
-use Rattle.slot_steps.proofs.Moments.{passes_as}
+use Rattle.disk.proofs.Moments.{passes_as}
 use Rattle.slot_steps.specs.Steps.{HasSomeGate, segment_slot}
 use Rattle.store_layout.specs.Changes.{one_next_segment_changed, one_opened, shut_segment}
 use Rattle.store_layout.specs.Slots.{alongside_next_segment}

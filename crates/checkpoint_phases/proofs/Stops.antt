@@ -11,7 +11,7 @@ use Rattle.checkpoint_phases.proofs.Alongside.{segment_stays}
 use Rattle.checkpoint_phases.specs.Phases.{InFirst, InSecond, IsCheckpointing, IsImaging, Keeps, without_image}
 use Rattle.recover.proofs.Rest.{rest_is_synced}
 use Rattle.slot_steps.proofs.Following.{synced_shut}
-use Rattle.slot_steps.proofs.Moments.{with_twice}
+use Rattle.disk.proofs.Moments.{with_twice}
 use Rattle.slot_steps.specs.Steps.{IsShut, image_slot, segment_slot}
 use Rattle.store_layout.specs.Changes.{one_image_changed, shut_image, two_image_changed}
 use Rattle.store_layout.specs.Standing.{InOne, InTwo, IsPassedImage}

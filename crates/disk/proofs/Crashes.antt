@@ -9,6 +9,7 @@ use Rattle.disk.specs.declared.log.LoggedCall.TheVariants.{Write, Cut, Sync}
 use Rattle.disk.specs.Slots.{Slots, slot_of, with_slot, written_at, TornWrite, TornCut}
 use Rattle.disk.specs.Log.{within, seen_after, left_after, replayed, outcomes}
 use Rattle.disk.specs.Crashes.{Tears}
+use Rattle.disk.specs.Lasting.{StepOn, cut_kept, cut_lost, with_same, write_kept, write_lost}
 use Rattle.disk.proofs.Replay.{replayed-push, outcomes_of_left}
 
 -- each slot of c has the torn bytes or those that a read gives
@@ -17,10 +18,6 @@ pub record IsMixed (left seen c : Slots) : Type 0 where
   pub image1 : (c.image1 ≡ left.image1) ⊎ (c.image1 ≡ seen.image1)
   pub segment0 : (c.segment0 ≡ left.segment0) ⊎ (c.segment0 ≡ seen.segment0)
   pub segment1 : (c.segment1 ≡ left.segment1) ⊎ (c.segment1 ≡ seen.segment1)
-
--- what a step on one slot may make of such slots
-abbrev StepOn : Slot → (List ℕ → List ℕ → Type 0) → (Slots → Type 0) → Slots → Type 0
-StepOn slot R P c = (d : Slots) × P d × R (slot_of d slot) (slot_of c slot) × (c ≡ with_slot d slot (slot_of c slot))
 
 step_on : (slot : Slot) (R : List ℕ → List ℕ → Type 0) (P : Slots → Type 0) (left seen : Slots) (y z : List ℕ)
     → R (slot_of left slot) y → R (slot_of seen slot) z → ((c : Slots) → IsMixed left seen c → P c) → (c : Slots)
@@ -131,47 +128,6 @@ sync_on Segment1 P left seen all c mixed =
       same,
     )
 
-with_same : (slot : Slot) (seen : Slots) → with_slot seen slot (slot_of seen slot) ≡ seen
-with_same Image0 seen = refl
-with_same Image1 seen = refl
-with_same Segment0 seen = refl
-with_same Segment1 seen = refl
-
--- a crash may lose a write or a truncation, or leave it whole
-pub write_lost : (at n : ℕ) (old : List ℕ) → TornWrite at n old old
-write_lost at n old = record { before = refl; after = refl; no_shorter = omega arith; no_longer = omega arith }
-
-pub write_kept : (at n : ℕ) (old bytes : List ℕ) → at ≤ length old → length bytes ≡ n
-    → TornWrite at n old (written_at old at bytes)
-write_kept at n old bytes le long =
-    let front : length (take at old) ≡ at = omega (arith, length-take at old) in
-    let back = drop (at + length bytes) old in
-    let written : length (take at old ++ bytes) ≡ at + length bytes =
-    omega (arith, front, length-append (take at old) bytes) in
-    let parts : length (written_at old at bytes) ≡ at + length bytes + length back =
-    omega (arith, written, length-append (take at old ++ bytes) back) in
-    let rest : length back ≡ length old - (at + length bytes) = length-drop (at + length bytes) old in
-    let begins : take at (written_at old at bytes) ≡ take at old =
-    ap (take at) (append_assoc (take at old) bytes back) ∙ take_at (take at old) (bytes ++ back) at front in
-    record {
-      before = begins;
-      after =
-          subst (λ k. drop (at + k) (written_at old at bytes) ≡ drop (at + k) old) long
-          (drop_at (take at old ++ bytes) back (at + length bytes) written);
-      no_shorter = omega arith;
-      no_longer = omega arith;
-    }
-
-pub cut_lost : (n : ℕ) (old : List ℕ) → TornCut n old old
-cut_lost n old = record { front = refl; no_shorter = omega arith; no_longer = omega arith }
-
-pub cut_kept : (n : ℕ) (old : List ℕ) → TornCut n old (take n old)
-cut_kept n old = record {
-  front = take_all n (take n old) (omega (arith, length-take n old));
-  no_shorter = omega (arith, length-take n old);
-  no_longer = omega (arith, length-take n old);
-}
-
 module _ (P : Slots → Type 0) (left seen new : Slots) (all : (c : Slots) → IsMixed left seen c → P c) where
   mixed_on : (slot : Slot) (R : List ℕ → List ℕ → Type 0) (y z : List ℕ) (now : Slots) → R (slot_of left slot) y
       → R (slot_of seen slot) z → new ≡ with_slot left slot y → now ≡ with_slot seen slot z → (c : Slots)
@@ -245,51 +201,3 @@ pub left_is_left : (first left seen : Slots) (log : List LoggedCall) → IsTornR
     → outcomes (λ d. d ≡ first) first log left
 left_is_left first left seen log torn =
     torn.all left (record { image0 = inl refl; image1 = inl refl; segment0 = inl refl; segment1 = inl refl })
-
-of_with : (slot : Slot) (s : Slots) (bytes : List ℕ) → slot_of (with_slot s slot bytes) slot ≡ bytes
-of_with Image0 s bytes = refl
-of_with Image1 s bytes = refl
-of_with Segment0 s bytes = refl
-of_with Segment1 s bytes = refl
-
--- a call leaves what a read then gives
-step_seen : (slot : Slot) (R : List ℕ → List ℕ → Type 0) (P : Slots → Type 0) (seen : Slots) (z : List ℕ)
-    → R (slot_of seen slot) z → P seen → StepOn slot R P (with_slot seen slot z)
-step_seen slot R P seen z done left = (
-  seen,
-  left,
-  subst (R (slot_of seen slot)) (sym (of_with slot seen z)) done,
-  ap (with_slot seen slot) (sym (of_with slot seen z)),
-)
-
-stay_seen : (slot : Slot) (R : List ℕ → List ℕ → Type 0) (P : Slots → Type 0) (seen : Slots)
-    → R (slot_of seen slot) (slot_of seen slot) → P seen → StepOn slot R P seen
-stay_seen slot R P seen lost left = (seen, left, lost, sym (with_same slot seen))
-
-left_seen : (P : Slots → Type 0) (seen : Slots) → P seen → (call : LoggedCall)
-    → left_after call seen P (seen_after call seen)
-left_seen P seen left (Write slot at bytes true) =
-    let begins : within seen slot at ≤ length (slot_of seen slot) = omega arith in
-    step_seen slot (TornWrite (within seen slot at) (length bytes.items)) P seen _
-    (write_kept (within seen slot at) (length bytes.items) (slot_of seen slot) bytes.items begins refl) left
-left_seen P seen left (Write slot at bytes false) =
-    stay_seen slot (TornWrite (within seen slot at) (length bytes.items)) P seen
-    (write_lost (within seen slot at) (length bytes.items) (slot_of seen slot)) left
-left_seen P seen left (Cut slot len true) =
-    step_seen slot (TornCut len) P seen _ (cut_kept len (slot_of seen slot)) left
-left_seen P seen left (Cut slot len false) = stay_seen slot (TornCut len) P seen (cut_lost len (slot_of seen slot)) left
-left_seen P seen left (Sync slot) = (left, refl)
-
-outcomes_seen : (P : Slots → Type 0) (seen : Slots) (log : List LoggedCall) → P seen
-    → outcomes P seen log (replayed seen log)
-unfolding replayed outcomes
-outcomes_seen P seen [] left = left
-outcomes_seen P seen (call ∷ log) left =
-    outcomes_seen (left_after call seen P) (seen_after call seen) log (left_seen P seen left call)
-
-pub seen_may_be_left : (first seen : Slots) (log : List LoggedCall) → seen ≡ replayed first log
-    → outcomes (λ d. d ≡ first) first (take (length log) log) seen
-seen_may_be_left first seen log is =
-    let all : log ≡ take (length log) log = sym (take_all (length log) log (omega arith)) in
-    subst (λ l. outcomes (λ d. d ≡ first) first l seen) all
-    (subst (outcomes (λ d. d ≡ first) first log) (sym is) (outcomes_seen (λ d. d ≡ first) first log refl))

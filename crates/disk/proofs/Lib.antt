@@ -1,2 +1,5 @@
 mod Replay
+pub mod Moments
 mod Crashes
+mod Folders
+mod MemoryFolder

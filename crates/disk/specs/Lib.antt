@@ -1,3 +1,4 @@
+pub mod Folders
 pub mod Files
 pub mod Log
 pub mod Memory
@@ -5,3 +6,4 @@ pub mod Moments
 pub mod Plan
 pub mod Slots
 pub mod Crashes
+pub mod Lasting

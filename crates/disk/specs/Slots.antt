@@ -1,5 +1,5 @@
 -- What the four slots of a store hold, and what one call does to a slot.
-use Rattle.std.specs.Prelude.{◌≡◌, ℕ, ◌+◌, ◌≤◌, min, max, List, [], ◌++◌, length, take, drop}
+use Rattle.std.specs.Prelude.{◌≡◌, ℕ, ◌+◌, ◌≤◌, min, max, List, [], ◌++◌, length, take, drop, codes}
 use Rattle.disk.specs.declared.slot.Slot.{Slot}
 use Rattle.disk.specs.declared.slot.Slot.TheVariants.{Image0, Image1, Segment0, Segment1}
 
@@ -20,6 +20,13 @@ slot_of slots Image0 = slots.image0
 slot_of slots Image1 = slots.image1
 slot_of slots Segment0 = slots.segment0
 slot_of slots Segment1 = slots.segment1
+
+-- the name of the file that keeps a slot
+abbrev pub file_name : Slot → List ℕ
+file_name Image0 = codes "image0"
+file_name Image1 = codes "image1"
+file_name Segment0 = codes "segment0"
+file_name Segment1 = codes "segment1"
 
 -- the slots with other bytes in one of them
 abbrev pub with_slot : Slots → Slot → List ℕ → Slots

@@ -75,4 +75,7 @@ pub trait Disk {
         ensures seen { honest → (view self.new).seen ≡ (view self.old).seen }
         ensures time { honest → Passes (view self.old) (view self.new) (MayLeave (view self.old)) }
         ensures failures { CountsFailure (failed_calls self.old) (failed_calls self.new) result };
+
+    /// What a read returns now is among what a crash may leave.
+    ghost lasts: { honest → (disk : Self) → MayLeave (view disk) (view disk).seen };
 }

@@ -1,300 +1,200 @@
 // A disk in four files of a folder.
-ghost use Rattle.std.specs.Prelude.{◌≡◌, ◌≤◌, length, IfOk};
-ghost use Rattle.disk.specs.Files.{FilesKeepModel, folder_view};
+ghost use Rattle.std.specs.Prelude.{◌≡◌, ◌≤◌, true, false, is_some, length, take, IfOk, OnOk};
+ghost use Rattle.disk.specs.Folders.{AreNamesSynced, disk_of};
+ghost use Rattle.disk.specs.Moments.{Follows, IsSynced, MayLeave, Passes};
+ghost use Rattle.disk.specs.Slots.{Slots, TornCut, TornWrite, file_name, slot_of, with_slot, written_at};
 
 use crate::device::count_failure;
-use crate::{Disk, DiskFault, Slot};
-use std::alloc::{AllocError, Global};
-use std::fs::{self, File, OpenFile, OpenOptions};
-use std::io::{self, ErrorKind, Read, Seek, SeekFrom, Write};
+use crate::{Disk, DiskFault, Folder, FolderFault, HostFolder, Slot};
+use std::alloc::Global;
 use std::rt::Files;
 
-/// A slot in each of the files `image0`, `image1`, `segment0` and `segment1` of a folder. A file that doesn't exist is
-/// an empty slot; the first write to the slot, or the first truncation, creates it. A read looks for it again, since
-/// another process may write to the store. Lengths are those measured when the disk was opened.
+/// A slot in each of the files `image0`, `image1`, `segment0` and `segment1` of a folder. A file that isn't there is an
+/// empty slot; the first write to the slot, or the first truncation, makes it.
 ///
-/// Nothing is proved of the contents: that these files keep the disk model is a premise.
-pub struct FileDisk<R: Files + Drop> {
-    files: R,
-    folder: String,
-    slots: SlotFiles<R::File>,
+/// It keeps the disk model for any folder that keeps its files as the clauses of `Folder` say.
+pub struct FileDisk<F: Folder> {
+    folder: F,
 
-    // Whether the folder's names are on the disk. At first that isn't known, since an earlier run may have created
+    // Whether a crash leaves all files that are there. At first that isn't known, since an earlier run may have made
     // them.
-    is_folder_synced: bool,
+    are_names_synced: bool,
 
-    // Whether a sync failed. The system may have dropped what it couldn't write, so later syncs would prove nothing.
+    // Whether a sync failed. The system may have dropped what it could not write, so later syncs would prove nothing.
     is_sync_lost: bool,
     failures: u64,
+    ghost synced_names: { are_names_synced ≡ true → F.honest → AreNamesSynced (F.view folder) },
+    ghost lost: { is_sync_lost ≡ false → F.honest → (F.view folder).has_lost ≡ false },
 }
 
 // Written out, so that proofs above know one function and not its parts.
-impl<R: Files + Drop> Drop for FileDisk<R> {
+impl<F: Folder + Drop> Drop for FileDisk<F> {
     fn drop(self) {
         let FileDisk {
-            files,
             folder,
-            slots,
-            is_folder_synced: _,
+            are_names_synced: _,
             is_sync_lost: _,
             failures: _,
         } = self;
-        drop(files);
         drop(folder);
-        drop(slots);
     }
 }
 
-#[derive(Drop)]
-struct SlotFiles<F> {
-    image0: SlotFile<F>,
-    image1: SlotFile<F>,
-    segment0: SlotFile<F>,
-    segment1: SlotFile<F>,
-}
-
-impl<F> SlotFiles<F> {
-    fn slot(&self, slot: Slot) -> &SlotFile<F> {
-        match slot {
-            Slot::Image0 => &self.image0,
-            Slot::Image1 => &self.image1,
-            Slot::Segment0 => &self.segment0,
-            Slot::Segment1 => &self.segment1,
-        }
-    }
-
-    fn slot_mut(&mut self, slot: Slot) -> &mut SlotFile<F> {
-        match slot {
-            Slot::Image0 => &mut self.image0,
-            Slot::Image1 => &mut self.image1,
-            Slot::Segment0 => &mut self.segment0,
-            Slot::Segment1 => &mut self.segment1,
-        }
-    }
-}
-
-#[derive(Drop)]
-struct SlotFile<F> {
-    path: String,
-    file: Option<F>,
-    is_writable: bool,
-    length: u64,
-}
-
-impl<F: Read + Write + Seek + OpenFile + Drop> SlotFile<F> {
-    // A file for reading, if it exists.
-    fn opened<R: Files<File = F>>(files: &R, path: &str) -> io::Result<Option<F>> {
-        match fs::metadata(files, path) {
-            Ok(found) if found.is_file() => Ok(Some(File::open(files, path)?)),
-            Ok(_) => Err(ErrorKind::InvalidInput.into()),
-            Err(error) if error.kind() == ErrorKind::NotFound => Ok(None),
-            Err(error) => Err(error),
-        }
-    }
-
-    // Opens the file for reading, if it exists.
-    fn find<R: Files<File = F>>(
-        alloc: Global,
-        files: &R,
-        folder: &str,
-        name: &str,
-    ) -> io::Result<SlotFile<F>> {
-        let path = format!(in alloc; "{folder}/{name}")?;
-        let file = SlotFile::opened(files, path.as_str())?;
-        let length = match &file {
-            Some(file) => file.metadata()?.len(),
-            None => 0,
-        };
-        Ok(SlotFile {
-            path,
-            file,
-            is_writable: false,
-            length,
-        })
-    }
-
-    // Opens the file for writing too, and returns whether it created it.
-    fn open_for_writing<R: Files<File = F>>(&mut self, files: &R) -> io::Result<bool> {
-        if self.is_writable {
-            return Ok(false);
-        }
-        let is_missing = self.file.is_none();
-        let file = OpenOptions::new()
-            .read(true)
-            .write(true)
-            .create(true)
-            .open(files, self.path.as_str())?;
-        self.file = Some(file);
-        self.is_writable = true;
-        Ok(is_missing)
-    }
-
-    // Looks again for a file that didn't exist: the process that writes to the store may have created it since.
-    fn find_again<R: Files<File = F>>(&mut self, files: &R) -> io::Result<()> {
-        if self.file.is_none() {
-            self.file = SlotFile::opened(files, self.path.as_str())?;
-        }
-        Ok(())
-    }
-
-    fn read<R: Files<File = F>>(
-        &mut self,
-        files: &R,
-        at: u64,
-        buffer: &mut [u8],
-    ) -> io::Result<usize>
-        ensures { IfOk result (λ count. count ≤ length buffer.old) }
+impl<F: Folder> FileDisk<F> {
+    /// The disk in the files of a folder in which no sync has failed yet.
+    pub fn new(folder: F) -> FileDisk<F>
+        requires { F.honest → (F.view folder).has_lost ≡ false }
+        ensures seen { (⟦<FileDisk<F> as Disk>⟧.view result).seen ≡ (disk_of (F.view folder)).seen }
+        ensures left { (c : Slots) → MayLeave (⟦<FileDisk<F> as Disk>⟧.view result) c
+            → MayLeave (disk_of (F.view folder)) c }
+        ensures failures { ⟦<FileDisk<F> as Disk>⟧.failed_calls result ≡ 0 }
     {
-        self.find_again(files)?;
-        match &mut self.file {
-            None => Ok(0),
-            Some(file) => {
-                file.seek(SeekFrom::Start(at))?;
-                read_full(file, buffer)
-            }
+        FileDisk {
+            folder,
+            are_names_synced: false,
+            is_sync_lost: false,
+            failures: 0,
         }
-    }
-
-    fn write(&mut self, at: u64, bytes: &[u8]) -> io::Result<()> {
-        let Some(file) = &mut self.file else {
-            return Err(ErrorKind::NotFound.into());
-        };
-        file.seek(SeekFrom::Start(at))?;
-        let written = file.write_all(bytes);
-        let end = self.length.max(at.saturating_add(bytes.len() as u64));
-        // A write that failed may have stopped anywhere between.
-        self.length = match &written {
-            Ok(()) => end,
-            Err(_) => measured(file).unwrap_or(end),
-        };
-        written
-    }
-
-    fn cut(&mut self, len: u64) -> io::Result<()> {
-        let Some(file) = &mut self.file else {
-            return Err(ErrorKind::NotFound.into());
-        };
-        let cut = file.set_len(len);
-        self.length = match &cut {
-            Ok(()) => len,
-            Err(_) => measured(file).unwrap_or(self.length),
-        };
-        cut
     }
 }
 
-fn measured<F: OpenFile>(file: &F) -> Option<u64> {
-    Some(file.metadata().ok()?.len())
-}
-
-// Reads until the buffer is full or the file ends.
-fn read_full<F: Read>(file: &mut F, buffer: &mut [u8]) -> io::Result<usize>
-    ensures { IfOk result (λ count. count ≤ length buffer.old) }
-{
-    let mut filled = 0;
-    for _ in 0..u64::MAX {
-        if filled >= buffer.len() {
-            break;
-        }
-        match file.read(&mut buffer[filled..]) {
-            Ok(0) => break,
-            Ok(count) => filled += count,
-            Err(error) if error.kind() == ErrorKind::Interrupted => {}
-            Err(error) => return Err(error),
-        }
-    }
-    Ok(filled)
-}
-
-impl<R: Files + Drop> FileDisk<R> {
-    /// Opens the files that are in the folder, for reading only. The error is that the folder doesn't exist or isn't a
-    /// folder, that something in it can't be opened as a file, or that memory ran out.
-    pub fn at(alloc: Global, files: R, folder: &str) -> Result<FileDisk<R>, DiskFault>
-        ensures { IfOk result (λ disk. ⟦<FileDisk<R> as Disk>⟧.failed_calls disk ≡ 0) }
+impl<R: Files + Drop> FileDisk<HostFolder<R>> {
+    /// The disk in a folder of the operating system. Its files are opened for reading only. The error is that the folder
+    /// doesn't exist or isn't a folder, that something in it can't be opened as a file, or that memory ran out.
+    pub fn at(alloc: Global, files: R, folder: &str) -> Result<FileDisk<HostFolder<R>>, DiskFault>
+        ensures { IfOk result (λ disk. ⟦<FileDisk<HostFolder<R>> as Disk>⟧.failed_calls disk ≡ 0) }
     {
-        match FileDisk::open(alloc, files, folder) {
-            Ok(disk) => Ok(disk),
+        let names = [
+            Slot::Image0.file_name(),
+            Slot::Image1.file_name(),
+            Slot::Segment0.file_name(),
+            Slot::Segment1.file_name(),
+        ];
+        match HostFolder::open(alloc, files, folder, &names) {
+            Ok(folder) => Ok(FileDisk::new(folder)),
             Err(_) => Err(DiskFault),
         }
     }
+}
 
-    fn open(alloc: Global, files: R, folder: &str) -> io::Result<FileDisk<R>>
-        ensures { IfOk result (λ disk. disk.failures ≡ 0) }
+// Makes the file of a slot, if it isn't there. Its slot is empty before and after.
+fn make_file<F: Folder>(folder: &mut F, slot: Slot) -> Result<(), FolderFault>
+    ensures made { F.honest → OnOk result (is_some ((F.view folder.new).seen (file_name slot)) ≡ true) }
+    ensures same { F.honest → OnOk result ((disk_of (F.view folder.new)).seen ≡ (disk_of (F.view folder.old)).seen) }
+    ensures time { F.honest → Passes (disk_of (F.view folder.old)) (disk_of (F.view folder.new))
+        (MayLeave (disk_of (F.view folder.old))) }
+    ensures has_lost { F.honest → (F.view folder.new).has_lost ≡ (F.view folder.old).has_lost }
+    ensures names { F.honest → is_some ((F.view folder.old).seen (file_name slot)) ≡ true
+        → folder.new ≡ folder.old }
+{
+    let name = slot.file_name();
+    if folder.has(name) {
+        return Ok(());
+    }
+    folder.create(name)
+}
+
+// Writes to the file of a slot, which is made if it isn't there.
+fn write_file<F: Folder>(
+    folder: &mut F,
+    slot: Slot,
+    at: u64,
+    bytes: &[u8],
+) -> Result<(), FolderFault>
+    requires { F.honest → at ≤ length (slot_of (disk_of (F.view folder.old)).seen slot) }
+    ensures written { F.honest → OnOk result ((disk_of (F.view folder.new)).seen
+        ≡ with_slot (disk_of (F.view folder.old)).seen slot
+        (written_at (slot_of (disk_of (F.view folder.old)).seen slot) at bytes.now)) }
+    ensures time { F.honest → Passes (disk_of (F.view folder.old)) (disk_of (F.view folder.new))
+        (Follows (disk_of (F.view folder.old)) slot (TornWrite at (length bytes.now))) }
+    ensures has_lost { F.honest → (F.view folder.new).has_lost ≡ (F.view folder.old).has_lost }
+    ensures names { F.honest → is_some ((F.view folder.old).seen (file_name slot)) ≡ true
+        → AreNamesSynced (F.view folder.old) → AreNamesSynced (F.view folder.new) }
+{
+    make_file(folder, slot)?;
+    folder.write_at(slot.file_name(), at, bytes)
+}
+
+// Truncates the file of a slot, which is made if it isn't there.
+fn cut_file<F: Folder>(folder: &mut F, slot: Slot, len: u64) -> Result<(), FolderFault>
+    requires { F.honest → len ≤ length (slot_of (disk_of (F.view folder.old)).seen slot) }
+    ensures cut { F.honest → OnOk result ((disk_of (F.view folder.new)).seen
+        ≡ with_slot (disk_of (F.view folder.old)).seen slot
+        (take len (slot_of (disk_of (F.view folder.old)).seen slot))) }
+    ensures time { F.honest → Passes (disk_of (F.view folder.old)) (disk_of (F.view folder.new))
+        (Follows (disk_of (F.view folder.old)) slot (TornCut len)) }
+    ensures has_lost { F.honest → (F.view folder.new).has_lost ≡ (F.view folder.old).has_lost }
+    ensures names { F.honest → is_some ((F.view folder.old).seen (file_name slot)) ≡ true
+        → AreNamesSynced (F.view folder.old) → AreNamesSynced (F.view folder.new) }
+{
+    make_file(folder, slot)?;
+    folder.cut(slot.file_name(), len)
+}
+
+// Syncs the file of a slot, which is there, and the names, unless they are known to be synced.
+fn sync_file<F: Folder>(
+    folder: &mut F,
+    slot: Slot,
+    are_names_synced: bool,
+) -> Result<(), FolderFault>
+    requires kept { F.honest → (F.view folder.old).has_lost ≡ false }
+    requires there { F.honest → is_some ((F.view folder.old).seen (file_name slot)) ≡ true }
+    requires names { are_names_synced ≡ true → F.honest → AreNamesSynced (F.view folder.old) }
+    ensures synced { F.honest → OnOk result (IsSynced (disk_of (F.view folder.new)) slot) }
+    ensures seen { F.honest → (disk_of (F.view folder.new)).seen ≡ (disk_of (F.view folder.old)).seen }
+    ensures time { F.honest → Passes (disk_of (F.view folder.old)) (disk_of (F.view folder.new))
+        (MayLeave (disk_of (F.view folder.old))) }
+    ensures kept { F.honest → OnOk result ((F.view folder.new).has_lost ≡ false) }
+    ensures names { F.honest → OnOk result (AreNamesSynced (F.view folder.new)) }
+    ensures still { are_names_synced ≡ true → F.honest → AreNamesSynced (F.view folder.new) }
+{
+    folder.sync(slot.file_name())?;
+    if are_names_synced {
+        return Ok(());
+    }
+    folder.sync_names()
+}
+
+impl<F: Folder> FileDisk<F> {
+    // From here on a crash may leave the store without this file, if it isn't there yet.
+    fn expect_file(&mut self, slot: Slot)
+        ensures folder { self.new.folder ≡ self.old.folder }
+        ensures failures { self.new.failures ≡ self.old.failures }
+        ensures there { F.honest → self.new.are_names_synced ≡ true
+            → is_some ((F.view self.new.folder).seen (file_name slot)) ≡ true }
     {
-        if !fs::metadata(&files, folder)?.is_dir() {
-            return Err(ErrorKind::NotADirectory.into());
-        }
-        let slots = SlotFiles {
-            image0: SlotFile::find(alloc, &files, folder, "image0")?,
-            image1: SlotFile::find(alloc, &files, folder, "image1")?,
-            segment0: SlotFile::find(alloc, &files, folder, "segment0")?,
-            segment1: SlotFile::find(alloc, &files, folder, "segment1")?,
-        };
-        Ok(FileDisk {
-            files,
-            folder: String::from_str(alloc, folder)?,
-            slots,
-            is_folder_synced: false,
-            is_sync_lost: false,
-            failures: 0,
-        })
+        let is_there = self.folder.has(slot.file_name());
+        self.are_names_synced = self.are_names_synced && is_there;
     }
 
-    fn open_for_writing(&mut self, slot: Slot) -> io::Result<()>
-        ensures { self.new.failures ≡ self.old.failures }
-    {
-        if self.slots.slot_mut(slot).open_for_writing(&self.files)? {
-            self.is_folder_synced = false;
-        }
-        Ok(())
-    }
-
-    fn try_write(&mut self, slot: Slot, at: u64, bytes: &[u8]) -> io::Result<()>
-        ensures { self.new.failures ≡ self.old.failures }
-    {
-        self.open_for_writing(slot)?;
-        self.slots.slot_mut(slot).write(at, bytes)
-    }
-
-    fn try_cut(&mut self, slot: Slot, len: u64) -> io::Result<()>
-        ensures { self.new.failures ≡ self.old.failures }
-    {
-        self.open_for_writing(slot)?;
-        self.slots.slot_mut(slot).cut(len)
-    }
-
-    fn try_sync(&mut self, slot: Slot) -> io::Result<()>
-        ensures { self.new.failures ≡ self.old.failures }
+    fn try_sync(&mut self, slot: Slot) -> Result<(), FolderFault>
+        ensures synced { F.honest → OnOk result (IsSynced (disk_of (F.view self.new.folder)) slot) }
+        ensures seen { F.honest → (disk_of (F.view self.new.folder)).seen ≡ (disk_of (F.view self.old.folder)).seen }
+        ensures time { F.honest → Passes (disk_of (F.view self.old.folder)) (disk_of (F.view self.new.folder))
+            (MayLeave (disk_of (F.view self.old.folder))) }
+        ensures failures { self.new.failures ≡ self.old.failures }
     {
         if self.is_sync_lost {
-            return Err(ErrorKind::Other.into());
+            return Err(FolderFault);
         }
-        let synced = self.sync_file_and_folder(slot);
-        self.is_sync_lost = synced.is_err();
-        synced
-    }
-
-    fn sync_file_and_folder(&mut self, slot: Slot) -> io::Result<()>
-        ensures { self.new.failures ≡ self.old.failures }
-    {
-        let Some(file) = &self.slots.slot(slot).file else {
+        if !self.folder.has(slot.file_name()) {
             return Ok(());
-        };
-        file.sync_all()?;
-        if !self.is_folder_synced {
-            // Without this, a crash could leave the folder without the file's name.
-            File::open(&self.files, self.folder.as_str())?.sync_all()?;
-            self.is_folder_synced = true;
         }
+        self.is_sync_lost = true;
+        sync_file(&mut self.folder, slot, self.are_names_synced)?;
+        self.is_sync_lost = false;
+        self.are_names_synced = true;
         Ok(())
     }
 }
 
-#[tactic(auto, unfolding(crate::specs::Files::FilesKeepModel))]
-impl<R: Files + Drop> Disk for FileDisk<R> {
-    ghost honest = { FilesKeepModel };
+impl<F: Folder> Disk for FileDisk<F> {
+    ghost use Rattle.std.specs.Prelude.{refl};
+    ghost use Rattle.disk.specs.Folders.{disk_of};
 
-    ghost view = { λ disk. folder_view disk };
+    ghost honest = { F.honest };
+
+    ghost view = { λ disk. disk_of (F.view disk.folder) };
 
     ghost failed_calls = { λ disk. disk.failures };
 
@@ -303,25 +203,27 @@ impl<R: Files + Drop> Disk for FileDisk<R> {
     }
 
     fn length(&self, slot: Slot) -> u64 {
-        self.slots.slot(slot).length
+        self.folder.length(slot.file_name())
     }
 
     fn read(&mut self, slot: Slot, at: u64, buffer: &mut [u8]) -> Result<usize, DiskFault> {
-        match self.slots.slot_mut(slot).read(&self.files, at, buffer) {
+        match self.folder.read(slot.file_name(), at, buffer) {
             Ok(count) => Ok(count),
             Err(_) => Err(count_failure(&mut self.failures)),
         }
     }
 
     fn write_at(&mut self, slot: Slot, at: u64, bytes: &[u8]) -> Result<(), DiskFault> {
-        match self.try_write(slot, at, bytes) {
+        self.expect_file(slot);
+        match write_file(&mut self.folder, slot, at, bytes) {
             Ok(()) => Ok(()),
             Err(_) => Err(count_failure(&mut self.failures)),
         }
     }
 
     fn cut(&mut self, slot: Slot, len: u64) -> Result<(), DiskFault> {
-        match self.try_cut(slot, len) {
+        self.expect_file(slot);
+        match cut_file(&mut self.folder, slot, len) {
             Ok(()) => Ok(()),
             Err(_) => Err(count_failure(&mut self.failures)),
         }
@@ -333,4 +235,6 @@ impl<R: Files + Drop> Disk for FileDisk<R> {
             Err(_) => Err(count_failure(&mut self.failures)),
         }
     }
+
+    ghost lasts = { λ honest disk. ((F.view disk.folder).seen, F.lasts honest disk.folder, refl) };
 }

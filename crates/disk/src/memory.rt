@@ -243,6 +243,7 @@ impl MemDisk {
 }
 
 impl Disk for MemDisk {
+    ghost use Rattle.disk.specs.Lasting.{memory_lasts};
     ghost use Rattle.disk.specs.Memory.{memory_view};
 
     ghost honest = { Unit {0} };
@@ -291,4 +292,6 @@ impl Disk for MemDisk {
             Err(_) => Err(count_failure(&mut self.failures)),
         }
     }
+
+    ghost lasts = { memory_lasts };
 }

@@ -117,4 +117,6 @@ impl Disk for PlainDisk {
     fn sync(&mut self, _slot: Slot) -> Result<(), DiskFault> {
         Ok(())
     }
+
+    ghost lasts = { λ never disk. never };
 }

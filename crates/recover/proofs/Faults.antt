@@ -8,7 +8,7 @@ use Rattle.ipc_model.specs.store.Recovery.{Recovered}
 use Rattle.journal.specs.declared.segment.Segment.{Segment}
 use Rattle.recover.specs.Kept.{IsKept}
 use Rattle.recover.specs.Outcomes.{CountsDevice, OnlyOpeningFaults, OnlyReadingFaults, Opens, ReadsOnly}
-use Rattle.slot_steps.proofs.Moments.{unchanged_then}
+use Rattle.disk.proofs.Moments.{unchanged_then}
 use Rattle.store_fault.specs.declared.fault.StoreFault.{StoreFault}
 use Rattle.store_fault.specs.declared.fault.StoreFault.TheVariants as fault
 use Rattle.store_layout.specs.Standing.{as_written}

@@ -11,7 +11,7 @@ use Rattle.ipc_model.specs.store.Store.{closed_gate}
 use Rattle.ipc_model.specs.encodings.Images.{image_encoding}
 use Rattle.journal.specs.declared.segment.Segment.{Segment}
 use Rattle.slot_steps.specs.Steps.{IsRemade, image_slot, segment_slot}
-use Rattle.slot_steps.proofs.Moments.{passes_as, passes_then}
+use Rattle.disk.proofs.Moments.{passes_as, passes_then}
 use Rattle.store_layout.specs.Standing.{as_written, InOne}
 use Rattle.recover.specs.AtRest.{IsAtRest}
 use Rattle.recover.specs.Kept.{IsKept}

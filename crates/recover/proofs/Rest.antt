@@ -3,7 +3,7 @@ use Rattle.std.proofs.Common.{◌≡◌, inl, inr, ℕ, List, sym, ap, subst, �
 use Rattle.disk.specs.declared.slot.Slot.{Slot}
 use Rattle.disk.specs.Moments.{View, MayLeave, Passes, Follows, IsSynced}
 use Rattle.disk.specs.Slots.{Slots, slot_of, with_slot}
-use Rattle.slot_steps.proofs.Moments.{left_now, left_before, passes_as, with_own, with_twice}
+use Rattle.disk.proofs.Moments.{left_now, left_before, passes_as, with_own, with_twice}
 use Rattle.recover.specs.AtRest.{IsAtRest}
 use Rattle.recover.specs.Making.{DiffersIn}
 

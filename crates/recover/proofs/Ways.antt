@@ -17,7 +17,7 @@ use Rattle.ipc_model.specs.store.Recovery.{Continues, HoldsImage, IsNew, IsOfEpo
 use Rattle.ipc_model.specs.store.Store.{AreRecords, EncodesBatches, EncodesSegment, IsInUse, image_content, open_gate, closed_gate, segment_header}
 use Rattle.ipc_model.specs.encodings.Images.{image_encoding}
 use Rattle.slot_steps.specs.Steps.{IsRemade, image_slot, segment_slot}
-use Rattle.slot_steps.proofs.Moments.{passes_as, passes_then, own_bytes}
+use Rattle.disk.proofs.Moments.{passes_as, passes_then, own_bytes}
 use Rattle.store_layout.specs.Changes.{one_segment_changed, two_finished}
 use Rattle.store_layout.specs.Slots.{alongside_image, by_parity, image_at, one_of_two}
 use Rattle.store_layout.specs.Encoded.{one_encodes, two_encodes}

@@ -16,7 +16,7 @@ use Rattle.system.specs.Passed.{IsReadyBatch, with_more}
 use Rattle.system.specs.Passed.{Keeps}
 use Rattle.system.proofs.Passed.{append_keeps, append_mid, kept_recovered, kept_synced}
 use Rattle.server.specs.Keeping.{IsBeforeOrAfter, IsHeld}
-use Rattle.slot_steps.proofs.Moments.{passes_as}
+use Rattle.disk.proofs.Moments.{passes_as}
 use Rattle.slot_steps.specs.Steps.{segment_slot}
 use Rattle.std.proofs.lemmas.Bool.{cases_lt}
 use Rattle.system.specs.Passed.{IsAppended, PassesAppend}

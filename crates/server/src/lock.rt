@@ -4,7 +4,7 @@ ghost use Rattle.server.specs.Program.{unlocked_end};
 ghost use Rattle.server.specs.Ending as socket;
 
 use crate::{LoneEnd, ServeFault, SocketEnd};
-use disk::FileDisk;
+use disk::{FileDisk, HostFolder};
 use std::alloc::Global;
 use std::fs::{File, TryLockError};
 use std::rt::Files;
@@ -82,7 +82,7 @@ pub fn open_locked<F: Files + Drop + Copy>(
     alloc: Global,
     files: F,
     folder: &str,
-) -> Result<(F::File, Opened<FileDisk<F>>), SocketEnd>
+) -> Result<(F::File, Opened<FileDisk<HostFolder<F>>>), SocketEnd>
 where
     F::File: LockFile,
     ensures unopened { IfErr result (λ end. end ≢ SocketEnd.Socket) }

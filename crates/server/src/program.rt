@@ -4,7 +4,7 @@ ghost use Rattle.server.specs.Program.{EndsAlone, IsRun, ServesOpened, line_of, 
 ghost use Rattle.wire.specs.Writing.{AppendsPart};
 
 use crate::{Alone, LockFile, ServeFault, lock_folder, serve};
-use disk::{Disk, FileDisk};
+use disk::{Disk, FileDisk, HostFolder};
 use std::alloc::Global;
 use std::io::{Read, Write};
 use std::rt::Files;
@@ -101,7 +101,7 @@ where
     // line.
     ensures ended { IfSome (I.remaining input.old) (λ bytes. IfSome (O.contents output.old) (λ before.
         (end : LoneEnd) × (result ≡ status_of end) × AppendsPart (E.contents errors.old) (E.contents errors.new) (line_of end)
-        × EndsAlone ⟦<FileDisk<&'a F> as Disk>⟧.honest ⟦<FileDisk<&'a F> as Disk>⟧.view bytes before
+        × EndsAlone ⟦<FileDisk<HostFolder<&'a F>> as Disk>⟧.honest ⟦<FileDisk<HostFolder<&'a F>> as Disk>⟧.view bytes before
         (I.remaining input.new) (O.contents output.new)
         (option_map (λ encodings. length encodings.now) words.entry) end)) }
 {
@@ -121,7 +121,7 @@ pub fn run_alone<'a, F: Files, I: Read, O: Write>(
 where
     F::File: LockFile,
     ensures ended { IfSome (I.remaining input.old) (λ bytes. IfSome (O.contents output.old) (λ before.
-        EndsAlone ⟦<FileDisk<&'a F> as Disk>⟧.honest ⟦<FileDisk<&'a F> as Disk>⟧.view bytes before (I.remaining input.new) (O.contents output.new) (option_map (λ encodings. length encodings.now) words.entry) result)) }
+        EndsAlone ⟦<FileDisk<HostFolder<&'a F>> as Disk>⟧.honest ⟦<FileDisk<HostFolder<&'a F>> as Disk>⟧.view bytes before (I.remaining input.new) (O.contents output.new) (option_map (λ encodings. length encodings.now) words.entry) result)) }
 {
     let Some([store]) = words else {
         return LoneEnd::CommandLine;
@@ -145,7 +145,7 @@ fn serve_locked<'a, F: Files, I: Read, O: Write>(
     output: &mut O,
 ) -> LoneEnd
     ensures ended { IfSome (I.remaining input.old) (λ bytes. IfSome (O.contents output.old) (λ before.
-        EndsAlone ⟦<FileDisk<&'a F> as Disk>⟧.honest ⟦<FileDisk<&'a F> as Disk>⟧.view bytes before (I.remaining input.new) (O.contents output.new) (Some 1) result)) }
+        EndsAlone ⟦<FileDisk<HostFolder<&'a F>> as Disk>⟧.honest ⟦<FileDisk<HostFolder<&'a F>> as Disk>⟧.view bytes before (I.remaining input.new) (O.contents output.new) (Some 1) result)) }
 {
     match serve_folder(alloc, files, folder, input, output) {
         Ok(()) => LoneEnd::Served,
@@ -162,7 +162,7 @@ fn serve_folder<'a, F: Files, I: Read, O: Write>(
     output: &mut O,
 ) -> Result<(), ServeFault>
     ensures run { IfSome (I.remaining input.old) (λ bytes. IfSome (O.contents output.old) (λ before.
-        IsRun ⟦<FileDisk<&'a F> as Disk>⟧.honest ⟦<FileDisk<&'a F> as Disk>⟧.view bytes before (I.remaining input.new) (O.contents output.new) result)) }
+        IsRun ⟦<FileDisk<HostFolder<&'a F>> as Disk>⟧.honest ⟦<FileDisk<HostFolder<&'a F>> as Disk>⟧.view bytes before (I.remaining input.new) (O.contents output.new) result)) }
 {
     let Ok(disk) = FileDisk::at(alloc, files, folder) else {
         return Err(ServeFault::Store(StoreFault::Device));

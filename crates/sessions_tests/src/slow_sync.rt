@@ -59,6 +59,8 @@ impl<'a, D: Disk, R: Clock> Disk for SlowDisk<'a, D, R> {
         }
         self.disk.sync(slot)
     }
+
+    ghost lasts = { λ honest slow. D.lasts honest slow.disk };
 }
 
 #[derive(Debug, Drop, PartialEq)]

@@ -5,7 +5,7 @@ use Rattle.disk.specs.Moments.{View, MayLeave, Passes, Follows, IsSynced}
 use Rattle.disk.specs.Slots.{Slots, slot_of, with_slot, TornWrite, TornCut}
 use Rattle.ipc_model.specs.store.Store.{IsClosed}
 use Rattle.slot_steps.specs.Steps.{IsShut, IsStillClosed}
-use Rattle.slot_steps.proofs.Moments.{left_now, left_before, passes_then, passes_as, with_own, with_twice}
+use Rattle.disk.proofs.Moments.{left_now, left_before, passes_then, passes_as, with_own, with_twice}
 
 -- what a crash might have left before, if that is a step
 pub follows_self : (slot : Slot) (old : View) (step : List ℕ → List ℕ → Type 0) (c : Slots) → MayLeave old c

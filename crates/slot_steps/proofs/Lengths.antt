@@ -4,7 +4,7 @@ use Rattle.std.proofs.lemmas.List.{append-nil, take_all, drop_all}
 use Rattle.disk.specs.declared.slot.Slot.{Slot}
 use Rattle.disk.specs.Slots.{Slots, slot_of, with_slot, written_at}
 use Rattle.ipc_model.specs.store.Store.{IsClosed}
-use Rattle.slot_steps.proofs.Moments.{own_bytes, with_twice}
+use Rattle.disk.proofs.Moments.{own_bytes, with_twice}
 
 pub written_long : (old bytes : List ℕ) (at : ℕ) → at ≤ length old
     → at + length bytes ≤ length (written_at old at bytes)

@@ -1,4 +1,3 @@
-pub mod Moments
 pub mod Following
 pub mod Gates
 pub mod Lengths

@@ -92,6 +92,7 @@ fn fill(buffer: &mut [u8], bytes: &[u8], at: u64) -> usize
 }
 
 impl Disk for StillDisk {
+    ghost use Rattle.std.specs.Prelude.{refl};
     ghost use Rattle.still_disk.specs.Still.{still_view};
 
     ghost honest = { Unit {0} };
@@ -123,4 +124,6 @@ impl Disk for StillDisk {
     fn sync(&mut self, _slot: Slot) -> Result<(), DiskFault> {
         Ok(())
     }
+
+    ghost lasts = { λ honest disk. refl };
 }

@@ -30,7 +30,7 @@ use Rattle.checkpoint_phases.specs.Phases.{Keeps}
 use Rattle.store_keeper.specs.Faults.{IsWhyNotStored}
 use Rattle.store_keeper.specs.declared.fault.NotStored.TheVariants.{Store}
 use Rattle.store_keeper.specs.Storing.{CanBegin, EndValue, IsEnd, IsLoad, IsNext, IsRecorded, IsStoreKeeper, KeptAt, LoadValue, LosesNothing, StandsFor, StoreKeeperValue}
-use Rattle.slot_steps.proofs.Moments.{left_now, passes_as}
+use Rattle.disk.proofs.Moments.{left_now, passes_as}
 use Rattle.slot_steps.specs.Steps.{segment_slot}
 use Rattle.store_layout.specs.Standing.{as_written}
 use Rattle.store_half.specs.Changes.{IsAppended, PassesAppend}

@@ -1,7 +1,7 @@
 use crate::counted::{CountedFiles, Syncs};
 use crate::expect::{same, same_in_row};
 use crate::store::{Slots, Store, slots_are};
-use disk::{Disk, DiskFault, FileDisk, MemDisk, Slot, Torn};
+use disk::{Disk, DiskFault, FileDisk, HostFolder, MemDisk, Slot, Torn};
 use std::alloc::Global;
 use std::{env, fs};
 
@@ -309,17 +309,17 @@ struct Plain<'a> {
 }
 
 impl<'a> Folder for Plain<'a> {
-    type Files = FileDisk<HostRuntime>;
+    type Files = FileDisk<HostFolder<HostRuntime>>;
 
-    fn files(&self) -> Result<FileDisk<HostRuntime>, DiskFault> {
+    fn files(&self) -> Result<FileDisk<HostFolder<HostRuntime>>, DiskFault> {
         FileDisk::at(self.rt.alloc(), self.rt, self.path)
     }
 }
 
 impl<'a> Folder for CountedFiles<'a> {
-    type Files = FileDisk<CountedFiles<'a>>;
+    type Files = FileDisk<HostFolder<CountedFiles<'a>>>;
 
-    fn files(&self) -> Result<FileDisk<CountedFiles<'a>>, DiskFault> {
+    fn files(&self) -> Result<FileDisk<HostFolder<CountedFiles<'a>>>, DiskFault> {
         let counted = counted_at(self.files, self.folder, self.syncs);
         FileDisk::at(self.files.alloc(), counted, self.folder)
     }

@@ -17,7 +17,7 @@ use Rattle.checkpoint_phases.specs.Batches.{IsReadyBatch, with_more}
 use Rattle.checkpoint_phases.specs.Phases.{Keeps}
 use Rattle.checkpoint_phases.proofs.Appends.{append_keeps, append_mid, kept_synced}
 use Rattle.checkpoint_phases.proofs.Passed.{run_join}
-use Rattle.slot_steps.proofs.Moments.{passes_as}
+use Rattle.disk.proofs.Moments.{passes_as}
 use Rattle.slot_steps.specs.Steps.{segment_slot}
 use Rattle.store_half.specs.Values.{CheckpointValue, StoreValue}
 use Rattle.system.specs.Changes.{CannotAppend, FailsToStore, FindsFull, Stores}

@@ -17,7 +17,7 @@ use Rattle.checkpoint_phases.specs.Phases.{Keeps}
 use Rattle.checkpoint_phases.proofs.Appends.{begin_keeps}
 use Rattle.checkpoint_phases.proofs.Images.{finish_fails, finish_keeps, finish_passes, image_close_fails, image_close_keeps, image_close_passes, piece_fails, piece_keeps, piece_passes}
 use Rattle.checkpoint_phases.proofs.Rolls.{roll_close_fails, roll_close_keeps, roll_close_passes, roll_head_fails, roll_head_keeps, roll_head_passes, roll_open_fails, roll_open_keeps, roll_open_passes}
-use Rattle.slot_steps.proofs.Moments.{passes_as}
+use Rattle.disk.proofs.Moments.{passes_as}
 use Rattle.store_layout.specs.Standing.{as_written}
 use Rattle.store_half.specs.Changes.{CanFinish, CanOpen, ClosesImage, FailsToCloseImage, FailsToFinish, FailsToRollClose, FailsToRollHead, FailsToRollOpen, FailsToWritePiece, HasImaged, HasPieceLeft, IsNotNow, IsRolled, RollsClose, RollsHead, RollsOpen, WritesPiece}
 use Rattle.store_half.specs.Values.{CheckpointValue, CutValue, StoreValue, begun}

@@ -17,7 +17,7 @@ use Rattle.ipc_model.specs.world.World as world
 use Rattle.ipc_model.specs.world.World.{World, Ticket, After, after_durable, after_submit, after_take, greatest_seen, of_append, of_finish, record_of, acknowledged, with_answered}
 use Rattle.journal.specs.Batch.{BatchValue, Holds, empty_batch}
 use Rattle.checkpoint_phases.proofs.Appends.{kept_recovered}
-use Rattle.slot_steps.proofs.Moments.{left_now, passes_as}
+use Rattle.disk.proofs.Moments.{left_now, passes_as}
 use Rattle.store_layout.specs.Standing.{as_written}
 use Rattle.store_half.specs.Values.{CheckpointValue}
 use Rattle.system.specs.Changes.{Answers, HandsFinished, HandsReceipt, HandsIn, IsFullNow, IsNotDue, Submits, Takes}

@@ -5,7 +5,7 @@ use Rattle.ipc_model.specs.store.Store.{closed_gate, epoch_encoding, open_gate}
 use Rattle.recover.specs.Making.{empty_segment}
 use Rattle.slot_steps.proofs.Following.{synced_shut}
 use Rattle.slot_steps.proofs.Gates.{after_first, opening_then, remade_then}
-use Rattle.slot_steps.proofs.Moments.{own_bytes, with_twice}
+use Rattle.disk.proofs.Moments.{own_bytes, with_twice}
 use Rattle.slot_steps.specs.Steps.{segment_slot}
 use Rattle.std.proofs.lemmas.Result.{err_from_is_err_and}
 use Rattle.recover.proofs.Faults.{none_at_error}

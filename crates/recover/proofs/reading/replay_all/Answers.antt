@@ -6,7 +6,7 @@ use Rattle.journal.specs.Readers.{place_of}
 use Rattle.journal.specs.Reading.{Place, Leads, IsLast, IsNothing}
 use Rattle.journal.specs.Windows.{IsOver}
 use Rattle.recover.specs.Replayed.{Replays}
-use Rattle.slot_steps.proofs.Moments.{unchanged_then}
+use Rattle.disk.proofs.Moments.{unchanged_then}
 use Rattle.recover.proofs.Streams.{IsLeft, all_replayed, left_on, none_left, unread}
 use Rattle.recover.proofs.Surveys.{some_is}
 use Rattle.recover.proofs.Faults.{counts_ok, counts_other, counts_read, none_in_error}

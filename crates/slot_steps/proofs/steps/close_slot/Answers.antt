@@ -3,7 +3,7 @@ use Rattle.disk.specs.Slots.{Slots, slot_of}
 use Rattle.ipc_model.specs.store.Store.{open_gate}
 use Rattle.slot_steps.proofs.Following.{follows_as, still_then}
 use Rattle.slot_steps.proofs.Gates.{gate_closing}
-use Rattle.slot_steps.proofs.Moments.{synced_kept}
+use Rattle.disk.proofs.Moments.{synced_kept}
 use Rattle.slot_steps.specs.Steps.{HasSomeGate, IsClosing}
 use Rattle.slot_steps.proofs.steps.close_slot.Goals as goal
 

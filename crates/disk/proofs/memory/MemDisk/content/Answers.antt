@@ -1,5 +1,5 @@
 use Rattle.disk.specs.Log.{slots_of}
-use Rattle.disk.proofs.Crashes.{seen_may_be_left}
+use Rattle.disk.specs.Lasting.{seen_may_be_left}
 use Rattle.disk.proofs.memory.MemDisk.content.Goals as goal
 
 pub returns-clause-may_be_left : goal.returns-clause-may_be_left

@@ -1,5 +1,5 @@
 use Rattle.std.proofs.Common.{◌≤◌, length}
-use Rattle.disk.proofs.file.read_full.Given as goal
+use Rattle.disk.proofs.host.read_full.Given as goal
 
 abbrev pub invariant-loop : goal.invariant-loop
 invariant-loop g l = l.filled ≤ length l.buffer

@@ -6,7 +6,7 @@ use Rattle.disk.specs.declared.slot.Slot.TheVariants.{Image0, Image1, Segment0, 
 use Rattle.disk.specs.Moments.{View, MayLeave, Passes, IsSynced}
 use Rattle.disk.specs.Slots.{Slots, slot_of, with_slot}
 
-later_or_now : (m n : ℕ) → m ≤ n → (m < n) ⊎ (n ≡ m)
+pub later_or_now : (m n : ℕ) → m ≤ n → (m < n) ⊎ (n ≡ m)
 later_or_now m n le = elim (cases_lt m n) [ inl later ↦ inl later | inr now ↦ inr (omega arith) ]
 
 -- what a crash may leave now it might have left before, or that came about since
