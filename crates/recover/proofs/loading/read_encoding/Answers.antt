@@ -6,7 +6,7 @@ use Rattle.disk.specs.Slots.{Slots, slot_of}
 use Rattle.recover.specs.Loaded.{HoldsEncoding}
 use Rattle.recover.proofs.Faults.{counts_device, counts_memory, counts_ok, counts_same}
 use Rattle.recover.proofs.Texts.{filled, read_length, encoding_read}
-use Rattle.slot_steps.proofs.Moments.{unchanged_then}
+use Rattle.disk.proofs.Moments.{unchanged_then}
 use Rattle.recover.proofs.loading.read_encoding.Goals as goal
 
 pub returns-clause-encoding : goal.returns-clause-encoding
