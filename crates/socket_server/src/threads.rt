@@ -3,9 +3,8 @@
 use crate::watch::Watch;
 use codes::CHECKPOINT_RECORDS;
 use disk::Disk;
-use frame_service::serve_asked;
-use sessions::{Founding, OpenGate, Seat, Shared};
-use socket_session::{Connected, SocketPeer};
+use sessions::{Founding, OpenGate, Shared};
+use socket_session::{Connection, ConnectionEnd, SocketPeer, serve_connection};
 use std::alloc::{AllocGlobal, Global};
 use std::io::{self, BufReader, BufWriter};
 use std::net::{Net, Shutdown, TcpListener, TcpStream};
@@ -65,7 +64,21 @@ fn begin<
     });
 }
 
-/// Serves a connection to its end.
+/// A connection that was accepted, and who watches its other side.
+struct Accepted<'a> {
+    stream: &'a UnixStream,
+    watch: &'a Watch,
+}
+
+impl<'a> Connection for Accepted<'a> {
+    type Peer = SocketPeer<'a>;
+
+    fn peer(&self, session: u32) -> SocketPeer<'a> {
+        SocketPeer::new(self.stream, self.watch.add(self.stream, session))
+    }
+}
+
+/// Serves a connection to its end. It has no part in what is called or written: that is `serve_connection`'s.
 fn serve_stream<L: Founding, D: Disk, R: Wait + Clock + AllocGlobal>(
     rt: &R,
     stream: &UnixStream,
@@ -75,17 +88,12 @@ fn serve_stream<L: Founding, D: Disk, R: Wait + Clock + AllocGlobal>(
     stream.set_write_timeout(Some(Duration::from_secs(PATIENCE_SECONDS)))?;
     let mut reader = BufReader::with_capacity(rt.alloc(), READ_BYTES, stream)?;
     let mut writer = BufWriter::new(rt.alloc(), stream)?;
-    let Ok(session) = shared.session(rt) else {
-        return Ok(());
-    };
-    let peer = SocketPeer::new(stream, watch.add(stream, session.number()));
-    let seat = Seat::new(rt.alloc(), peer)?;
-    let mut asker = Connected::new(rt, shared, seat, session);
-    if serve_asked(rt.alloc(), &mut reader, &mut writer, &mut asker).is_err() {
+    let accepted = Accepted { stream, watch };
+    match serve_connection(rt, shared, &accepted, &mut reader, &mut writer) {
         // What the writer still holds then fails at once when it is dropped, and isn't waited for.
-        return stream.shutdown(Shutdown::Both);
+        ConnectionEnd::Fault(_) => stream.shutdown(Shutdown::Both),
+        _ => Ok(()),
     }
-    Ok(())
 }
 
 /// Starts the loops that store and make images. Returns whether both run.

@@ -4,6 +4,8 @@
 
 mod connected;
 mod patience;
+mod serving;
 
 pub use connected::Connected;
 pub use patience::{Patience, SocketPeer};
+pub use serving::{Connection, ConnectionEnd, serve_connection};

@@ -1,0 +1,33 @@
+-- A connection served as one session: which calls it makes, and what it writes.
+use Rattle.std.specs.Prelude.{◌≡◌, ℕ, List, [], Option, Some, Result, Ok, Err}
+use Rattle.codes.specs.declared.name.TheConstants.{FIRST_SPACE}
+use Rattle.frame_service.specs.Asking.{EndsAsked}
+use Rattle.frame_service.specs.declared.service.ServeFault.{ServeFault}
+use Rattle.ipc_model.specs.state.State.{State}
+use Rattle.kernel_keeper.specs.Tokens.{SessionValue}
+use Rattle.socket_session.specs.Connecting.{AcknowledgesOne, LacksOne, MakesOne}
+use Rattle.socket_session.specs.declared.serving.ConnectionEnd.{ConnectionEnd}
+use Rattle.socket_session.specs.declared.serving.ConnectionEnd.TheVariants.{Refused, Served, Fault}
+use Rattle.system.specs.Halves.{TicketValue}
+
+-- a session that has made no call
+pub record IsNewSession (session : SessionValue) : Type 0 where
+  pub space : session.task.space ≡ FIRST_SPACE
+  pub acknowledged : session.task.acknowledged ≡ 0
+  pub tickets : session.task.tickets ≡ []
+  pub places : session.task.places ≡ []
+
+module _ (base : State) (input before : List ℕ) (left written : Option (List ℕ)) where
+  -- All calls of one new session are those of the frames that were read, and all that was written are their replies.
+  pub record ServesNew (result : Result (Unit {0}) ServeFault) : Type 0 where
+    pub session : SessionValue
+    pub last : Option SessionValue
+    pub new : IsNewSession session
+    pub ends : EndsAsked (λ (ticket : TicketValue). ticket.answer) (MakesOne base) (LacksOne base)
+        (AcknowledgesOne base) (λ old ticket fault after. after ≡ old) (Some session) [] last input before left written
+        result
+
+  abbrev pub EndsConnection : ConnectionEnd → Type 0
+  EndsConnection Refused = (left ≡ Some input) × (written ≡ Some before)
+  EndsConnection Served = ServesNew (Ok tt)
+  EndsConnection (Fault fault) = ServesNew (Err fault)
