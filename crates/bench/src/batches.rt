@@ -25,7 +25,7 @@ const TURNS: u32 = 14;
 struct Kind {
     steps: Vec<CostStep>,
     before: Vec<CostStep>,
-    behind: Vec<CostStep>,
+    beyond: Vec<CostStep>,
 }
 
 /// Names are allocated in two spaces, since one has at most 4,096; they go with their space.
@@ -77,12 +77,12 @@ fn kind_of(
     alloc: Global,
     calls: &[Line<'_>],
     before: &[Line<'_>],
-    behind: &[Line<'_>],
+    beyond: &[Line<'_>],
 ) -> Result<Kind, Fault> {
     Ok(Kind {
         steps: steps_of(alloc, calls)?,
         before: steps_of(alloc, before)?,
-        behind: steps_of(alloc, behind)?,
+        beyond: steps_of(alloc, beyond)?,
     })
 }
 
@@ -103,8 +103,8 @@ fn submit_all<C: CostCore>(core: &mut C, steps: &[CostStep], count: u64) -> Resu
 
 /// Asks for `count` replies up to a ticket's, each of which has to be of a call that was done.
 fn answer_all<C: CostCore>(core: &mut C, last: u64, count: u64) -> Result<(), Fault> {
-    let behind = last.saturating_add(1);
-    for ticket in behind.saturating_sub(count)..behind {
+    let beyond = last.saturating_add(1);
+    for ticket in beyond.saturating_sub(count)..beyond {
         if !core.answer(ticket, true) {
             return Err(Fault::Call);
         }
@@ -178,7 +178,7 @@ fn time_turn<C: CostCore + Maker>(
     let (whole, stored) = time_batches(context, core, &kind.steps, size)?;
     let written = plain.time(context, bytes, size.1)?;
     let pairs = plain.time(context, PAIR, size.1)?;
-    make_steps(core, &kind.behind)?;
+    make_steps(core, &kind.beyond)?;
     let instead = time_instead(context, core, &kind.steps, size, plain, bytes)?;
     Ok(Times {
         whole: whole.min(least.whole),
@@ -191,7 +191,7 @@ fn time_turn<C: CostCore + Maker>(
 
 /// Removes what a turn made, and its records, of which a journal holds at most 65,536.
 fn end_turn<C: CostCore + Maker>(core: &mut C, kind: &Kind) -> Result<(), Fault> {
-    make_steps(core, &kind.behind)?;
+    make_steps(core, &kind.beyond)?;
     make_checkpoint(core)
 }
 
@@ -224,7 +224,7 @@ fn bytes_of<C: CostCore + Maker>(
     let before = watch.bytes();
     time_batch(context, core, &kind.steps, count)?;
     let bytes = watch.bytes().saturating_sub(before);
-    make_steps(core, &kind.behind)?;
+    make_steps(core, &kind.beyond)?;
     Ok(bytes)
 }
 

@@ -31,10 +31,10 @@ fn read_line(alloc: Global, line: &str) -> Result<Call, Fault> {
 
 /// The call of a line, with this number for its `#`.
 pub(crate) fn call_of(alloc: Global, line: &str, number: u32) -> Result<Call, Fault> {
-    let Some((front, behind)) = line.split_once('#') else {
+    let Some((front, beyond)) = line.split_once('#') else {
         return read_line(alloc, line);
     };
-    match format!(in alloc; "{front}{number}{behind}") {
+    match format!(in alloc; "{front}{number}{beyond}") {
         Ok(encoding) => read_line(alloc, encoding.as_str()),
         Err(_) => Err(Fault::Memory),
     }

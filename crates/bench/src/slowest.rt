@@ -227,7 +227,7 @@ fn print_state<F: Folder>(
 /// Prints the slowest calls of each state.
 pub(crate) fn print_slowest<F: Folder>(context: &Context<'_>, folder: &F) -> Result<(), Fault> {
     context.print_row(
-        "microseconds on files: calls, the longest, the mean; rests behind replies, the longest, the mean",
+        "microseconds on files: calls, the longest, the mean; rests beyond replies, the longest, the mean",
         &[],
         &[],
     );

@@ -84,7 +84,7 @@ fn are_done(replies: &[u8], count: u64) -> bool {
     let mut rest = replies;
     for _ in 0..count {
         match after_done(rest) {
-            Some(behind) => rest = behind,
+            Some(beyond) => rest = beyond,
             None => return false,
         }
     }

@@ -51,9 +51,9 @@ not_one content arguments c is other encoding =
     other (same_word (number_of_call c) MACH_MSG (arguments_encoding c) arguments (number-fits c) (omega arith)
     (sym encoding ∙ is))
 
-behind : (arguments others : List ℕ) (q : Request) → word MACH_MSG ++ arguments ≡ word MACH_MSG ++ others
+beyond : (arguments others : List ℕ) (q : Request) → word MACH_MSG ++ arguments ≡ word MACH_MSG ++ others
     → AsksMachMsg others q → AsksMachMsg arguments q
-behind arguments others q same asks =
+beyond arguments others q same asks =
     let e : others ≡ arguments = ap (λ (l : List ℕ). drop 4 l) (sym same) in subst
     (λ (l : List ℕ). AsksMachMsg l q) e asks
 
@@ -64,6 +64,6 @@ pub asks_after : (content arguments : List ℕ) (r : Result Request CallFault) �
 asks_after content arguments r is only (request.One c) (other, fits, encoding) =
     absurd (not_one content arguments c is other encoding)
 asks_after content arguments r is only (request.Message m) (others, encoding, asks) =
-    only (request.Message m) (behind arguments others (request.Message m) (sym is ∙ encoding) asks)
+    only (request.Message m) (beyond arguments others (request.Message m) (sym is ∙ encoding) asks)
 asks_after content arguments r is only (request.Answered code) (others, encoding, asks) =
-    only (request.Answered code) (behind arguments others (request.Answered code) (sym is ∙ encoding) asks)
+    only (request.Answered code) (beyond arguments others (request.Answered code) (sym is ∙ encoding) asks)

@@ -4,7 +4,7 @@ use Rattle.std.specs.declared.alloc.AllocError.{AllocError}
 use Rattle.ipc_model.specs.declared.call.Call.{Call}
 use Rattle.ipc_model.specs.encodings.Encodings.{call_encoding}
 
-pub encoded : (result : Result (Unit {0}) AllocError) (call told : Call) (old new : List ℕ) → call ≡ told
-    → OnOk result (new ≡ old ++ call_encoding told) → OnOk result (new ≡ old ++ call_encoding call)
-encoded result call told old new is holds =
+pub encoded : (result : Result (Unit {0}) AllocError) (call other : Call) (old new : List ℕ) → call ≡ other
+    → OnOk result (new ≡ old ++ call_encoding other) → OnOk result (new ≡ old ++ call_encoding call)
+encoded result call other old new is holds =
     subst (λ (c : Call). OnOk result (new ≡ old ++ call_encoding c)) (sym is) holds

@@ -32,8 +32,8 @@ other_bytes xs ys differ is some same =
     ((slice_eq-Decides Decides-eqb xs ys (pointwise eqb xs ys) refl).1 same)
 
 -- what follows bytes is bytes
-pub bytes_after : (bytes behind : List ℕ) (n : ℕ) → AreBytes bytes → drop n bytes ≡ behind → AreBytes behind
-bytes_after bytes behind n are is i =
+pub bytes_after : (bytes beyond : List ℕ) (n : ℕ) → AreBytes bytes → drop n bytes ≡ beyond → AreBytes beyond
+bytes_after bytes beyond n are is i =
     subst (λ (l : List ℕ). slice_index l i < 256) is
     (subst (λ (k : ℕ). k < 256) (sym (at_drop n bytes i)) (are (n + i)))
 

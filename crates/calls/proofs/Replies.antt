@@ -163,7 +163,8 @@ pub one_names : (a b : List NamedType) → FitsReply (reply.Names a) → FitsRep
     → word (length a) ++ names_encoding a ≡ word (length b) ++ names_encoding b → a ≡ b
 unfolding reply_encoding
 one_names a b fits fits_too is =
-    ap names_in (reply_encoding_once call.SpaceDestroy call.SpaceDestroy (reply.Names a) (reply.Names b) fits fits_too refl refl
+    ap names_in (reply_encoding_once call.SpaceDestroy call.SpaceDestroy (reply.Names a)
+    (reply.Names b) fits fits_too refl refl
     (ap (λ (l : List ℕ). done_encoding MACH_PORT_NAMES l) is))
 
 abbrev members_in : Reply → List ℕ
@@ -174,7 +175,8 @@ pub one_members : (a b : List ℕ) → FitsReply (reply.SetStatus a) → FitsRep
     → word (length a) ++ flat_map word a ≡ word (length b) ++ flat_map word b → a ≡ b
 unfolding reply_encoding
 one_members a b fits fits_too is =
-    ap members_in (reply_encoding_once call.SpaceDestroy call.SpaceDestroy (reply.SetStatus a) (reply.SetStatus b) fits fits_too
+    ap members_in (reply_encoding_once call.SpaceDestroy call.SpaceDestroy (reply.SetStatus a)
+    (reply.SetStatus b) fits fits_too
     refl refl (ap (λ (l : List ℕ). done_encoding MACH_PORT_GET_SET_STATUS l) is))
 
 -- what was read with what is left isn't a whole row
@@ -223,31 +225,33 @@ counted_members results rows count members all front fits row fits_too is =
 
 pub row_after : (results rows all : List ℕ) (count n : ℕ) → results ≡ word count ++ rows → count < 2 ^ 32 → n < 2 ^ 32
     → results ≡ word n ++ all → rows ≡ all
-row_after results rows all count n front fits fits_too is = (word_once count n rows all fits fits_too (sym front ∙ is)).1
+row_after results rows all count n front fits fits_too is =
+    (word_once count n rows all fits fits_too (sym front ∙ is)).1
 
 -- the results of a call that asks for names, and of one that asks for members
-pub names_told : (results : List ℕ) (answer : Reply) → HasResults MACH_PORT_NAMES results answer → 0 < length results
+pub names_reported : (results : List ℕ) (answer : Reply) → HasResults MACH_PORT_NAMES results answer
+    → 0 < length results
     → (names : List NamedType) × (answer ≡ reply.Names names) × FitsReply (reply.Names names)
     × (results ≡ word (length names) ++ names_encoding names)
 unfolding reply_encoding
-names_told results (reply.Names names) has some =
+names_reported results (reply.Names names) has some =
     (names, refl, has.fits, ap (λ (l : List ℕ). drop 8 l) has.text)
-names_told results (reply.Refused n code) has some = absurd (cc has.done)
-names_told results (reply.Message code size member message) has some = absurd (cc has.done)
-names_told results (reply.Done n) has some = absurd (omega (arith, some, ap length has.text))
-names_told results r has some = absurd (omega (arith, has.of_call))
+names_reported results (reply.Refused n code) has some = absurd (cc has.done)
+names_reported results (reply.Message code size member message) has some = absurd (cc has.done)
+names_reported results (reply.Done n) has some = absurd (omega (arith, some, ap length has.text))
+names_reported results r has some = absurd (omega (arith, has.of_call))
 
-pub members_told : (results : List ℕ) (answer : Reply) → HasResults MACH_PORT_GET_SET_STATUS results answer
+pub members_reported : (results : List ℕ) (answer : Reply) → HasResults MACH_PORT_GET_SET_STATUS results answer
     → 0 < length results
     → (members : List ℕ) × (answer ≡ reply.SetStatus members) × FitsReply (reply.SetStatus members)
     × (results ≡ word (length members) ++ flat_map word members)
 unfolding reply_encoding
-members_told results (reply.SetStatus members) has some =
+members_reported results (reply.SetStatus members) has some =
     (members, refl, has.fits, ap (λ (l : List ℕ). drop 8 l) has.text)
-members_told results (reply.Refused n code) has some = absurd (cc has.done)
-members_told results (reply.Message code size member message) has some = absurd (cc has.done)
-members_told results (reply.Done n) has some = absurd (omega (arith, some, ap length has.text))
-members_told results r has some = absurd (omega (arith, has.of_call))
+members_reported results (reply.Refused n code) has some = absurd (cc has.done)
+members_reported results (reply.Message code size member message) has some = absurd (cc has.done)
+members_reported results (reply.Done n) has some = absurd (omega (arith, some, ap length has.text))
+members_reported results r has some = absurd (omega (arith, has.of_call))
 
 -- what a reader that found nothing says at its exit
 pub at_none : {X P : Type 0} (r : Option X) → P → IfNone r P
@@ -300,75 +304,84 @@ success_code : (code : KernReturn) → 0 ≡ number_of code → code ≡ kern.Su
 success_code code is = sym (one_code kern.Success code is)
 
 -- a call other than mach_msg with the code 0 was done
-pub done_told : (number : ℕ) (results : List ℕ) (answer : Reply) → number < 2 ^ 32 → number ≢ MACH_MSG
+pub done_reported : (number : ℕ) (results : List ℕ) (answer : Reply) → number < 2 ^ 32 → number ≢ MACH_MSG
     → Answers number (done_encoding number results) answer → HasResults number results answer
-done_told number results (reply.Refused n code) fits other is =
+done_reported number results (reply.Refused n code) fits other is =
     let parts = parts_of number number 0 results (reply.Refused n code) fits (omega arith) fits is in
     absurd (is.well_formed.1 (success_code code parts.1))
-done_told number results (reply.Message code size member message) fits other is = absurd (other (sym is.of_call))
-done_told number results r fits other is =
+done_reported number results (reply.Message code size member message) fits other is = absurd (other (sym is.of_call))
+done_reported number results r fits other is =
     record { text = is.text; fits = is.fits; of_call = is.of_call; done = refl }
 
 -- one with another code was refused
-pub refusal_told : (number : ℕ) (code : KernReturn) (results : List ℕ) (answer : Reply) → number < 2 ^ 32
+pub refusal_reported : (number : ℕ) (code : KernReturn) (results : List ℕ) (answer : Reply) → number < 2 ^ 32
     → number ≢ MACH_MSG → code ≢ kern.Success
     → Answers number (word number ++ (word (number_of code) ++ results)) answer
     → (answer ≡ reply.Refused number code) × (results ≡ [])
 unfolding reply_encoding
-refusal_told number code results (reply.Refused n k) fits other some is =
+refusal_reported number code results (reply.Refused n k) fits other some is =
     let parts = parts_of number number (number_of code) results (reply.Refused n k) fits (code-fits code) fits is in
     let same : k ≡ code = one_code k code (sym parts.1) in (
       ap (λ (m : ℕ). reply.Refused m k) is.of_call ∙ ap (λ (c : KernReturn). reply.Refused number c) same,
       parts.2,
     )
-refusal_told number code results (reply.Message k size member message) fits other some is = absurd (other (sym is.of_call))
-refusal_told number code results r fits other some is =
+refusal_reported number code results (reply.Message k size member message) fits other some is =
+    absurd (other (sym is.of_call))
+refusal_reported number code results r fits other some is =
     let parts = parts_of number number (number_of code) results r fits (code-fits code) fits is in
     absurd (some (success_code code (sym parts.1)))
 
 -- the reply of mach_msg is its message
-pub message_told : (code : KernReturn) (results : List ℕ) (answer : Reply)
+pub message_reported : (code : KernReturn) (results : List ℕ) (answer : Reply)
     → Answers MACH_MSG (word MACH_MSG ++ (word (number_of code) ++ results)) answer
     → (size : ℕ) × (member : ℕ) × (message : List ℕ) × (size < 2 ^ 32) × (member < 2 ^ 32)
     × (answer ≡ reply.Message code size member message) × (results ≡ word size ++ (word member ++ message))
 unfolding reply_encoding
-message_told code results (reply.Message k size member message) is =
+message_reported code results (reply.Message k size member message) is =
     let parts =
-    parts_of MACH_MSG MACH_MSG (number_of code) results (reply.Message k size member message) (omega arith) (code-fits code)
+    parts_of MACH_MSG MACH_MSG (number_of code) results (reply.Message k size member message) (omega arith)
+    (code-fits code)
     (omega arith) is in
-    let same : k ≡ code = one_code k code (sym parts.1) in
-    (size, member, message, is.fits.0, is.fits.1, ap (λ (c : KernReturn). reply.Message c size member message) same, parts.2)
-message_told code results (reply.Refused n k) is = absurd (is.well_formed.0 is.of_call)
-message_told code results (reply.Done n) is =
+    let same : k ≡ code = one_code k code (sym parts.1) in (
+      size,
+      member,
+      message,
+      is.fits.0,
+      is.fits.1,
+      ap (λ (c : KernReturn). reply.Message c size member message) same,
+      parts.2,
+    )
+message_reported code results (reply.Refused n k) is = absurd (is.well_formed.0 is.of_call)
+message_reported code results (reply.Done n) is =
     absurd (cc (subst (λ (k : ℕ). IsTrue (not (has_results k))) is.of_call is.well_formed))
-message_told code results r is = absurd (omega (arith, is.of_call))
+message_reported code results r is = absurd (omega (arith, is.of_call))
 
 pub one_message : (code : KernReturn) (results message : List ℕ) (size member : ℕ) (answer : Reply)
     → results ≡ word size ++ (word member ++ message) → size < 2 ^ 32 → member < 2 ^ 32
     → Answers MACH_MSG (word MACH_MSG ++ (word (number_of code) ++ results)) answer
     → Some (reply.Message code size member message) ≡ Some answer
 one_message code results message size member answer mine fits fits_too is =
-    let told = message_told code results answer is in
+    let other = message_reported code results answer is in
     let size_is =
-    word_once size told.0 (word member ++ message) (word told.1 ++ told.2) fits told.3 (sym mine ∙ told.6) in
-    let member_is = word_once member told.1 message told.2 fits_too told.4 size_is.1 in
-    let same : reply.Message code size member message ≡ reply.Message code told.0 told.1 told.2 =
+    word_once size other.0 (word member ++ message) (word other.1 ++ other.2) fits other.3 (sym mine ∙ other.6) in
+    let member_is = word_once member other.1 message other.2 fits_too other.4 size_is.1 in
+    let same : reply.Message code size member message ≡ reply.Message code other.0 other.1 other.2 =
     λ i. reply.Message code (size_is.0 i) (member_is.0 i) (member_is.1 i) in
-    ap (λ (r : Reply). Some r) (same ∙ sym told.5)
+    ap (λ (r : Reply). Some r) (same ∙ sym other.5)
 
 pub long_message : (code : KernReturn) (results : List ℕ) (answer : Reply)
     → Answers MACH_MSG (word MACH_MSG ++ (word (number_of code) ++ results)) answer → 8 ≤ length results
 long_message code results answer is =
-    let told = message_told code results answer is in omega (arith, ap length told.6)
+    let other = message_reported code results answer is in omega (arith, ap length other.6)
 
 -- what stands in front of a reply
 pub long_reply_to : (n : ℕ) (content : List ℕ) (answer : Reply) → Answers n content answer → 8 ≤ length content
 long_reply_to n content answer is =
     omega (arith, ap length is.text, ap length (in_parts answer))
 
-pub number_told : (n number code : ℕ) (results : List ℕ) (answer : Reply) → number < 2 ^ 32 → code < 2 ^ 32
+pub stated_number : (n number code : ℕ) (results : List ℕ) (answer : Reply) → number < 2 ^ 32 → code < 2 ^ 32
     → n < 2 ^ 32 → Answers n (word number ++ (word code ++ results)) answer → number ≡ n
-number_told n number code results answer number_fits code_fits fits is =
+stated_number n number code results answer number_fits code_fits fits is =
     (parts_of n number code results answer number_fits code_fits fits is).0
 
 code_of : (r : Reply) → (code : KernReturn) × (number_of code ≡ code_in r)
@@ -376,10 +389,10 @@ code_of (reply.Refused number code) = (code, refl)
 code_of (reply.Message code size member message) = (code, refl)
 code_of r = (kern.Success, refl)
 
-pub code_told : (n number code : ℕ) (results : List ℕ) (answer : Reply) → number < 2 ^ 32 → code < 2 ^ 32
+pub code_reported : (n number code : ℕ) (results : List ℕ) (answer : Reply) → number < 2 ^ 32 → code < 2 ^ 32
     → n < 2 ^ 32 → Answers n (word number ++ (word code ++ results)) answer
     → (known : KernReturn) × (number_of known ≡ code)
-code_told n number code results answer number_fits code_fits fits is =
+code_reported n number code results answer number_fits code_fits fits is =
     let parts = parts_of n number code results answer number_fits code_fits fits is in
     let known = code_of answer in
     (known.0, known.1 ∙ sym parts.1)

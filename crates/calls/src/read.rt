@@ -47,11 +47,11 @@ fn read_receive(large: bool, words: &[u8]) -> Option<Call>
 
 /// What stands after three numbers that are 0.
 fn after_zeros(bytes: &[u8]) -> Option<&[u8]>
-    ensures found { IfSome result (λ behind. bytes.now ≡ word 0 ++ (word 0 ++ (word 0 ++ behind.now))) }
-    ensures none { IfNone result ((behind : List ℕ) → bytes.now ≡ word 0 ++ (word 0 ++ (word 0 ++ behind)) → ⊥) }
+    ensures found { IfSome result (λ beyond. bytes.now ≡ word 0 ++ (word 0 ++ (word 0 ++ beyond.now))) }
+    ensures none { IfNone result ((beyond : List ℕ) → bytes.now ≡ word 0 ++ (word 0 ++ (word 0 ++ beyond)) → ⊥) }
 {
     match bytes {
-        [0, 0, 0, 0, 0, 0, 0, 0, 0, 0, 0, 0, behind @ ..] => Some(behind),
+        [0, 0, 0, 0, 0, 0, 0, 0, 0, 0, 0, 0, beyond @ ..] => Some(beyond),
         _ => None,
     }
 }

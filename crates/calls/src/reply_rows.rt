@@ -26,13 +26,14 @@ pub(crate) fn read_names(alloc: Global, bytes: &[u8]) -> Result<Option<Vec<Named
     ensures found { IfOk result (λ found. IfSome found (λ names. bytes.now ≡ names_encoding names.items)) }
     ensures fits { IfOk result (λ found. IfSome found
         (λ names. All (λ (n : NamedType). (n.name < 2 ^ 32) × (n.bits < 2 ^ 32)) names.items)) }
-    ensures none { IfOk result (λ found. IfNone found ((names : List NamedType) → bytes.now ≡ names_encoding names → ⊥)) }
+    ensures none { IfOk result (λ found. IfNone found ((names : List NamedType) → bytes.now ≡ names_encoding names
+        → ⊥)) }
 {
     let mut names = Vec::new(alloc);
     let mut rest = bytes;
-    while let Some((named, behind)) = take_named(rest) {
+    while let Some((named, beyond)) = take_named(rest) {
         names.push(named)?;
-        rest = behind;
+        rest = beyond;
     }
     if rest.is_empty() {
         return Ok(Some(names));
@@ -48,9 +49,9 @@ pub(crate) fn read_members(alloc: Global, bytes: &[u8]) -> Result<Option<Vec<u32
 {
     let mut members = Vec::new(alloc);
     let mut rest = bytes;
-    while let Some((name, behind)) = take_word(rest) {
+    while let Some((name, beyond)) = take_word(rest) {
         members.push(name)?;
-        rest = behind;
+        rest = beyond;
     }
     if rest.is_empty() {
         return Ok(Some(members));

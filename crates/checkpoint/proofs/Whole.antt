@@ -51,8 +51,8 @@ pub gate_written : (slot : Slot) (old mid new : Slots) (epoch : ℕ) (encoding b
     → mid ≡ with_slot old slot bytes → drop 1 (slot_of mid slot) ≡ image_content epoch encoding
     → new ≡ with_slot mid slot (open_gate ∷ drop 1 (slot_of mid slot))
     → new ≡ with_slot old slot (open_image epoch encoding)
-gate_written slot old mid new epoch encoding bytes before behind is =
-    is ∙ (λ i. with_slot (before i) slot (open_gate ∷ behind i))
+gate_written slot old mid new epoch encoding bytes before beyond is =
+    is ∙ (λ i. with_slot (before i) slot (open_gate ∷ beyond i))
     ∙ with_twice slot old bytes (open_gate ∷ image_content epoch encoding)
 
 -- more of the encoding was written after what stood there

@@ -110,7 +110,8 @@ fn write_encoding<D: Disk>(disk: &mut D, slot: Slot, encoding: &[u8]) -> Result<
 fn write_header<D: Disk>(disk: &mut D, slot: Slot, epoch: u64, size: u64) -> Result<(), DiskFault>
     requires { D.honest → 24 ≤ length (slot_of (D.view disk.old).seen slot) }
     ensures written { D.honest → OnOk result ((D.view disk.new).seen ≡ with_slot (D.view disk.old).seen slot
-        (take 1 (slot_of (D.view disk.old).seen slot) ++ ((epoch_encoding epoch ++ long_word size) ++ drop 24 (slot_of (D.view disk.old).seen slot)))) }
+        (take 1 (slot_of (D.view disk.old).seen slot) ++ ((epoch_encoding epoch ++ long_word size)
+        ++ drop 24 (slot_of (D.view disk.old).seen slot)))) }
     ensures synced { D.honest → OnOk result (IsSynced (D.view disk.new) slot) }
     ensures any_moment { D.honest → IsShut (D.view disk.old) slot
         → Passes (D.view disk.old) (D.view disk.new) (Follows (D.view disk.old) slot IsStillClosed) }

@@ -121,7 +121,8 @@ impl Image {
         requires holds { D.honest → HoldsAfter (slot_of (D.view disk.old).seen (slot_of_epoch self.now.epoch))
             (first_pieces self.now.written self.now.encoding) }
         ensures made { D.honest → OnOk result ((D.view disk.new).seen
-            ≡ with_slot (D.view disk.old).seen (slot_of_epoch self.now.epoch) (open_image self.now.epoch self.now.encoding)) }
+            ≡ with_slot (D.view disk.old).seen (slot_of_epoch self.now.epoch)
+            (open_image self.now.epoch self.now.encoding)) }
         ensures synced { D.honest → OnOk result (IsSynced (D.view disk.new) (slot_of_epoch self.now.epoch)) }
         ensures any_moment { D.honest → IsShut (D.view disk.old) (slot_of_epoch self.now.epoch)
             → Passes (D.view disk.old) (D.view disk.new)
@@ -135,7 +136,8 @@ impl Image {
     /// Writes the whole image at once, from the closing of its slot to the opening of its gate.
     pub fn write<D: Disk>(&self, disk: &mut D) -> Result<(), DiskFault>
         ensures made { D.honest → OnOk result ((D.view disk.new).seen
-            ≡ with_slot (D.view disk.old).seen (slot_of_epoch self.now.epoch) (open_image self.now.epoch self.now.encoding)) }
+            ≡ with_slot (D.view disk.old).seen (slot_of_epoch self.now.epoch)
+            (open_image self.now.epoch self.now.encoding)) }
         ensures synced { D.honest → OnOk result (IsSynced (D.view disk.new) (slot_of_epoch self.now.epoch)) }
         ensures any_moment { D.honest → IsSynced (D.view disk.old) (slot_of_epoch self.now.epoch)
             → Passes (D.view disk.old) (D.view disk.new)

@@ -145,11 +145,11 @@ module _ (old new : View) (segment : Segment) (checkpoint : CheckpointValue) (st
       passes_as old new (Follows old slot HasSomeGate) (λ c. Recovered (as_written c) state) time (λ c made.
       let one = first_left old segment checkpoint state phase made.0 made.1 in
       let x = slot_of c slot in
-      let behind : drop 1 (slot_of made.0 slot) ≡ epoch_encoding (n + 1) ++ closed_gate ∷ [] =
+      let beyond : drop 1 (slot_of made.0 slot) ≡ epoch_encoding (n + 1) ++ closed_gate ∷ [] =
       ap (λ (l : List ℕ). drop 1 l) (imaging_synced old n checkpoint.imaged phase.imaging (n + 1) made.0 made.1)
       ∙ after_gate two in
       subst (λ (s : Slots). Recovered (as_written s) state) (sym made.3)
-      (elim (gate_opened (epoch_encoding (n + 1) ++ closed_gate ∷ []) (slot_of made.0 slot) x behind made.2) [
+      (elim (gate_opened (epoch_encoding (n + 1) ++ closed_gate ∷ []) (slot_of made.0 slot) x beyond made.2) [
         | inl shut ↦ one_recovered (with_slot made.0 slot x) n phase.base state phase.records
             (one_next_segment_changed made.0 n phase.base phase.records x one (shut_segment n x shut)) phase.run
         | inr whole ↦ two_recovered (with_slot made.0 slot x) n phase.base state state phase.records []

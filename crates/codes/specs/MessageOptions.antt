@@ -8,7 +8,8 @@ abbrev pub bits_of : MessageOptions → ℕ
 bits_of options = options.0
 
 abbrev pub option_rows : List Row
-option_rows = (codes "send", 0x1) ∷ (codes "receive", 0x2) ∷ (codes "send_timeout", 0x10) ∷ (codes "receive_timeout", 0x100) ∷ (codes "large", 0x800) ∷ []
+option_rows = (codes "send", 0x1) ∷ (codes "receive", 0x2) ∷ (codes "send_timeout", 0x10)
+    ∷ (codes "receive_timeout", 0x100) ∷ (codes "large", 0x800) ∷ []
 
 -- the name of the first option that is set; empty where none is
 abbrev pub first_name : ℕ → List ℕ

@@ -7,6 +7,6 @@ use Rattle.command_line.specs.declared.about.Question.TheVariants.{Help, Version
 abbrev pub version_lines : List ℕ
 version_lines = codes " 0.1.0\nproved with rattle-kit-13f logic dac8208d650f15bf\n"
 
-abbrev pub told : List ℕ → List ℕ → Question → List ℕ
-told name help Help = help
-told name help Version = name ++ version_lines
+abbrev pub printed : List ℕ → List ℕ → Question → List ℕ
+printed name help Help = help
+printed name help Version = name ++ version_lines

@@ -1,7 +1,7 @@
 ghost use Rattle.std.specs.Prelude.{◌≡◌, ◌≤◌, ◌↔◌, ◌++◌, ◌∷◌, [], Some, codes, map, option_map, OnOk, OnErr};
 ghost use Rattle.std.specs.Io.KnownBytes.{Appends};
 ghost use Rattle.std.specs.String.{string_bytes};
-ghost use Rattle.command_line.specs.About.{told, version_lines};
+ghost use Rattle.command_line.specs.About.{printed, version_lines};
 ghost use Rattle.wire.specs.Writing.{AppendsPart};
 
 use crate::one_word;
@@ -20,8 +20,10 @@ pub enum Question {
 /// What the words ask about the program itself: `--help` or `--version`, if it is the only word. A folder with such a
 /// name is `./--help`.
 pub fn question_in(words: Option<&[String]>) -> Option<Question>
-    ensures help { (result ≡ Some Question.Help) ↔ (option_map (λ texts. map string_bytes texts.now) words.entry ≡ Some (codes "--help" ∷ [])) }
-    ensures version { (result ≡ Some Question.Version) ↔ (option_map (λ texts. map string_bytes texts.now) words.entry ≡ Some (codes "--version" ∷ [])) }
+    ensures help { (result ≡ Some Question.Help) ↔ (option_map (λ texts. map string_bytes texts.now) words.entry
+        ≡ Some (codes "--help" ∷ [])) }
+    ensures version { (result ≡ Some Question.Version) ↔
+        (option_map (λ texts. map string_bytes texts.now) words.entry ≡ Some (codes "--version" ∷ [])) }
 {
     match one_word(words)? {
         "--help" => Some(Question::Help),
@@ -34,8 +36,8 @@ pub fn question_in(words: Option<&[String]>) -> Option<Question>
 /// 1 if the output can't be written, and then some first bytes may have been.
 pub fn tell_about<W: Write>(question: Question, name: &str, help: &str, output: &mut W) -> u8
     ensures ok { result ≡ 0 → Appends (W.contents output.old) (W.contents output.new)
-        (told name.now help.now question) }
-    ensures part { AppendsPart (W.contents output.old) (W.contents output.new) (told name.now help.now question) }
+        (printed name.now help.now question) }
+    ensures part { AppendsPart (W.contents output.old) (W.contents output.new) (printed name.now help.now question) }
     ensures status { result ≤ 1 }
 {
     let written = match question {

@@ -18,21 +18,21 @@ pub all_released : {T E : Type 0} (r : Result T E) (state : State) (serial : ℕ
     → second ≡ first ++ dead_name_notices state serial → OnOk r (new ≡ second ++ release_of_target target)
     → OnOk r ((port : PortState) → get state.ports serial ≡ Some port → port.no_senders_target ≡ target
     → new ≡ old ++ effects_of_death state serial port)
-all_released (Err e) state serial target old first second new released told last = tt
-all_released (Ok v) state serial target old first second new released told last = λ port at same.
+all_released (Err e) state serial target old first second new released sent last = tt
+all_released (Ok v) state serial target old first second new released sent last = λ port at same.
     let rights : List Effect = flat_map releases_of port.messages in
     let dead = dead_name_notices state serial in
     let rest = release_of_target port.no_senders_target in
     let one : first ≡ old ++ rights =
     released ∙ ap (λ (o : Option PortState). old ++ flat_map releases_of (messages_of o)) at in
     last ∙ (ap (λ (t : Option ℕ). second ++ release_of_target t) (sym same)
-    ∙ (ap (λ (l : List Effect). l ++ rest) (told ∙ ap (λ (l : List Effect). l ++ dead) one)
+    ∙ (ap (λ (l : List Effect). l ++ rest) (sent ∙ ap (λ (l : List Effect). l ++ dead) one)
     ∙ (append_assoc (old ++ rights) dead rest ∙ append_assoc old rights (dead ++ rest))))
 
 -- a send-once right's notice, which is dropped if the port is dead
-untold : (state : State) (serial : ℕ)
+notified_is_released : (state : State) (serial : ℕ)
     → notified state serial notice.SendOnce ≡ (released_if_live state serial kind.SendOnce (get state.ports serial)).0
-untold state serial = by_case (get state.ports serial) refl
+notified_is_released state serial = by_case (get state.ports serial) refl
   where
     queued_in : Option PortState → State
     queued_in o = elim o as (λ _. State) [
@@ -48,11 +48,11 @@ untold state serial = by_case (get state.ports serial) refl
     by_case None none = ap queued_in none
     by_case (Some port) at = refl
 
-pub told_once : {T E : Type 0} (r : Result T E) (state new : State) (serial : ℕ)
+pub notified_once : {T E : Type 0} (r : Result T E) (state new : State) (serial : ℕ)
     → OnOk r (new ≡ notified state serial notice.SendOnce)
     → OnOk r (new ≡ (released_if_live state serial kind.SendOnce (get state.ports serial)).0)
-told_once (Err e) state new serial told = tt
-told_once (Ok v) state new serial told = told ∙ untold state serial
+notified_once (Err e) state new serial sent = tt
+notified_once (Ok v) state new serial sent = sent ∙ notified_is_released state serial
 
 -- while send rights are left, no notice is sent
 pub senders_left : (state : State) (serial : ℕ) (o : Option PortState) → not (send_count state serial == 0) ≡ true

@@ -23,11 +23,11 @@ pub fn release_send(alloc: Global, state: &mut IpcState, serial: u64) -> Result<
     if state.has_senders(serial) {
         return Ok(());
     }
-    let told = PortNumbers {
+    let notified = PortNumbers {
         no_senders_target: None,
         ..numbers
     };
-    state.set_numbers(serial, told)?;
+    state.set_numbers(serial, notified)?;
     let count = numbers.make_send_count;
     notify(alloc, state, target, Notice::NoSenders { count })
 }

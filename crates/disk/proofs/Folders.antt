@@ -135,13 +135,12 @@ pub files_follow : (slot : Slot) (folder : FolderView) (step : List ℕ → List
     → Follows (disk_of folder) slot step (slots_of_files files)
 files_follow slot folder step none files follows =
     let before : Slots = slots_of_files follows.0 in
-    let own = slot_is slot files in
-    (
+    let own = slot_is slot files in (
       before,
       (follows.0, follows.1, refl),
       subst (λ (b : List ℕ). step b (slot_of (slots_of_files files) slot)) (sym (slot_is slot follows.0))
-      (subst (step (bytes_of follows.0 (file_name slot))) (sym own)
-      (bytes_after step (follows.0 (file_name slot)) (files (file_name slot)) none follows.2)),
+          (subst (step (bytes_of follows.0 (file_name slot))) (sym own)
+          (bytes_after step (follows.0 (file_name slot)) (files (file_name slot)) none follows.2)),
       but_one_slot slot files follows.0 follows.3 ∙ ap (with_slot before slot) (sym own),
     )
 
@@ -178,14 +177,14 @@ names_follow name old new step time same synced = record {
       elim (files_left_now old new (FilesFollow old name step) time c left) [
         | inl before ↦ synced.all c before other was
         | inr follows ↦
-          elim (follows.3 other) [
-            | inl own ↦
-              ap (λ (n : List ℕ). is_some (c n)) own
-              ∙ is_there_after step (follows.0 name) (c name) follows.2
-              ∙ ap (λ (n : List ℕ). is_some (follows.0 n)) (sym own)
-              ∙ synced.all follows.0 follows.1 other was
-            | inr is ↦ ap is_some is ∙ synced.all follows.0 follows.1 other was
-          ]
+            elim (follows.3 other) [
+              | inl own ↦
+                  ap (λ (n : List ℕ). is_some (c n)) own
+                  ∙ is_there_after step (follows.0 name) (c name) follows.2
+                  ∙ ap (λ (n : List ℕ). is_some (follows.0 n)) (sym own)
+                  ∙ synced.all follows.0 follows.1 other was
+              | inr is ↦ ap is_some is ∙ synced.all follows.0 follows.1 other was
+            ]
       ];
 }
 
@@ -209,10 +208,10 @@ pub slot_synced : (slot : Slot) (folder : FolderView) → IsFileSynced folder (f
     → is_some (folder.seen (file_name slot)) ≡ true → IsSynced (disk_of folder) slot
 slot_synced slot folder file names there c left =
     let same : left.0 (file_name slot) ≡ folder.seen (file_name slot) =
-        elim (file left.0 left.1) [
-          | inl none ↦ cc (none, names.all left.0 left.1 (file_name slot) there)
-          | inr is ↦ is
-        ] in
+    elim (file left.0 left.1) [
+      | inl none ↦ cc (none, names.all left.0 left.1 (file_name slot) there)
+      | inr is ↦ is
+    ] in
     ap (λ (s : Slots). slot_of s slot) left.2 ∙ slot_is slot left.0 ∙ ap bytes_or_none same
     ∙ sym (slot_is slot folder.seen)
 

@@ -13,7 +13,7 @@ use Rattle.disk.specs.Slots.{Slots, file_name, slot_of, with_slot}
 chosen : (a b c d : Bool) (P : Slot → Type 0) → (a ≡ true → P Image0) → (b ≡ true → P Image1)
     → (c ≡ true → P Segment0) → (d ≡ true → P Segment1) → (slot : Slot)
     → (if a then Some Image0 else if b then Some Image1 else if c then Some Segment0 else if d then Some Segment1
-      else None) ≡ Some slot → P slot
+    else None) ≡ Some slot → P slot
 chosen true b c d P first second third fourth slot is = let e : Image0 ≡ slot = cc is in subst P e (first refl)
 chosen false true c d P first second third fourth slot is = let e : Image1 ≡ slot = cc is in subst P e (second refl)
 chosen false false true d P first second third fourth slot is =
@@ -64,7 +64,7 @@ other_files slots slot bytes other None is =
 other_files slots slot bytes other (Some found) is = elim (other_slot slots slot found bytes) [
   | inl own ↦ inl (name_is other slot (is ∙ ap Some own))
   | inr same ↦
-    inr (named_slot other found (with_slot slots slot bytes) is ∙ ap Some same ∙ sym (named_slot other found slots is))
+      inr (named_slot other found (with_slot slots slot bytes) is ∙ ap Some same ∙ sym (named_slot other found slots is))
 ]
 
 pub same_but_one : (slots : Slots) (slot : Slot) (bytes : List ℕ)
@@ -116,13 +116,12 @@ pub folder_follows : (name : List ℕ) (slot : Slot) (old : View) (step : List �
     → slot_named name ≡ Some slot → (slots : Slots) (files : Files) → Follows old slot step slots
     → AreSame files (files_of slots) → FilesFollow (folder_of old) name step files
 folder_follows name slot old step named slots files follows alike =
-    let before : Slots = follows.0 in
-    (
+    let before : Slots = follows.0 in (
       files_of before,
       (before, follows.1, λ n. refl),
       subst (IsFileAfter step (files_of before name)) (sym (alike name ∙ named_slot name slot slots named))
-      (subst (λ (o : Option (List ℕ)). IsFileAfter step o (Some (slot_of slots slot)))
-      (sym (named_slot name slot before named)) follows.2),
+          (subst (λ (o : Option (List ℕ)). IsFileAfter step o (Some (slot_of slots slot)))
+          (sym (named_slot name slot before named)) follows.2),
       λ other. elim (same_but_one before slot (slot_of slots slot) other) [
         | inl own ↦ inl (own ∙ sym (name_is name slot named))
         | inr same ↦ inr (alike other ∙ ap (λ (s : Slots). files_of s other) follows.3 ∙ same)

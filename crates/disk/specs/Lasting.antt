@@ -18,7 +18,6 @@ use Rattle.disk.specs.Slots.{Slots, slot_of, with_slot, written_at, TornWrite, T
 abbrev pub StepOn : Slot → (List ℕ → List ℕ → Type 0) → (Slots → Type 0) → Slots → Type 0
 StepOn slot R P c = (d : Slots) × P d × R (slot_of d slot) (slot_of c slot) × (c ≡ with_slot d slot (slot_of c slot))
 
-
 pub with_same : (slot : Slot) (seen : Slots) → with_slot seen slot (slot_of seen slot) ≡ seen
 with_same Image0 seen = refl
 with_same Image1 seen = refl

@@ -43,7 +43,8 @@ pub trait Folder {
     /// Writes over the bytes from `at` on, and past the end. Until the file is synced, a crash may leave any bytes in
     /// that range.
     fn write_at(&mut self, name: &str, at: u64, bytes: &[u8]) -> Result<(), FolderFault>
-        requires { honest → (is_some ((view self.old).seen name.now) ≡ true) × (at ≤ length (bytes_of (view self.old).seen name.now)) }
+        requires { honest → (is_some ((view self.old).seen name.now) ≡ true)
+            × (at ≤ length (bytes_of (view self.old).seen name.now)) }
         ensures written { honest → OnOk result (HasWritten (view self.old).seen name.now
             (written_at (bytes_of (view self.old).seen name.now) at bytes.now) (view self.new).seen) }
         ensures names { honest → HaveSameNames (view self.new).seen (view self.old).seen }
@@ -53,7 +54,8 @@ pub trait Folder {
 
     /// Truncates a file to a length.
     fn cut(&mut self, name: &str, len: u64) -> Result<(), FolderFault>
-        requires { honest → (is_some ((view self.old).seen name.now) ≡ true) × (len ≤ length (bytes_of (view self.old).seen name.now)) }
+        requires { honest → (is_some ((view self.old).seen name.now) ≡ true)
+            × (len ≤ length (bytes_of (view self.old).seen name.now)) }
         ensures cut { honest → OnOk result (HasWritten (view self.old).seen name.now
             (take len (bytes_of (view self.old).seen name.now)) (view self.new).seen) }
         ensures names { honest → HaveSameNames (view self.new).seen (view self.old).seen }

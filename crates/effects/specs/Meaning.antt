@@ -2,15 +2,15 @@
 use Rattle.effects.specs.declared.effect.Effect.{Effect}
 use Rattle.effects.specs.declared.effect.Effect.TheVariants as this
 use Rattle.effects.specs.declared.notice.Notice.{Notice}
-use Rattle.effects.specs.declared.notice.Notice.TheVariants as told
+use Rattle.effects.specs.declared.notice.Notice.TheVariants as notified
 use Rattle.ipc_model.specs.effects.Effects as machine
 use Rattle.ipc_model.specs.messages.Notices as notice
 
 abbrev pub notice_meant : Notice → notice.Notice
-notice_meant (told.PortDeleted name) = notice.PortDeleted name
-notice_meant (told.NoSenders count) = notice.NoSenders count
-notice_meant told.SendOnce = notice.SendOnce
-notice_meant (told.DeadName name) = notice.DeadName name
+notice_meant (notified.PortDeleted name) = notice.PortDeleted name
+notice_meant (notified.NoSenders count) = notice.NoSenders count
+notice_meant notified.SendOnce = notice.SendOnce
+notice_meant (notified.DeadName name) = notice.DeadName name
 
 abbrev pub effect_meant : Effect → machine.Effect
 effect_meant (this.Release kind port) = machine.release kind port

@@ -468,8 +468,8 @@ fn encodes_status(alloc: Global) -> Encoded {
         has_port_destroyed_request: false,
         has_no_senders_request: true,
     };
-    let told = Reply::ReceiveStatus { status };
-    is_encoded_in_words(alloc, &told, &[13, 0, 9, 1, 2, 5, 3, 4, 1, 0, 1])
+    let reported = Reply::ReceiveStatus { status };
+    is_encoded_in_words(alloc, &reported, &[13, 0, 9, 1, 2, 5, 3, 4, 1, 0, 1])
 }
 
 #[test]
@@ -495,18 +495,18 @@ fn encodes_names(alloc: Global) -> Encoded {
     };
     let names = Sequence::new(Vec::from_slice(alloc, &[first, second]).ok()?);
     let encoding = &[1, 0, 2, 8, 0x20000, 9, 0x10000];
-    let told = Reply::Names { names };
-    let encoded = is_encoded_in_words(alloc, &told, encoding);
-    drop(told);
+    let reported = Reply::Names { names };
+    let encoded = is_encoded_in_words(alloc, &reported, encoding);
+    drop(reported);
     encoded
 }
 
 #[tactic(auto, unfolding(ipc_model::specs::encodings::Encodings::reply_encoding))]
 fn encodes_members(alloc: Global) -> Encoded {
     let members = Sequence::new(Vec::from_slice(alloc, &[8_u32, 9]).ok()?);
-    let told = Reply::SetStatus { members };
-    let encoded = is_encoded_in_words(alloc, &told, &[14, 0, 2, 8, 9]);
-    drop(told);
+    let reported = Reply::SetStatus { members };
+    let encoded = is_encoded_in_words(alloc, &reported, &[14, 0, 2, 8, 9]);
+    drop(reported);
     encoded
 }
 

@@ -79,7 +79,7 @@ fn run(alloc: Global, net: &OneSocket, encodings: &[&str], bytes: &[u8]) -> Opti
 }
 
 /// Whether a run without a socket ends with this status and this line of errors.
-fn is_told(alloc: Global, encodings: &[&str], status: u8, line: &str) -> Option<bool> {
+fn is_reported(alloc: Global, encodings: &[&str], status: u8, line: &str) -> Option<bool> {
     let ended = run(
         alloc,
         &OneSocket(None),
@@ -100,7 +100,7 @@ fn a_wrong_line_or_no_socket_is_reported(rt: HostRuntime) {
         same_in_row(
             &rt,
             line,
-            is_told(rt.alloc(), encodings, status, line),
+            is_reported(rt.alloc(), encodings, status, line),
             Some(true),
         );
     }

@@ -7,9 +7,9 @@ use wire::WireFault;
 const FRAMES: [u8; 17] = [5, 0, 0, 0, 1, 2, 3, 4, 5, 4, 0, 0, 0, 6, 7, 8, 9];
 
 /// How it ended, what the peer was sent, and how many first bytes of the input were written to the output.
-type Told = (Result<(), WireFault>, usize, Option<usize>);
+type Reported = (Result<(), WireFault>, usize, Option<usize>);
 
-fn told(relayed: &Relayed, peer: &Echo, input: &[u8]) -> Told {
+fn reported(relayed: &Relayed, peer: &Echo, input: &[u8]) -> Reported {
     let output = relayed.output.as_slice();
     let first = if input.starts_with(output) {
         Some(output.len())
@@ -20,13 +20,13 @@ fn told(relayed: &Relayed, peer: &Echo, input: &[u8]) -> Told {
 }
 
 /// Relays an input to a peer, and to a writer with room for `room` bytes.
-fn relayed(alloc: Global, input: &[u8], peer: &Echo, room: usize) -> Option<Told> {
+fn relayed(alloc: Global, input: &[u8], peer: &Echo, room: usize) -> Option<Reported> {
     let relayed = relay_to(alloc, input, peer, room)?;
-    Some(told(&relayed, peer, input))
+    Some(reported(&relayed, peer, input))
 }
 
 /// Relays an input to a peer that sends `peer_room` bytes back, and to a writer with room for `room` bytes.
-fn run(alloc: Global, input: &[u8], peer_room: usize, room: usize) -> Option<Told> {
+fn run(alloc: Global, input: &[u8], peer_room: usize, room: usize) -> Option<Reported> {
     relayed(alloc, input, &Echo::new(alloc, peer_room), room)
 }
 

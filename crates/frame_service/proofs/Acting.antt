@@ -75,11 +75,11 @@ module _ {C T : Type 0} (answer : T → Reply) (makes : C → Call → T → C �
       record { acts = []; acted = (refl, refl); read = refl; acknowledged_is = sym (append-nil before) }
 
   -- The first frame in hand was answered.
-  pub one_told : (old new : C) (pending : PendingFrame T) (all_pending : List (PendingFrame T)) (reply : Reply)
+  pub one_acknowledged : (old new : C) (pending : PendingFrame T) (all_pending : List (PendingFrame T)) (reply : Reply)
       (input before sent : List ℕ) → IsAcknowledged answer makes lacks acknowledges fails old pending reply new
       → sent ≡ before ++ frame_encoding (reply_encoding reply)
       → Went answer makes lacks acknowledges fails old (pending ∷ all_pending) new input before input sent all_pending
-  one_told old new pending all_pending reply input before sent is out = record {
+  one_acknowledged old new pending all_pending reply input before sent is out = record {
     acts = acknowledged reply ∷ [];
     acted = (new, is, (refl, refl));
     read = refl;
@@ -103,21 +103,21 @@ module _ {C T : Type 0} (answer : T → Reply) (makes : C → Call → T → C �
       record { acts = []; rest = input; acted = (none, refl); read = refl; silent = refl; counted = refl; left_is = is }
 
   pub one_taken : (old mid new : C) (all_pending more : List (PendingFrame T)) (pending : PendingFrame T)
-      (input content behind : List ℕ) (left now : Option (List ℕ)) (count : ℕ)
+      (input content beyond : List ℕ) (left now : Option (List ℕ)) (count : ℕ)
       (so_far : Taking old mid all_pending input left count)
-      → so_far.rest ≡ frame_encoding content ++ behind → now ≡ Some behind
+      → so_far.rest ≡ frame_encoding content ++ beyond → now ≡ Some beyond
       → IsTaken answer makes lacks mid content pending new → more ≡ all_pending ++ pending ∷ []
       → Taking old new more input now (count + 1)
-  one_taken old mid new all_pending more pending input content behind left now count so_far front is taken pushed =
+  one_taken old mid new all_pending more pending input content beyond left now count so_far front is taken pushed =
       let one : List (Act T) = took content pending ∷ [] in
       record {
         acts = so_far.acts ++ one;
-        rest = behind;
+        rest = beyond;
         acted = acted_both old mid new [] all_pending more so_far.acts one so_far.acted (new, taken, (pushed, refl));
         read =
             so_far.read ∙ ap (λ l. frames_of so_far.acts ++ l) front
-            ∙ sym (append_assoc (frames_of so_far.acts) (frame_encoding content) behind)
-            ∙ ap (λ l. l ++ behind) (ap (λ l. frames_of so_far.acts ++ l) (sym (append-nil (frame_encoding content)))
+            ∙ sym (append_assoc (frames_of so_far.acts) (frame_encoding content) beyond)
+            ∙ ap (λ l. l ++ beyond) (ap (λ l. frames_of so_far.acts ++ l) (sym (append-nil (frame_encoding content)))
             ∙ sym (frames_both so_far.acts one));
         silent = replies_both so_far.acts one ∙ ap (λ l. l ++ []) so_far.silent;
         counted = omega (arith, so_far.counted, length-append so_far.acts one);

@@ -43,13 +43,13 @@ module _ {C : Type 0} (answers : C → Call → Reply → C → Type 0) (fails :
         written_is = so_far.replies;
       })))
 
-  pub ends_calling : (mid new : C) (start left written : Option (List ℕ)) (count : ℕ) (content behind : List ℕ)
+  pub ends_calling : (mid new : C) (start left written : Option (List ℕ)) (count : ℕ) (content beyond : List ℕ)
       (fault : StoreFault) (result : Result (Unit {0}) ServeFault)
       (so_far : Going answers rests old mid input before start written count)
-      → so_far.rest ≡ frame_encoding content ++ behind → left ≡ Some behind
+      → so_far.rest ≡ frame_encoding content ++ beyond → left ≡ Some beyond
       → IsFailed answers fails mid content fault new → result ≡ Err (Store fault)
       → Ends answers fails rests breaks old new input before left written result
-  ends_calling mid new start left written count content behind fault result so_far frame unread failed is =
+  ends_calling mid new start left written count content beyond fault result so_far frame unread failed is =
       subst (λ (r : Result (Unit {0}) ServeFault). Ends answers fails rests breaks old new input before left written r)
       (sym is) (inl (record {
         mid = mid;
@@ -57,22 +57,22 @@ module _ {C : Type 0} (answers : C → Call → Reply → C → Type 0) (fails :
         sent = before ++ replies_encoding so_far.exchanges;
         exchanged = served_so_far mid start written count so_far;
         content = content;
-        behind = behind;
+        beyond = beyond;
         frame = frame;
         unread = unread;
         failed = failed;
         written_is = so_far.replies;
       }))
 
-  pub ends_writing : (mid new : C) (start left sent written : Option (List ℕ)) (count : ℕ) (content behind : List ℕ)
+  pub ends_writing : (mid new : C) (start left sent written : Option (List ℕ)) (count : ℕ) (content beyond : List ℕ)
       (answer : Reply) (fault : WireFault) (result : Result (Unit {0}) ServeFault)
       (so_far : Going answers rests old mid input before start sent count)
-      → so_far.rest ≡ frame_encoding content ++ behind → left ≡ Some behind → IsAnswered answers mid content answer new
+      → so_far.rest ≡ frame_encoding content ++ beyond → left ≡ Some beyond → IsAnswered answers mid content answer new
       → AppendsPart (Some (before ++ replies_encoding so_far.exchanges)) written
       (frame_encoding (reply_encoding answer))
       → fault ≡ Device → result ≡ Err (Wire fault)
       → Ends answers fails rests breaks old new input before left written result
-  ends_writing mid new start left sent written count content behind answer fault result so_far frame unread answered
+  ends_writing mid new start left sent written count content beyond answer fault result so_far frame unread answered
       part device is = subst (λ (r : Result (Unit {0}) ServeFault). Ends answers fails rests breaks old new input before
       left written r) (sym is) (inr (inr (inl (record {
         fault_is = device;
@@ -81,7 +81,7 @@ module _ {C : Type 0} (answers : C → Call → Reply → C → Type 0) (fails :
         sent = before ++ replies_encoding so_far.exchanges;
         exchanged = served_so_far mid start sent count so_far;
         content = content;
-        behind = behind;
+        beyond = beyond;
         frame = frame;
         unread = unread;
         answer = answer;
@@ -90,13 +90,13 @@ module _ {C : Type 0} (answers : C → Call → Reply → C → Type 0) (fails :
       }))))
 
   pub ends_resting : (mid after new : C) (start left sent written : Option (List ℕ)) (count : ℕ)
-      (content behind : List ℕ) (answer : Reply) (fault : StoreFault) (result : Result (Unit {0}) ServeFault)
+      (content beyond : List ℕ) (answer : Reply) (fault : StoreFault) (result : Result (Unit {0}) ServeFault)
       (so_far : Going answers rests old mid input before start sent count)
-      → so_far.rest ≡ frame_encoding content ++ behind → left ≡ Some behind
+      → so_far.rest ≡ frame_encoding content ++ beyond → left ≡ Some beyond
       → IsAnswered answers mid content answer after → breaks after fault new
       → written ≡ Some ((before ++ replies_encoding so_far.exchanges) ++ frame_encoding (reply_encoding answer))
       → result ≡ Err (Store fault) → Ends answers fails rests breaks old new input before left written result
-  ends_resting mid after new start left sent written count content behind answer fault result so_far frame unread
+  ends_resting mid after new start left sent written count content beyond answer fault result so_far frame unread
       answered broken out is = subst
       (λ (r : Result (Unit {0}) ServeFault). Ends answers fails rests breaks old new input before left written r)
       (sym is) (inr (record {
@@ -105,7 +105,7 @@ module _ {C : Type 0} (answers : C → Call → Reply → C → Type 0) (fails :
         sent = before ++ replies_encoding so_far.exchanges;
         exchanged = served_so_far mid start sent count so_far;
         content = content;
-        behind = behind;
+        beyond = beyond;
         frame = frame;
         unread = unread;
         answer = answer;

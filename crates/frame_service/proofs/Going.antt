@@ -150,14 +150,14 @@ past_end : (a : ℕ) (rest : List ℕ) → is_ended (front_of (a ∷ rest)) ≡ 
 unfolding is_ended
 past_end a rest =
     let n = little_number 4 (a ∷ rest) in
-    let behind = drop 4 (a ∷ rest) in
+    let beyond = drop 4 (a ∷ rest) in
     ap (λ (b : Bool). is_ended (cond b ended
-    (cond (nat_lt (length (a ∷ rest)) 4) (faulty Short []) (content_at n behind)))) (eqb-suc-zero (length rest))
-    ∙ by_length (nat_lt (length (a ∷ rest)) 4) n behind
+    (cond (nat_lt (length (a ∷ rest)) 4) (faulty Short []) (content_at n beyond)))) (eqb-suc-zero (length rest))
+    ∙ by_length (nat_lt (length (a ∷ rest)) 4) n beyond
   where
-    by_length : (c : Bool) (n : ℕ) (behind : List ℕ) → is_ended (cond c (faulty Short []) (content_at n behind)) ≡ false
-    by_length true n behind = refl
-    by_length false n behind = goes_past n behind
+    by_length : (c : Bool) (n : ℕ) (beyond : List ℕ) → is_ended (cond c (faulty Short []) (content_at n beyond)) ≡ false
+    by_length true n beyond = refl
+    by_length false n beyond = goes_past n beyond
 
 nothing_left : (rest : List ℕ) → front_of rest ≡ ended → rest ≡ []
 unfolding is_ended

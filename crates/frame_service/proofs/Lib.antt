@@ -4,4 +4,4 @@ mod Ended
 mod Going
 mod Sent
 mod Turns
-mod Told
+mod Acknowledged

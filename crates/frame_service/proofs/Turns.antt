@@ -6,7 +6,7 @@ use Rattle.ipc_model.specs.declared.call.Call.{Call}
 use Rattle.ipc_model.specs.declared.call.Reply.{Reply}
 use Rattle.ipc_model.specs.encodings.Encodings.{reply_encoding}
 use Rattle.store_fault.specs.declared.fault.StoreFault.{StoreFault}
-use Rattle.frame_service.proofs.Acting.{Taking, acts_both, begun, one_told, went_both}
+use Rattle.frame_service.proofs.Acting.{Taking, acts_both, begun, one_acknowledged, went_both}
 use Rattle.frame_service.specs.Asking.{EndsAsked, EndsOne, EndsRound, EndsAcknowledging, IsLeft, IsRead, TookFrames, Went}
 use Rattle.frame_service.specs.declared.asking.PendingFrame.{PendingFrame}
 use Rattle.frame_service.specs.declared.service.ServeFault.{ServeFault}
@@ -138,7 +138,8 @@ module _ {C T : Type 0} (answer : T → Reply) (makes : C → Call → T → C �
         went_both answer makes lacks acknowledges fails old mid new queue
             (pending ∷ rest) rest input before input sent input (sent ++ frame_encoding (reply_encoding ends.0))
             (subst (λ q. So old queue mid input before input sent q) front so_far)
-            (one_told answer makes lacks acknowledges fails mid new pending rest ends.0 input sent _ ends.1 refl),
+            (one_acknowledged answer makes lacks acknowledges fails mid new pending rest ends.0 input sent _ ends.1
+            refl),
         ends.2,
       )
 

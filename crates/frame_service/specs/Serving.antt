@@ -171,9 +171,9 @@ module _ {C : Type 0} (answers : C → Call → Reply → C → Type 0) (fails :
     pub sent : List ℕ
     pub exchanged : Exchanged answers rests old mid input before rest sent
     pub content : List ℕ
-    pub behind : List ℕ
-    pub frame : rest ≡ frame_encoding content ++ behind
-    pub unread : left ≡ Some behind
+    pub beyond : List ℕ
+    pub frame : rest ≡ frame_encoding content ++ beyond
+    pub unread : left ≡ Some beyond
     pub failed : IsFailed answers fails mid content fault new
     pub written_is : written ≡ Some sent
 
@@ -186,9 +186,9 @@ module _ {C : Type 0} (answers : C → Call → Reply → C → Type 0) (fails :
     pub sent : List ℕ
     pub exchanged : Exchanged answers rests old mid input before rest sent
     pub content : List ℕ
-    pub behind : List ℕ
-    pub frame : rest ≡ frame_encoding content ++ behind
-    pub unread : left ≡ Some behind
+    pub beyond : List ℕ
+    pub frame : rest ≡ frame_encoding content ++ beyond
+    pub unread : left ≡ Some beyond
     pub answer : Reply
     pub answered : IsAnswered answers mid content answer new
     pub part : AppendsPart (Some sent) written (frame_encoding (reply_encoding answer))
@@ -201,9 +201,9 @@ module _ {C : Type 0} (answers : C → Call → Reply → C → Type 0) (fails :
     pub sent : List ℕ
     pub exchanged : Exchanged answers rests old mid input before rest sent
     pub content : List ℕ
-    pub behind : List ℕ
-    pub frame : rest ≡ frame_encoding content ++ behind
-    pub unread : left ≡ Some behind
+    pub beyond : List ℕ
+    pub frame : rest ≡ frame_encoding content ++ beyond
+    pub unread : left ≡ Some beyond
     pub answer : Reply
     pub after : C
     pub answered : IsAnswered answers mid content answer after

@@ -32,7 +32,8 @@ pub fn serve_asked<R: Ahead, W: Write, A: Asker>(
 ) -> Result<(), ServeFault>
     // All that was read, called, acknowledged and written, by how it ended.
     ensures ended { IfSome (R.remaining reader.old) (λ input. IfSome (W.contents writer.old) (λ before.
-        EndsAsked A.answer A.makes A.lacks A.acknowledges A.fails asker.old [] asker.new input before (R.remaining reader.new) (W.contents writer.new) result)) }
+        EndsAsked A.answer A.makes A.lacks A.acknowledges A.fails asker.old [] asker.new input before
+        (R.remaining reader.new) (W.contents writer.new) result)) }
 {
     let Ok(mut reply) = Frame::with_room(alloc, MAX_FRAME_CONTENT as usize) else {
         return Err(ServeFault::Wire(WireFault::NoMemory));
@@ -65,7 +66,8 @@ fn serve_round<R: Ahead, W: Write, A: Asker>(
     ensures capacity { MOST_PENDING_FRAMES ≤ deque_capacity all_pending.new }
     ensures room { reply.old.room ≤ reply.new.room }
     ensures ended { IfSome (R.remaining reader.old) (λ input. IfSome (W.contents writer.old) (λ before.
-        EndsRound A.answer A.makes A.lacks A.acknowledges A.fails asker.old [] asker.new input before (R.remaining reader.new) (W.contents writer.new) result)) }
+        EndsRound A.answer A.makes A.lacks A.acknowledges A.fails asker.old [] asker.new input before
+        (R.remaining reader.new) (W.contents writer.new) result)) }
 {
     let taken = take_frames(alloc, reader, asker, all_pending);
     acknowledge_all(alloc, writer, asker, reply, all_pending)?;
@@ -83,7 +85,8 @@ fn take_frames<R: Ahead, A: Asker>(
     requires capacity { MOST_PENDING_FRAMES ≤ deque_capacity all_pending.old }
     ensures capacity { MOST_PENDING_FRAMES ≤ deque_capacity all_pending.new }
     ensures took { IfSome (R.remaining reader.old) (λ input.
-        TookFrames A.answer A.makes A.lacks A.acknowledges A.fails asker.old asker.new all_pending.new.items input (R.remaining reader.new) result) }
+        TookFrames A.answer A.makes A.lacks A.acknowledges A.fails asker.old asker.new all_pending.new.items input
+        (R.remaining reader.new) result) }
 {
     for _ in 0..MOST_PENDING_FRAMES {
         let Some(request) = read_frame(alloc, reader)? else {
@@ -144,7 +147,8 @@ fn acknowledge_one<W: Write, A: Asker>(
     requires room { MAX_FRAME_CONTENT ≤ reply.old.room }
     ensures room { reply.old.room ≤ reply.new.room }
     ensures acknowledged { IfSome (W.contents writer.old) (λ before.
-        EndsOne A.answer A.makes A.lacks A.acknowledges A.fails asker.old pending asker.new before (W.contents writer.new) result) }
+        EndsOne A.answer A.makes A.lacks A.acknowledges A.fails asker.old pending asker.new before
+        (W.contents writer.new) result) }
 {
     if let Err(fault) = flush_before(writer, &pending) {
         drop(pending);

@@ -54,7 +54,8 @@ pub fn serve<R: Read, W: Write, C: Caller>(
 ) -> Result<(), ServeFault>
     // All that was read, called and written, by how it ended.
     ensures ended { IfSome (R.remaining reader.old) (λ input. IfSome (W.contents writer.old) (λ before.
-        Ends C.answers C.fails C.rests C.breaks caller.old caller.new input before (R.remaining reader.new) (W.contents writer.new) result)) }
+        Ends C.answers C.fails C.rests C.breaks caller.old caller.new input before (R.remaining reader.new)
+        (W.contents writer.new) result)) }
 {
     let Ok(mut reply) = Frame::with_room(alloc, MAX_FRAME_CONTENT as usize) else {
         return Err(ServeFault::Wire(WireFault::NoMemory));

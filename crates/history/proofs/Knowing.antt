@@ -200,13 +200,13 @@ past_next first block place noted known seen long is at =
     }
 
 -- Up to where a block was left, its notes are of the same cells as the notes of pasts that went on.
-pub behind : (first : BlockNames) (mine theirs : List LinkValue) (own other : List ℕ)
+pub beyond : (first : BlockNames) (mine theirs : List LinkValue) (own other : List ℕ)
     (known others : List (Option PlacedValue)) (s : ℕ) → AreNotes (names_after first mine).cells own known
     → AreNotes (names_after first theirs).cells other others
     → Leads first theirs (names_after first theirs).cells (length other) → take (length mine) theirs ≡ mine
     → option_map (λ (l : LinkValue). l.start) (slice_get theirs (length mine)) ≡ Some s → (s ≤ length other)
     × ((i : ℕ) → i < length own → i < s → slice_get own i ≡ slice_get other i)
-behind first mine theirs own other known others s are go leads begins starts =
+beyond first mine theirs own other known others s are go leads begins starts =
     let cells = (names_after first theirs).cells in
     let left = leads_at first theirs cells (length other) (length mine) s leads starts in (
       left.0,

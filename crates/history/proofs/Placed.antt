@@ -20,10 +20,10 @@ same_tree (gnum n) (gcons c d) xs ys e = absurd (cc e)
 same_tree (gcons a b) gnil xs ys e = absurd (cc e)
 same_tree (gcons a b) (gnum n) xs ys e = absurd (cc e)
 same_tree (gcons a b) (gcons c d) xs ys e =
-    let behind : (numbers_of_tree a ++ numbers_of_tree b) ++ xs ≡ (numbers_of_tree c ++ numbers_of_tree d) ++ ys =
+    let beyond : (numbers_of_tree a ++ numbers_of_tree b) ++ xs ≡ (numbers_of_tree c ++ numbers_of_tree d) ++ ys =
     cc e in
     let left = same_tree a c (numbers_of_tree b ++ xs) (numbers_of_tree d ++ ys)
-    (sym (append_assoc (numbers_of_tree a) (numbers_of_tree b) xs) ∙ behind
+    (sym (append_assoc (numbers_of_tree a) (numbers_of_tree b) xs) ∙ beyond
     ∙ append_assoc (numbers_of_tree c) (numbers_of_tree d) ys) in
     let right = same_tree b d xs ys left.1 in
     (cc (left.0, right.0), right.1)

@@ -19,7 +19,7 @@ impl<L: FirstBlock> Past<L> {
             → Begins self.old.entries other.old.entries }
         ensures goes_on { result ≡ true → length other.old.entries ≤ length self.old.entries
             → Begins other.old.entries self.old.entries }
-        ensures behind { result ≡ true → self.old.blocks < other.old.blocks
+        ensures beyond { result ≡ true → self.old.blocks < other.old.blocks
             → length self.old.entries ≤ length other.old.entries }
         ensures ahead { result ≡ true → other.old.blocks < self.old.blocks
             → length other.old.entries ≤ length self.old.entries }

@@ -11,46 +11,46 @@ use Rattle.ipc_model.specs.encodings.Encodings.{number_of_bool}
 use Rattle.words.specs.Words.{word, long_word}
 use Rattle.words.specs.WordLaws.{length-word, length-long_word}
 
-module _ (bytes : List ℕ) (kind : ℕ) (behind : List ℕ) (begins : bytes ≡ kind ∷ behind)
+module _ (bytes : List ℕ) (kind : ℕ) (beyond : List ℕ) (begins : bytes ≡ kind ∷ beyond)
     (P : Entry → List ℕ → Type 0) where
   pub rights_alone : kind ≡ 1 →
       ((rights : PortRights) (rest : List ℕ) → EncodableEntry (Port rights)
-      → 1 ∷ behind ≡ entry_encoding (Port rights) ++ rest → P (Port rights) rest)
+      → 1 ∷ beyond ≡ entry_encoding (Port rights) ++ rest → P (Port rights) rest)
       → (entry : Entry) (rest : List ℕ) → EncodableEntry entry → bytes ≡ entry_encoding entry ++ rest → P entry rest
   rights_alone is f (Port rights) rest fits e =
-      f rights rest fits (subst (λ (k : ℕ). k ∷ behind ≡ entry_encoding (Port rights) ++ rest) is (sym begins ∙ e))
+      f rights rest fits (subst (λ (k : ℕ). k ∷ beyond ≡ entry_encoding (Port rights) ++ rest) is (sym begins ∙ e))
   rights_alone is f (SendOnce port target) rest fits e = absurd (cc (is, begins, e))
   rights_alone is f Set rest fits e = absurd (cc (is, begins, e))
   rights_alone is f (Dead references) rest fits e = absurd (cc (is, begins, e))
 
   pub send_once_alone : kind ≡ 2
       → ((port : ℕ) (target : Option ℕ) (rest : List ℕ) → EncodableEntry (SendOnce port target)
-      → 2 ∷ behind ≡ entry_encoding (SendOnce port target) ++ rest → P (SendOnce port target) rest)
+      → 2 ∷ beyond ≡ entry_encoding (SendOnce port target) ++ rest → P (SendOnce port target) rest)
       → (entry : Entry) (rest : List ℕ) → EncodableEntry entry → bytes ≡ entry_encoding entry ++ rest → P entry rest
   send_once_alone is f (Port rights) rest fits e = absurd (cc (is, begins, e))
   send_once_alone is f (SendOnce port target) rest fits e =
       f port target rest fits (subst
-      (λ (k : ℕ). k ∷ behind ≡ entry_encoding (SendOnce port target) ++ rest) is (sym begins ∙ e))
+      (λ (k : ℕ). k ∷ beyond ≡ entry_encoding (SendOnce port target) ++ rest) is (sym begins ∙ e))
   send_once_alone is f Set rest fits e = absurd (cc (is, begins, e))
   send_once_alone is f (Dead references) rest fits e = absurd (cc (is, begins, e))
 
-pub set_alone : (bytes : List ℕ) (kind : ℕ) (behind : List ℕ) → bytes ≡ kind ∷ behind → kind ≡ 3
+pub set_alone : (bytes : List ℕ) (kind : ℕ) (beyond : List ℕ) → bytes ≡ kind ∷ beyond → kind ≡ 3
     → (entry : Entry) (rest : List ℕ) → EncodableEntry entry → bytes ≡ entry_encoding entry ++ rest → (Set ≡ entry)
-    × (behind ≡ rest)
-set_alone bytes kind behind begins is (Port rights) rest fits e = absurd (cc (is, begins, e))
-set_alone bytes kind behind begins is (SendOnce port target) rest fits e = absurd (cc (is, begins, e))
-set_alone bytes kind behind begins is Set rest fits e = (refl, ap (drop 1) (sym begins ∙ e))
-set_alone bytes kind behind begins is (Dead references) rest fits e = absurd (cc (is, begins, e))
+    × (beyond ≡ rest)
+set_alone bytes kind beyond begins is (Port rights) rest fits e = absurd (cc (is, begins, e))
+set_alone bytes kind beyond begins is (SendOnce port target) rest fits e = absurd (cc (is, begins, e))
+set_alone bytes kind beyond begins is Set rest fits e = (refl, ap (drop 1) (sym begins ∙ e))
+set_alone bytes kind beyond begins is (Dead references) rest fits e = absurd (cc (is, begins, e))
 
-pub dead_alone : (bytes : List ℕ) (kind : ℕ) (behind : List ℕ) → bytes ≡ kind ∷ behind → kind ≡ 4
+pub dead_alone : (bytes : List ℕ) (kind : ℕ) (beyond : List ℕ) → bytes ≡ kind ∷ beyond → kind ≡ 4
     → (P : Entry → List ℕ → Type 0)
-    → ((references : ℕ) (rest : List ℕ) → references < 2 ^ 32 → behind ≡ word references ++ rest
+    → ((references : ℕ) (rest : List ℕ) → references < 2 ^ 32 → beyond ≡ word references ++ rest
     → P (Dead references) rest)
     → (entry : Entry) (rest : List ℕ) → EncodableEntry entry → bytes ≡ entry_encoding entry ++ rest → P entry rest
-dead_alone bytes kind behind begins is P f (Port rights) rest fits e = absurd (cc (is, begins, e))
-dead_alone bytes kind behind begins is P f (SendOnce port target) rest fits e = absurd (cc (is, begins, e))
-dead_alone bytes kind behind begins is P f Set rest fits e = absurd (cc (is, begins, e))
-dead_alone bytes kind behind begins is P f (Dead references) rest fits e =
+dead_alone bytes kind beyond begins is P f (Port rights) rest fits e = absurd (cc (is, begins, e))
+dead_alone bytes kind beyond begins is P f (SendOnce port target) rest fits e = absurd (cc (is, begins, e))
+dead_alone bytes kind beyond begins is P f Set rest fits e = absurd (cc (is, begins, e))
+dead_alone bytes kind beyond begins is P f (Dead references) rest fits e =
     f references rest fits (ap (drop 1) (sym begins ∙ e))
 
 on_ok : {T E P Q : Type 0} (result : Result T E) → (P → Q) → OnOk result P → OnOk result Q

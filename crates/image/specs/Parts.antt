@@ -80,33 +80,33 @@ module _ {A : Type 0} where
   some_if o P x is some = subst (λ (o : Option A). IfSome o P) is some
 
 -- a message that was found part by part
-pub message_found : (bytes : List ℕ) (message : Message) (size count : ℕ) (behind counted after rest : List ℕ)
+pub message_found : (bytes : List ℕ) (message : Message) (size count : ℕ) (beyond counted after rest : List ℕ)
     → bytes ≡ number_of_kind message.destination ∷
     (reply_right_encoding message.reply
-    ++ (word message.id ++ (word size ++ (number_of_bool message.complex ∷ behind))))
-    → behind ≡ word count ++ counted → counted ≡ flat_map carried_encoding message.rights ++ after
+    ++ (word message.id ++ (word size ++ (number_of_bool message.complex ∷ beyond))))
+    → beyond ≡ word count ++ counted → counted ≡ flat_map carried_encoding message.rights ++ after
     → length message.rights ≡ count → after ≡ message.body ++ rest → size ≡ 24 + length message.body
     → bytes ≡ message_image message ++ rest
-message_found bytes message size count behind counted after rest is count_is rights_are long body_is size_is =
-    let all : behind ≡ after_head message rest =
+message_found bytes message size count beyond counted after rest is count_is rights_are long body_is size_is =
+    let all : beyond ≡ after_head message rest =
     count_is ∙ ap (λ (n : ℕ). word n ++ counted) (sym long) ∙ ap
     (λ (l : List ℕ). word (length message.rights) ++ l)
     (rights_are ∙ ap (λ (l : List ℕ). flat_map carried_encoding message.rights ++ l) body_is) in
     is ∙ ap (λ (n : ℕ). number_of_kind message.destination ∷
     (reply_right_encoding message.reply
-    ++ (word message.id ++ (word n ++ (number_of_bool message.complex ∷ behind))))) size_is
+    ++ (word message.id ++ (word n ++ (number_of_bool message.complex ∷ beyond))))) size_is
     ∙ ap (λ (l : List ℕ). number_of_kind message.destination ∷
     (reply_right_encoding message.reply
     ++ (word message.id ++ (word (message_size message) ++ (number_of_bool message.complex ∷ l))))) all
     ∙ sym (message_apart message rest)
 
 -- a snapshot that was found part by part
-pub snapshot_found : (bytes : List ℕ) (snapshot : Snapshot) (behind after rest : List ℕ)
-    → bytes ≡ long_word snapshot.next_serial ++ behind
-    → behind ≡ word (length snapshot.spaces) ++ (flat_map space_encoding snapshot.spaces ++ after)
+pub snapshot_found : (bytes : List ℕ) (snapshot : Snapshot) (beyond after rest : List ℕ)
+    → bytes ≡ long_word snapshot.next_serial ++ beyond
+    → beyond ≡ word (length snapshot.spaces) ++ (flat_map space_encoding snapshot.spaces ++ after)
     → after ≡ word (length snapshot.ports) ++ (flat_map live_port_encoding snapshot.ports ++ rest) → rest ≡ []
     → bytes ≡ snapshot_encoding snapshot
-snapshot_found bytes snapshot behind after rest is spaces_are ports_are ended =
+snapshot_found bytes snapshot beyond after rest is spaces_are ports_are ended =
     is ∙ ap (λ (l : List ℕ). long_word snapshot.next_serial ++ l)
     (spaces_are ∙ ap (λ (l : List ℕ). word (length snapshot.spaces) ++ (flat_map space_encoding snapshot.spaces ++ l))
     (ports_are ∙ ap (λ (l : List ℕ). word (length snapshot.ports) ++ (flat_map live_port_encoding snapshot.ports ++ l))

@@ -20,10 +20,10 @@ module _ {A : Type 0} (encoding : A → List ℕ) (fits : A → Type 0) where
 
   -- The bytes begin with this value, and with no other.
   abbrev pub Leads : List ℕ → A → List ℕ → Type 0
-  Leads bytes row behind =
-      (bytes ≡ encoding row ++ behind) × fits row
+  Leads bytes row beyond =
+      (bytes ≡ encoding row ++ beyond) × fits row
       × ((value : A) (rest : List ℕ) → fits value → bytes ≡ encoding value ++ rest → (row ≡ value)
-      × (behind ≡ rest))
+      × (beyond ≡ rest))
 
   -- The bytes begin with no value.
   abbrev pub LeadsNone : List ℕ → Type 0
@@ -42,20 +42,20 @@ module _ {A : Type 0} (encoding : A → List ℕ) (fits : A → Type 0) where
   some_left rows more all count joined long fewer none =
       omega (arith, fewer, long, ap length joined, length-append rows more, ap length none)
 
-  pub one_more : (whole : List ℕ) (count : ℕ) (rows : List A) (left : List ℕ) (row : A) (behind : List ℕ)
+  pub one_more : (whole : List ℕ) (count : ℕ) (rows : List A) (left : List ℕ) (row : A) (beyond : List ℕ)
       → length rows < count
-      → Taken whole count rows left → Leads left row behind → Taken whole count (rows ++ row ∷ []) behind
-  one_more whole count rows left row behind fewer taken leads = record {
+      → Taken whole count rows left → Leads left row beyond → Taken whole count (rows ++ row ∷ []) beyond
+  one_more whole count rows left row beyond fewer taken leads = record {
     joined = taken.joined ∙ ap (λ (l : List ℕ). flat_map encoding rows ++ l) leads.0
-        ∙ sym (append_assoc (flat_map encoding rows) (encoding row) behind)
-        ∙ ap (λ (l : List ℕ). (flat_map encoding rows ++ l) ++ behind) (sym (append-nil (encoding row)))
-        ∙ ap (λ (l : List ℕ). l ++ behind) (sym (flat_map-append encoding rows (row ∷ [])));
+        ∙ sym (append_assoc (flat_map encoding rows) (encoding row) beyond)
+        ∙ ap (λ (l : List ℕ). (flat_map encoding rows ++ l) ++ beyond) (sym (append-nil (encoding row)))
+        ∙ ap (λ (l : List ℕ). l ++ beyond) (sym (flat_map-append encoding rows (row ∷ [])));
     fit = All-append fits rows (row ∷ []) taken.fit (All-cons fits row [] leads.1 (All-nil fits));
     only = λ (all : List A) (end : List ℕ) (encodes : _).
         let was = taken.only all end encodes in
         elim was.0 as (λ (more : List A). all ≡ rows ++ more → All fits more → left ≡ flat_map encoding more ++ end
         → (others : List A) × (all ≡ (rows ++ row ∷ []) ++ others) × All fits others
-        × (behind ≡ flat_map encoding others ++ end)) [
+        × (beyond ≡ flat_map encoding others ++ end)) [
           | [] ↦ λ (joined : _) (_ : _) (_ : _). absurd (some_left rows [] all count joined encodes.1 fewer refl)
           | value ∷ others ↦ λ (joined : _) (fit : _) (is : _).
               let same =
@@ -102,9 +102,9 @@ module _ {A : Type 0} (encoding : A → List ℕ) (fits : A → Type 0) where
       × ((value : A) (rest : List ℕ) → fits value → bytes ≡ encoding value ++ rest
       → IsSomeAnd found (λ r. (r.0 ≡ value) × (r.1.now ≡ rest)))
 
-  pub leads_some : (bytes : List ℕ) (found : Option (A × Bor (List ℕ))) (row : A) (behind : Bor (List ℕ))
-      → found ≡ Some (row, behind) → Reads bytes found → Leads bytes row behind.now
-  leads_some bytes found row behind is reads = let some = subst (Reads bytes) is reads in (some.0.0, some.0.1, some.1)
+  pub leads_some : (bytes : List ℕ) (found : Option (A × Bor (List ℕ))) (row : A) (beyond : Bor (List ℕ))
+      → found ≡ Some (row, beyond) → Reads bytes found → Leads bytes row beyond.now
+  leads_some bytes found row beyond is reads = let some = subst (Reads bytes) is reads in (some.0.0, some.0.1, some.1)
 
   pub leads_none : (bytes : List ℕ) (found : Option (A × Bor (List ℕ))) → found ≡ None → Reads bytes found
       → LeadsNone bytes
@@ -118,13 +118,13 @@ module _ {A : Type 0} (encoding : A → List ℕ) (fits : A → Type 0) where
   none_so_far whole count rows none =
       subst (λ (rows : List A). TakenSoFar whole count rows whole 0) (sym none) (none_taken whole count, refl)
 
-  pub one_more_so_far : (whole : List ℕ) (count : ℕ) (rows longer : List A) (left : List ℕ) (row : A) (behind : List ℕ)
+  pub one_more_so_far : (whole : List ℕ) (count : ℕ) (rows longer : List A) (left : List ℕ) (row : A) (beyond : List ℕ)
       (taken : ℕ) → taken < count
-      → longer ≡ rows ++ row ∷ [] → TakenSoFar whole count rows left taken → Leads left row behind
-      → TakenSoFar whole count longer behind (taken + 1)
-  one_more_so_far whole count rows longer left row behind taken fewer is so_far leads =
-      subst (λ (rows : List A). TakenSoFar whole count rows behind (taken + 1)) (sym is) (
-        one_more whole count rows left row behind (omega (arith, fewer, so_far.1)) so_far.0 leads,
+      → longer ≡ rows ++ row ∷ [] → TakenSoFar whole count rows left taken → Leads left row beyond
+      → TakenSoFar whole count longer beyond (taken + 1)
+  one_more_so_far whole count rows longer left row beyond taken fewer is so_far leads =
+      subst (λ (rows : List A). TakenSoFar whole count rows beyond (taken + 1)) (sym is) (
+        one_more whole count rows left row beyond (omega (arith, fewer, so_far.1)) so_far.0 leads,
         omega (arith, length-append rows (row ∷ []), so_far.1),
       )
 

@@ -39,11 +39,11 @@ pub(crate) fn take_rows<T: Encoded>(
     let mut rows = Vec::new(alloc);
     let mut rest = bytes;
     for _ in 0..count {
-        let Some((row, behind)) = T::take(alloc, rest)? else {
+        let Some((row, beyond)) = T::take(alloc, rest)? else {
             return Ok(None);
         };
         rows.push(row)?;
-        rest = behind;
+        rest = beyond;
     }
     Ok(Some((Sequence::new(rows), rest)))
 }
@@ -64,9 +64,9 @@ pub(crate) fn push_rows<T: Encoded>(out: &mut Vec<u8>, rows: &[T]) -> Result<(),
     ensures { OnOk result (out.new.items ≡ out.old.items ++ flat_map T.encoding rows.now) }
 {
     let mut rest = rows;
-    while let Some((row, behind)) = rest.split_first() {
+    while let Some((row, beyond)) = rest.split_first() {
         row.push(out)?;
-        rest = behind;
+        rest = beyond;
     }
     Ok(())
 }

@@ -117,11 +117,11 @@ impl Encoded for CarriedRight {
 
 /// What stands after ten zeros, which encode that there is no right for a reply.
 fn after_no_reply(bytes: &[u8]) -> Option<&[u8]>
-    ensures found { IfSome result (λ behind. bytes.now ≡ 0 ∷ (0 ∷ (long_word 0 ++ behind.now))) }
-    ensures none { IfNone result ((behind : List ℕ) → bytes.now ≡ 0 ∷ (0 ∷ (long_word 0 ++ behind)) → ⊥) }
+    ensures found { IfSome result (λ beyond. bytes.now ≡ 0 ∷ (0 ∷ (long_word 0 ++ beyond.now))) }
+    ensures none { IfNone result ((beyond : List ℕ) → bytes.now ≡ 0 ∷ (0 ∷ (long_word 0 ++ beyond)) → ⊥) }
 {
     match bytes {
-        [0, 0, 0, 0, 0, 0, 0, 0, 0, 0, behind @ ..] => Some(behind),
+        [0, 0, 0, 0, 0, 0, 0, 0, 0, 0, beyond @ ..] => Some(beyond),
         _ => None,
     }
 }
@@ -133,8 +133,8 @@ fn take_reply(bytes: &[u8]) -> Option<(Option<CarriedRight>, &[u8])>
         → bytes.now ≡ reply_right_encoding reply ++ rest
         → IsSomeAnd result (λ r. (r.0 ≡ reply) × (r.1.now ≡ rest)) }
 {
-    if let Some(behind) = after_no_reply(bytes) {
-        return Some((None, behind));
+    if let Some(beyond) = after_no_reply(bytes) {
+        return Some((None, beyond));
     }
     let (right, rest) = take_right(bytes)?;
     Some((Some(right), rest))

@@ -40,10 +40,10 @@ abbrev error_in : Result (Unit {0}) CopyStoreFault → CopyStoreFault
 error_in (Ok done) = copied.Busy
 error_in (Err fault) = fault
 
-pub told_of_list : (fault : ListFault) (reported : StoreFault) (given : CopyStoreFault)
+pub reported_of_list : (fault : ListFault) (reported : StoreFault) (given : CopyStoreFault)
     (result : Result (Unit {0}) CopyStoreFault) → result ≡ Err given → given ≡ of_list fault
     → result ≡ Err (copied.Store reported) → fault ≡ list.Store reported
-told_of_list fault reported given result is of same =
+reported_of_list fault reported given result is of same =
     store_of_list fault reported (sym of ∙ ap error_in (sym is ∙ same))
 
 copy_recovers : (state : State) → HoldsImage 0 (open_image 0 (image_encoding state)) state

@@ -86,7 +86,8 @@ pub fn show<F: Files, W: Write, E: Write>(
     output: &mut W,
     errors: &mut E,
 ) -> u8
-    ensures ended { (end : ShowEnd) × (result ≡ status_of end) × AppendsPart (E.contents errors.old) (E.contents errors.new) (line_of (codes "machls: ") end)
+    ensures ended { (end : ShowEnd) × (result ≡ status_of end)
+        × AppendsPart (E.contents errors.old) (E.contents errors.new) (line_of (codes "machls: ") end)
         × Prints IsSomeListing (option_map (λ texts. length texts.now) words.entry) (W.contents output.old)
         (W.contents output.new) end }
 {
@@ -142,7 +143,8 @@ pub fn show_drawing<F: Files, W: Write, E: Write>(
     output: &mut W,
     errors: &mut E,
 ) -> u8
-    ensures ended { (end : ShowEnd) × (result ≡ status_of end) × AppendsPart (E.contents errors.old) (E.contents errors.new) (line_of (codes "machmap: ") end)
+    ensures ended { (end : ShowEnd) × (result ≡ status_of end)
+        × AppendsPart (E.contents errors.old) (E.contents errors.new) (line_of (codes "machmap: ") end)
         × Prints IsSomeDrawing (option_map (λ texts. length texts.now) words.entry) (W.contents output.old)
         (W.contents output.new) end }
 {

@@ -83,7 +83,8 @@ new_port_kept old lawful acyclic few next =
             λ (serial : ℕ) (port : PortState) (at : _). elim (number_decided serial old.next)
             as (λ _. (0 < serial) × (serial < old.next + 1) × LawfulPort port) [
               | inl apart ↦
-                  let before = lawful.ports serial port (sym (get-there old.ports old.next new_port serial apart) ∙ at) in
+                  let before = lawful.ports serial port (sym (get-there old.ports old.next new_port serial apart)
+                  ∙ at) in
                   (before.0, omega (arith, before.1), before.2)
               | inr same ↦
                   let is : new_port ≡ port =
@@ -322,7 +323,8 @@ allocated_kept old space names which name lawful acyclic there unused room ports
     → Kept (if b then record (with_names old space
     (finmap.insert names name (if b then receive_entry old.next else other_entry which)))
     { ports = finmap.insert old.ports old.next new_port; next = old.next + 1 }
-    else with_names old space (finmap.insert names name (if b then receive_entry old.next else other_entry which))) []) [
+    else with_names old space (finmap.insert names name (if b then receive_entry old.next else other_entry which)))
+    []) [
       | true ↦ λ (free : _).
           let both = neither (nat_le MAX_PORTS (finmap.len old.ports)) (old.next == 2 ^ 64 - 1) free in
           receive_kept old space name names lawful acyclic there unused few

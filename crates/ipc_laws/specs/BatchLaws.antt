@@ -53,10 +53,10 @@ unfolding record_encoding
 length-record_encoding n entry =
     let calls = frame_encoding (call_encoding (canonical_call entry.call)) in
     let replies = frame_encoding (reply_encoding entry.reply) in
-    let behind = word entry.space ++ (calls ++ replies) in
+    let beyond = word entry.space ++ (calls ++ replies) in
     omega (
       arith,
-      length-append (long_word n) behind,
+      length-append (long_word n) beyond,
       length-append (word entry.space) (calls ++ replies),
       length-append calls replies,
       length-long_word n,
@@ -142,11 +142,11 @@ same_encoding n (a ∷ more) (b ∷ more_too) x y closed closed_too are are_too 
     (are_records-front a (all_records more) are) (are_records-front b (all_records more_too) are_too) (omega arith)
     (omega arith) whole in
     let counts : length a ≡ length b = ap length first.0 in
-    let behind : batches_encoding (n + length a) more ++ x ≡ batches_encoding (n + length a) more_too ++ y =
+    let beyond : batches_encoding (n + length a) more ++ x ≡ batches_encoding (n + length a) more_too ++ y =
     first.1 ∙ ap (λ k. batches_encoding (n + k) more_too ++ y) (sym counts) in
     let others =
     same_encoding (n + length a) more more_too x y closed closed_too (are_records-back a (all_records more) are)
-    (are_records-back b (all_records more_too) are_too) (omega arith) (omega arith) behind in
+    (are_records-back b (all_records more_too) are_too) (omega arith) (omega arith) beyond in
     ((λ i. first.0 i ++ others.0 i), others.1)
 
 -- Bytes after a segment's header encode at most one list of records.

@@ -124,11 +124,11 @@ changed_leaves : (state : State) (serial : ℕ) (change : PortState → PortStat
 changed_leaves state serial change port there less none q dead =
     changed_none q state serial change port there (none q (dead_before state serial q change dead)) (less (any_of q))
 
-told_leaves : (state : State) (serial : ℕ) (port : PortState) (target : Option ℕ)
+no_senders_leaves : (state : State) (serial : ℕ) (port : PortState) (target : Option ℕ)
     → finmap.get state.ports serial ≡ Some port → NoneDangles state
     → NoneDangles (notified_no_senders state serial port target)
-told_leaves state serial port None there none = none
-told_leaves state serial port (Some target) there none =
+no_senders_leaves state serial port None there none = none
+no_senders_leaves state serial port (Some target) there none =
     notified_leaves (with_port state serial (λ (p : PortState). record p { no_senders_target = None })) target
     (notice.NoSenders port.make_send_count) tt
     (changed_leaves state serial (λ (p : PortState). record p { no_senders_target = None }) port there
@@ -434,7 +434,7 @@ release_leaves state serial port kind.Send there none =
     elim (send_count state serial == 0)
     as (λ (b : Bool). NoneDangles (if b then notified_no_senders state serial port port.no_senders_target
     else state)) [
-      | true ↦ told_leaves state serial port port.no_senders_target there none
+      | true ↦ no_senders_leaves state serial port port.no_senders_target there none
       | false ↦ none
     ]
 release_leaves state serial port kind.SendOnce there none = notified_leaves state serial notice.SendOnce tt none

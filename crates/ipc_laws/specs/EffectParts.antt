@@ -396,10 +396,10 @@ dead_parts state serial none parts = record {
 
 -- one effect
 
-told_parts : (state : State) (serial : ℕ) (port : PortState) (target : Option ℕ) → Parts state
+no_senders_parts : (state : State) (serial : ℕ) (port : PortState) (target : Option ℕ) → Parts state
     → Parts (notified_no_senders state serial port target)
-told_parts state serial port None parts = parts
-told_parts state serial port (Some target) parts =
+no_senders_parts state serial port None parts = parts
+no_senders_parts state serial port (Some target) parts =
     notified_parts (with_port state serial (λ (p : PortState). record p { no_senders_target = None })) target
     (notice.NoSenders port.make_send_count)
     (any_changed_parts state serial (λ (p : PortState). record p { no_senders_target = None })
@@ -435,7 +435,7 @@ release_parts : (state : State) (serial : ℕ) (port : PortState) (what : RightK
 release_parts state serial port kind.Send none parts =
     elim (send_count state serial == 0)
     as (λ (b : Bool). Parts (if b then notified_no_senders state serial port port.no_senders_target else state))
-    [ true ↦ told_parts state serial port port.no_senders_target parts | false ↦ parts ]
+    [ true ↦ no_senders_parts state serial port port.no_senders_target parts | false ↦ parts ]
 release_parts state serial port kind.SendOnce none parts = notified_parts state serial notice.SendOnce parts
 release_parts state serial port kind.Receive none parts =
     receive_parts state serial port port.port_destroyed_target (none refl) parts

@@ -125,10 +125,10 @@ notified_acyclic state target what waits acyclic =
       | inr new ↦ absurd (notice_edges inner target what waits new.1)
     ]) acyclic
 
-told_acyclic : (state : State) (serial : ℕ) (port : PortState) (target : Option ℕ) → Acyclic state
+no_senders_acyclic : (state : State) (serial : ℕ) (port : PortState) (target : Option ℕ) → Acyclic state
     → Acyclic (notified_no_senders state serial port target)
-told_acyclic state serial port None acyclic = acyclic
-told_acyclic state serial port (Some target) acyclic =
+no_senders_acyclic state serial port None acyclic = acyclic
+no_senders_acyclic state serial port (Some target) acyclic =
     let change : PortState → PortState = λ p. record p { no_senders_target = None } in
     notified_acyclic (with_port state serial change) target (notice.NoSenders port.make_send_count) tt
     (fewer_edges state (with_port state serial change)
@@ -376,7 +376,7 @@ released_acyclic : (state : State) (serial : ℕ) (port : PortState) (what : Rig
 released_acyclic state serial port kind.Send once acyclic =
     elim (send_count state serial == 0)
     as (λ (b : Bool). Acyclic (if b then notified_no_senders state serial port port.no_senders_target else state))
-    [ true ↦ told_acyclic state serial port port.no_senders_target acyclic | false ↦ acyclic ]
+    [ true ↦ no_senders_acyclic state serial port port.no_senders_target acyclic | false ↦ acyclic ]
 released_acyclic state serial port kind.SendOnce once acyclic = notified_acyclic state serial notice.SendOnce tt acyclic
 released_acyclic state serial port kind.Receive once acyclic =
     receive_acyclic state serial port port.port_destroyed_target once acyclic

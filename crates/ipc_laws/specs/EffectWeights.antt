@@ -92,11 +92,11 @@ queued_receive q state serial message none =
       | Some port ↦ λ (there : _). omega (arith, none, queued_weigh (receive_of q) state serial port message there)
     ] refl
 
-told_receive : (q : ℕ) (state : State) (serial : ℕ) (port : PortState) (target : Option ℕ)
+no_senders_receive : (q : ℕ) (state : State) (serial : ℕ) (port : PortState) (target : Option ℕ)
     → finmap.get state.ports serial ≡ Some port
     → state_weigh (receive_of q) (notified_no_senders state serial port target) ≡ state_weigh (receive_of q) state
-told_receive q state serial port None there = refl
-told_receive q state serial port (Some target) there =
+no_senders_receive q state serial port None there = refl
+no_senders_receive q state serial port (Some target) there =
     let taken : State = with_port state serial (λ (p : PortState). record p { no_senders_target = None }) in
     omega (
       arith,
@@ -404,7 +404,7 @@ released_receive q state serial port kind.Send there live =
     as (λ (b : Bool). state_weigh (receive_of q)
     (if b then notified_no_senders state serial port port.no_senders_target else state) + 0
     ≡ state_weigh (receive_of q) state + 0) [
-      | true ↦ omega (arith, told_receive q state serial port port.no_senders_target there)
+      | true ↦ omega (arith, no_senders_receive q state serial port port.no_senders_target there)
       | false ↦ refl
     ]
 released_receive q state serial port kind.SendOnce there live =

@@ -207,10 +207,10 @@ notified_members state target what effects members =
     port_members state target (λ (p : PortState). record p { messages = p.messages ++ notice_message what ∷ [] })
     effects (λ (p : PortState). refl) members
 
-told_members : (state : State) (serial : ℕ) (port : PortState) (target : Option ℕ) (effects : List Effect)
+no_senders_members : (state : State) (serial : ℕ) (port : PortState) (target : Option ℕ) (effects : List Effect)
     → Members state effects → Members (notified_no_senders state serial port target) effects
-told_members state serial port None effects members = members
-told_members state serial port (Some target) effects members =
+no_senders_members state serial port None effects members = members
+no_senders_members state serial port (Some target) effects members =
     notified_members (with_port state serial (λ (p : PortState). record p { no_senders_target = None })) target
     (notice.NoSenders port.make_send_count) effects
     (port_members state serial (λ (p : PortState). record p { no_senders_target = None }) effects
@@ -357,7 +357,7 @@ released_members state serial port kind.Send rest there members =
     elim (send_count state serial == 0)
     as (λ (b : Bool). Members (if b then notified_no_senders state serial port port.no_senders_target else state)
     rest) [
-      | true ↦ told_members state serial port port.no_senders_target rest
+      | true ↦ no_senders_members state serial port port.no_senders_target rest
           (without_first state (release kind.Send serial) rest
           (λ (s : ℕ) (e : _). send_is_not_receive serial s e) members)
       | false ↦ without_first state (release kind.Send serial) rest

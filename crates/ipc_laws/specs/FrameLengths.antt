@@ -321,10 +321,10 @@ arguments_within call.SpaceDestroy port = omega (arith, one_word SPACE_DESTROY)
 pub send_length : (message : List ℕ) → length (call_encoding (call.Send message)) ≡ 20 + length message
 unfolding call_encoding
 send_length message =
-    let behind : List ℕ = word 0 ++ (word 0 ++ message) in
+    let beyond : List ℕ = word 0 ++ (word 0 ++ message) in
     omega (
       arith,
-      three_more MACH_MSG 1 0 behind,
+      three_more MACH_MSG 1 0 beyond,
       length-append (word 0) (word 0 ++ message),
       length-append (word 0) message,
       length-word 0,

@@ -8,7 +8,7 @@ use Rattle.ipc_model.specs.declared.call.Reply.{Reply}
 use Rattle.ipc_model.specs.declared.record.Record.{Record}
 use Rattle.ipc_model.specs.calls.Step.{Run, has_record}
 use Rattle.ipc_model.specs.state.State.{State}
-use Rattle.ipc_model.specs.history.History.{Session, Operation, called, redeemed, redeemed_for_another, looked, IsAnswered, IsTold, Leads, After, AfterAll, IsNew, Legal, Meet}
+use Rattle.ipc_model.specs.history.History.{Session, Operation, called, redeemed, redeemed_for_another, looked, IsAnswered, IsAcknowledgedUpTo, Leads, After, AfterAll, IsNew, Legal, Meet}
 
 -- places ascend, from a least one on, and lie below a number
 abbrev pub AscendWithin : ℕ → ℕ → List ℕ → Type 0
@@ -34,9 +34,9 @@ pub record IsInOrder (history : List Record) (session : Session) : Type 0 where
   pub acknowledged : session.acknowledged ≤ session.seen
   pub places : AscendWithin 0 session.seen session.places
 
-told_order : (history : List Record) (old : Session) (seen : ℕ) (new : Session) → old.seen ≤ new.seen
-    → new.seen ≤ length history → IsTold old seen new → IsInOrder history old → IsInOrder history new
-told_order history old seen new more within acknowledged order =
+acknowledged_order : (history : List Record) (old : Session) (seen : ℕ) (new : Session) → old.seen ≤ new.seen
+    → new.seen ≤ length history → IsAcknowledgedUpTo old seen new → IsInOrder history old → IsInOrder history new
+acknowledged_order history old seen new more within acknowledged order =
     subst (IsInOrder history) (sym acknowledged.1)
     (record {
       seen = within;
@@ -61,9 +61,9 @@ led_order base history old (called c answer) new more within (inr is) order =
       places = ascend_further 0 old.seen new.seen old.places more order.places;
     })
 led_order base history old (redeemed seen) new more within led order =
-    told_order history old seen new more within led.1 order
+    acknowledged_order history old seen new more within led.1 order
 led_order base history old (redeemed_for_another seen) new more within led order =
-    told_order history old seen new more within led order
+    acknowledged_order history old seen new more within led order
 led_order base history old looked new more within led order =
     subst (IsInOrder history) (sym led)
     (record {

@@ -175,12 +175,12 @@ finds_short type_name bits number content rest fits =
 -- A long descriptor is read back.
 
 abbrev long_encoding : ℕ → ℕ → ℕ → List ℕ → List ℕ
-long_encoding type_name bits number behind =
-    word (2 ^ 28 + 2 ^ 29) ++ (little_bytes 2 type_name ++ (little_bytes 2 bits ++ (word number ++ behind)))
+long_encoding type_name bits number beyond =
+    word (2 ^ 28 + 2 ^ 29) ++ (little_bytes 2 type_name ++ (little_bytes 2 bits ++ (word number ++ beyond)))
 
-long_length : (type_name bits number : ℕ) (behind : List ℕ)
-    → length (long_encoding type_name bits number behind) ≡ 12 + length behind
-long_length type_name bits number behind = omega arith
+long_length : (type_name bits number : ℕ) (beyond : List ℕ)
+    → length (long_encoding type_name bits number beyond) ≡ 12 + length beyond
+long_length type_name bits number beyond = omega arith
 
 finds_long : (type_name bits number : ℕ) (content rest : List ℕ)
     → IsItem (record { type_name = type_name; bits = bits; number = number; is_long = true; content = content })

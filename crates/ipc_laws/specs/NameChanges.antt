@@ -57,7 +57,8 @@ one_space state space other after names at =
       | inr same ↦ inl (
         same,
         some_same after names
-            (sym (get-here state.spaces space after) ∙ ap (finmap.get (finmap.insert state.spaces space after)) (sym same)
+            (sym (get-here state.spaces space after) ∙ ap (finmap.get (finmap.insert state.spaces space after))
+            (sym same)
             ∙ at),
       )
     ]

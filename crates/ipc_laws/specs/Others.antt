@@ -101,8 +101,8 @@ fades_later : (live later : ℕ → Bool) (before after : Entry) → Fewer live 
 fades_later live later before after fewer (inl same) = inl same
 fades_later live later before after fewer (inr (inl turned)) =
     inr (inl (turned.0, turned.1, fewer turned.0 turned.2, turned.3, turned.4))
-fades_later live later before after fewer (inr (inr untold)) =
-    inr (inr (untold.0, untold.1, fewer untold.0 untold.2, untold.3))
+fades_later live later before after fewer (inr (inr waits)) =
+    inr (inr (waits.0, waits.1, fewer waits.0 waits.2, waits.3))
 
 fades_at_on : (live later : ℕ → Bool) (before mid after : Option Entry) → Fewer live later → FadesAt live before mid
     → FadesAt later mid after → FadesAt later before after
@@ -317,10 +317,10 @@ notice_goes state target what =
     port_changes state target
     (λ (port : PortState). record port { messages = port.messages ++ notice_message what ∷ [] })
 
-told : (state : State) (serial : ℕ) (port : PortState) (target : Option ℕ)
+no_senders_passes : (state : State) (serial : ℕ) (port : PortState) (target : Option ℕ)
     → Passing state (notified_no_senders state serial port target)
-told state serial port None = nothing_passes state
-told state serial port (Some target) =
+no_senders_passes state serial port None = nothing_passes state
+no_senders_passes state serial port (Some target) =
     passing_on _ _ _ (port_changes state serial _) (notice_goes _ target (notice.NoSenders port.make_send_count))
 
 choose : (old one other : State) (b : Bool) → Passing old one → Passing old other
@@ -346,7 +346,7 @@ release_passes : (state : State) (serial : ℕ) (port : PortState) (kind : Right
     → Passing state (released state serial port kind).0
 release_passes state serial port kind.Send =
     choose state (notified_no_senders state serial port port.no_senders_target) state (send_count state serial == 0)
-    (told state serial port port.no_senders_target) (nothing_passes state)
+    (no_senders_passes state serial port port.no_senders_target) (nothing_passes state)
 release_passes state serial port kind.SendOnce = notice_goes state serial notice.SendOnce
 release_passes state serial port kind.Receive = receive_passes state serial port port.port_destroyed_target
 

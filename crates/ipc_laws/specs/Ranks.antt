@@ -55,7 +55,8 @@ finds_one {X = X} test (y ∷ es) k x passes there =
           as (λ (b : Bool). eq_by_cmp nat_cmp k y.0 ≡ b → cond b (Some y.1) (finmap.find nat_cmp k es) ≡ Some x
           → (e : ℕ × X) × (find test es ≡ Some e)) [
             | true ↦ λ (tie : _) (same : _). absurd
-                (cc (sym (passes y.0 (sym (key_is k y.0 tie))) ∙ ap (λ (v : X). test (y.0, v)) (sym (some_same y.1 x same))
+                (cc (sym (passes y.0 (sym (key_is k y.0 tie))) ∙ ap (λ (v : X). test (y.0, v))
+                (sym (some_same y.1 x same))
                 ∙ is))
             | false ↦ λ (tie : _) (later : _). finds_one test es k x passes later
           ] refl there

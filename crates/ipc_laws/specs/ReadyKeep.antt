@@ -164,7 +164,8 @@ as_many item =
       | None ↦ λ (none : _). ap length (no_kinds item none)
           ∙ sym (ap (λ (b : Bool). length (if b then words_of item.number item.content else []))
           ((kinds_of_type item.type_name).none none))
-      | Some by ↦ λ (known : _). ap length (stored_kinds item by known) ∙ length-replicate item.number (received_kind by)
+      | Some by ↦ λ (known : _). ap length (stored_kinds item by known)
+          ∙ length-replicate item.number (received_kind by)
           ∙ sym (names_long item ((kinds_of_type item.type_name).some by known).0)
     ] refl
 
@@ -241,7 +242,7 @@ looked_at bytes items body any =
 ports_of_body : (bytes : List ℕ) (items : List Item) (rights : List CarriedRight) → BodyItems bytes items
     → kinds rights ≡ flat_map kinds_of_item (map as_stored items) → sending.ports_in items ≤ MAX_MESSAGE_PORTS
     → MatchBool (list_any is_port_item items) (HoldsPorts (kept_body bytes items) rights) (rights ≡ [])
-ports_of_body bytes items rights body told few =
+ports_of_body bytes items rights body reported few =
     elim (list_any is_port_item items)
     as (λ (b : Bool). list_any is_port_item items ≡ b
     → MatchBool b (HoldsPorts (kept_body bytes items) rights) (rights ≡ [])) [
@@ -254,15 +255,22 @@ ports_of_body bytes items rights body told few =
             tiled = ap items_of encoding ∙ items_back (map as_stored items) (stored_fit items body.fit);
             has_port = (has.item, has.among, has.port);
             stored = all_stored items body.fit;
-            kinds = told;
+            kinds = reported;
             few =
-                omega (arith, few, all_as_many items, ap length told, length-map rights (λ (r : CarriedRight). r.kind));
+                omega (
+                  arith,
+                  few,
+                  all_as_many items,
+                  ap length reported,
+                  length-map rights
+                      (λ (r : CarriedRight). r.kind),
+                );
           }
       | false ↦ λ (none : _). nil_from_length rights
           (omega (
             arith,
             length-map rights (λ (r : CarriedRight). r.kind),
-            ap length told,
+            ap length reported,
             ap length (no_port_kinds items none),
           ))
     ] refl

@@ -112,12 +112,13 @@ pub length-words-take : (n : ℕ) (names : List ℕ) → n ≤ length names → 
 length-words-take n names fits = length-words (take n names) ∙ ap (λ k. 4 * k) (length-take-le n names fits)
 
 -- Items with names filled in determine the names.
-names_told : (items : List Item) (one other : List ℕ) → length one ≡ port_count items → length other ≡ port_count items
+names_reported : (items : List Item) (one other : List ℕ) → length one ≡ port_count items → length other
+    ≡ port_count items
     → items_encoding (filled items one) ≡ items_encoding (filled items other)
     → flat_map word one ≡ flat_map word other
 unfolding port_count
-names_told [] one other many as_many e = ap (flat_map word) (no_names one many ∙ sym (no_names other as_many))
-names_told (item ∷ items) one other many as_many e =
+names_reported [] one other many as_many e = ap (flat_map word) (no_names one many ∙ sym (no_names other as_many))
+names_reported (item ∷ items) one other many as_many e =
     elim (is_port_item item) as (λ (b : Bool).
     length one ≡ (elim b as (λ _. ℕ) [ true ↦ item.number | false ↦ 0 ]) + port_count items
     → length other ≡ (elim b as (λ _. ℕ) [ true ↦ item.number | false ↦ 0 ]) + port_count items
@@ -126,7 +127,7 @@ names_told (item ∷ items) one other many as_many e =
     ≡ items_encoding (if b then record item { content = flat_map word (take item.number other) } ∷ filled items
     (drop item.number other) else item ∷ filled items other)
     → flat_map word one ≡ flat_map word other) [
-      | false ↦ λ (here : _) (there : _) (is : _). names_told items one other (omega (arith, here))
+      | false ↦ λ (here : _) (there : _) (is : _). names_reported items one other (omega (arith, here))
           (omega (arith, there)) (append_cancel_left (item_encoding item) _ _ is)
       | true ↦ λ (here : _) (there : _) (is : _).
           let n : ℕ = item.number in
@@ -139,7 +140,7 @@ names_told (item ∷ items) one other many as_many e =
           length-words-take n one (omega (arith, here)) ∙ sym (length-words-take n other (omega (arith, there))) in
           let first : flat_map word (take n one) ≡ flat_map word (take n other) = same_front _ _ _ _ long joined in
           let rest : flat_map word (drop n one) ≡ flat_map word (drop n other) =
-          names_told items (drop n one) (drop n other) (omega (arith, here, length-drop n one))
+          names_reported items (drop n one) (drop n other) (omega (arith, here, length-drop n one))
           (omega (arith, there, length-drop n other))
           (same_back (flat_map word (take n one)) (flat_map word (take n other)) _ _ long joined) in
           words-take-drop n one ∙ (λ i. first i ++ rest i) ∙ sym (words-take-drop n other)
@@ -163,26 +164,26 @@ length-kinds (item ∷ items) =
     ]
 
 -- the names of a lawful message's body, as many as its ports, are determined by the body as received
-body_told : (message : Message) (one other : List ℕ) → HoldsPorts message.body message.rights
+body_reported : (message : Message) (one other : List ℕ) → HoldsPorts message.body message.rights
     → length one ≡ length message.rights → length other ≡ length message.rights
     → body_filled (items_of message.body) message.body one ≡ body_filled (items_of message.body) message.body other
     → flat_map word one ≡ flat_map word other
-body_told message one other holds many as_many e =
+body_reported message one other holds many as_many e =
     let counted : length message.rights ≡ port_count holds.items =
     sym (length-map message.rights (λ (r : CarriedRight). r.kind)) ∙ ap length holds.kinds ∙ length-kinds holds.items in
-    names_told holds.items one other (many ∙ counted) (as_many ∙ counted)
+    names_reported holds.items one other (many ∙ counted) (as_many ∙ counted)
     (subst (λ (items : Result (List Item) KernReturn). body_filled items message.body one
     ≡ body_filled items message.body other) holds.tiled e)
 
-bodies_told : (message : Message) (one other : List ℕ) → LawfulMessage message → length one ≡ length message.rights
+bodies_reported : (message : Message) (one other : List ℕ) → LawfulMessage message → length one ≡ length message.rights
     → length other ≡ length message.rights
     → received_body message one ≡ received_body message other → flat_map word one ≡ flat_map word other
-bodies_told message one other lawful many as_many e =
+bodies_reported message one other lawful many as_many e =
     elim message.complex as (λ (b : Bool). MatchBool b (HoldsPorts message.body message.rights) (message.rights ≡ [])
     → (if b then body_filled (items_of message.body) message.body one else message.body)
     ≡ (if b then body_filled (items_of message.body) message.body other else message.body)
     → flat_map word one ≡ flat_map word other) [
-      | true ↦ λ (ports : _) (is : _). body_told message one other ports many as_many is
+      | true ↦ λ (ports : _) (is : _). body_reported message one other ports many as_many is
       | false ↦ λ (ports : _) (is : _). ap (flat_map word)
           (no_names one (many ∙ ap length ports) ∙ sym (no_names other (as_many ∙ ap length ports)))
     ] lawful.ports e
@@ -222,16 +223,16 @@ with_reply : (message : Message) (right : CarriedRight) (one other : List ℕ) �
 with_reply message right [] other lawful long as_long name body = absurd (omega (arith, long))
 with_reply message right (first ∷ one) [] lawful long as_long name body = absurd (omega (arith, as_long))
 with_reply message right (first ∷ one) (second ∷ other) lawful long as_long name body =
-    let behind : flat_map word one ≡ flat_map word other =
-    bodies_told message one other lawful (omega (arith, long)) (omega (arith, as_long)) body in
-    λ i. name i ++ behind i
+    let beyond : flat_map word one ≡ flat_map word other =
+    bodies_reported message one other lawful (omega (arith, long)) (omega (arith, as_long)) body in
+    λ i. name i ++ beyond i
 
 -- The received bytes of a lawful message determine the words of all names that its rights got.
-pub encoding_told : (message : Message) (member seqno : ℕ) (one other : List ℕ) → LawfulMessage message
+pub encoding_reported : (message : Message) (member seqno : ℕ) (one other : List ℕ) → LawfulMessage message
     → length one ≡ length (arriving message) → length other ≡ length (arriving message)
     → received_encoding message member seqno one ≡ received_encoding message member seqno other
     → flat_map word one ≡ flat_map word other
-encoding_told message member seqno one other lawful many as_many e =
+encoding_reported message member seqno one other lawful many as_many e =
     elim message.reply as (λ (r : Option CarriedRight). length one ≡ length (reply_right r ++ message.rights)
     → length other ≡ length (reply_right r ++ message.rights)
     → message_encoding (received_bits message) (reply_name r one) member seqno message.id
@@ -240,7 +241,7 @@ encoding_told message member seqno one other lawful many as_many e =
     (received_body message (body_names r other))
     → flat_map word one ≡ flat_map word other) [
       | None ↦ λ (long : _) (as_long : _) (is : _).
-          bodies_told message one other lawful long as_long
+          bodies_reported message one other lawful long as_long
           (same_encoding _ (reply_name None one) member seqno message.id _
           (reply_name None other) member seqno message.id _ _ is).same_body
       | Some right ↦ λ (long : _) (as_long : _) (is : _).

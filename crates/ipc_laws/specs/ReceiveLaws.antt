@@ -13,7 +13,7 @@ use Rattle.ipc_model.specs.effects.Effects.{Effect}
 use Rattle.ipc_model.specs.state.Lawful.{LawfulMessage}
 use Rattle.ipc_laws.specs.LawfulLaws.{LawfulAtRest}
 use Rattle.ipc_laws.specs.ListLaws.{some_same}
-use Rattle.ipc_laws.specs.ReceiveArgumentLaws.{one_arrival, one_choice, as_many_names, encoding_told}
+use Rattle.ipc_laws.specs.ReceiveArgumentLaws.{one_arrival, one_choice, as_many_names, encoding_reported}
 use Rattle.ipc_model.specs.messages.Receiving.{ReceiveArguments, Receives, TakesMessage, TakesOut, TooLarge, Received, HoldsReceiveRight, received_encoding, receive_refusal, lacks_names, message_size, arriving, without_message, without_oldest}
 use Rattle.ipc_model.specs.rights.CopyOut.{Arrives}
 use Rattle.ipc_model.specs.state.State.{State, Names, received_port, with_names}
@@ -98,7 +98,7 @@ same_received old space names member serial port message answer one other effect
     let encodings : received_encoding message member port.sequence_number here.0
     ≡ received_encoding message member port.sequence_number there.0 = ap message_shown (sym here.3 ∙ there.3) in
     let given : here.0 ≡ there.0 = one_choice names (arriving message) here.0 there.0 here.1 there.1 here.2 there.2
-    (encoding_told message member port.sequence_number here.0 there.0 lawful
+    (encoding_reported message member port.sequence_number here.0 there.0 lawful
     (as_many_names names (arriving message) here.0 here.1 here.2)
     (as_many_names names (arriving message) there.0 there.1 there.2) encodings) in
     let after : here.1 ≡ there.1 =

@@ -80,7 +80,8 @@ pub body_long : (message : Message) (names : List ℕ) → LawfulMessage message
     → length (received_body message names) ≡ length message.body
 body_long message names lawful many =
     elim message.complex as (λ (b : Bool). MatchBool b (HoldsPorts message.body message.rights) (message.rights ≡ [])
-    → length (if b then body_filled (items_of message.body) message.body names else message.body) ≡ length message.body) [
+    → length (if b then body_filled (items_of message.body) message.body names else message.body)
+    ≡ length message.body) [
       | true ↦ λ (ports : _). ports_long message names lawful ports many
       | false ↦ λ (_ : _). refl
     ] lawful.ports
@@ -186,15 +187,15 @@ refusals_none old names arguments =
     ]
 
 -- the message of a receive is lawful, and the name of its port is one that may be reported
-record Told (message : Message) (member : ℕ) : Type 0 where
+record Reportable (message : Message) (member : ℕ) : Type 0 where
   lawful : LawfulMessage message
   named : (MACH_PORT_NULL < member) × (member < MACH_PORT_DEAD)
 
 destroyed_done : (old : State) (member serial : ℕ) (arguments : ReceiveArguments) (message : Message) (answer : Reply)
-    (new : State) (effects : List Effect) → Told message member
+    (new : State) (effects : List Effect) → Reportable message member
     → nat_lt arguments.limit (message_size message) ≡ true
     → TooLarge old member serial message arguments.large answer new effects → ReceiveDone arguments answer
-destroyed_done old member serial arguments message answer new effects told larger large =
+destroyed_done old member serial arguments message answer new effects reportable larger large =
     record {
       code = RcvTooLarge;
       size = message_size message;
@@ -202,22 +203,22 @@ destroyed_done old member serial arguments message answer new effects told large
       message = [];
       answer_is = large_answer old member serial message arguments.large answer new effects large;
       brings = (
-        (omega arith, told.lawful.small, told.lawful.whole_words),
-        told.named.0,
-        told.named.1,
+        (omega arith, reportable.lawful.small, reportable.lawful.whole_words),
+        reportable.named.0,
+        reportable.named.1,
         (ltb-true arguments.limit (message_size message) larger, refl),
       );
       small = omega arith;
     }
 
 brought_done : (old : State) (space member serial : ℕ) (names : Names) (arguments : ReceiveArguments) (port : PortState)
-    (message : Message) (answer : Reply) (new : State) (effects : List Effect) → Told message member
+    (message : Message) (answer : Reply) (new : State) (effects : List Effect) → Reportable message member
     → nat_lt arguments.limit (message_size message) ≡ false
     → Received old space names member serial port message answer new effects → ReceiveDone arguments answer
-brought_done old space member serial names arguments port message answer new effects told within
+brought_done old space member serial names arguments port message answer new effects reportable within
     (given, after, arrives, shown, same, are) =
     let long =
-    received_long message member port.sequence_number given told.lawful
+    received_long message member port.sequence_number given reportable.lawful
     (as_many_names names (arriving message) given after arrives) in
     record {
       code = Success;
@@ -226,19 +227,19 @@ brought_done old space member serial names arguments port message answer new eff
       message = received_encoding message member port.sequence_number given;
       answer_is = shown;
       brings = (
-        (omega arith, told.lawful.small, told.lawful.whole_words),
-        told.named.0,
-        told.named.1,
+        (omega arith, reportable.lawful.small, reportable.lawful.whole_words),
+        reportable.named.0,
+        reportable.named.1,
         (ltb-false arguments.limit (message_size message) within, long),
       );
-      small = omega (arith, long, told.lawful.small);
+      small = omega (arith, long, reportable.lawful.small);
     }
 
 taken_done : (old : State) (space member serial : ℕ) (names : Names) (arguments : ReceiveArguments) (port : PortState)
-    (message : Message) (answer : Reply) (new : State) (effects : List Effect) → Told message member
+    (message : Message) (answer : Reply) (new : State) (effects : List Effect) → Reportable message member
     → TakesOut old space names arguments member serial port message answer new effects
     → has_record (call_of arguments) answer ≡ true → ReceiveDone arguments answer
-taken_done old space member serial names arguments port message answer new effects told takes recorded =
+taken_done old space member serial names arguments port message answer new effects reportable takes recorded =
     elim (nat_lt arguments.limit (message_size message))
     as (λ (b : Bool). nat_lt arguments.limit (message_size message) ≡ b
     → MatchBool b (TooLarge old member serial message arguments.large answer new effects)
@@ -246,7 +247,8 @@ taken_done old space member serial names arguments port message answer new effec
     ((answer ≡ without_message RcvHeaderErrorSpace 0 MACH_PORT_NULL) × (new ≡ old) × (effects ≡ []))
     (Received old space names member serial port message answer new effects))
     → ReceiveDone arguments answer) [
-      | true ↦ λ (larger : _) (large : _). destroyed_done old member serial arguments message answer new effects told
+      | true ↦ λ (larger : _) (large : _). destroyed_done old member serial arguments message answer new effects
+          reportable
           larger large
       | false ↦ λ (within : _) (here : _). elim (lacks_names names message) as (λ (b : Bool).
           MatchBool b ((answer ≡ without_message RcvHeaderErrorSpace 0 MACH_PORT_NULL) × (new ≡ old) × (effects ≡ []))
@@ -255,7 +257,7 @@ taken_done old space member serial names arguments port message answer new effec
                 (lacking_none arguments.limit arguments.name arguments.large arguments.waited
                 (subst (λ (a : Reply). has_record (call_of arguments) a ≡ true) lacks.0 recorded))
             | false ↦ λ (whole : _). brought_done old space member serial names arguments port message answer new
-                effects told within whole
+                effects reportable within whole
           ] here
     ] refl takes
 

@@ -60,11 +60,11 @@ one_image epoch slot one other first second =
     let whole : (open_gate ∷ image_content epoch (image_encoding one)) ++ first.rest
     ≡ (open_gate ∷ image_content epoch (image_encoding other)) ++ second.rest = sym first.encoding
     ∙ second.encoding in
-    let behind : (long_word (length (image_encoding one)) ++ image_encoding one) ++ first.rest
+    let beyond : (long_word (length (image_encoding one)) ++ image_encoding one) ++ first.rest
     ≡ (long_word (length (image_encoding other)) ++ image_encoding other) ++ second.rest = ap
     (λ (l : List ℕ). drop 16 l) whole in
     let encodings : image_encoding one ++ first.rest ≡ image_encoding other ++ second.rest =
-    ap (λ (l : List ℕ). drop 8 l) behind in
+    ap (λ (l : List ℕ). drop 8 l) beyond in
     (image_once one other first.rest second.rest (lawful_is_encodable one first.lawful first.short)
     (lawful_is_encodable other second.lawful second.short) encodings).0
 

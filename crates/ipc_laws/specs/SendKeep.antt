@@ -421,7 +421,8 @@ reply_sends n name =
     (elim (sending.header_disposition n)
     as (λ (o : Option Disposition). IfSome o
     (λ (disposition : Disposition). received_kind disposition ≢ kind.Receive)
-    → IfOk (and_then (or_refused SendInvalidHeader o) (λ (disposition : Disposition). Ok (Some disposition))) RepliesBy) [
+    → IfOk (and_then (or_refused SendInvalidHeader o) (λ (disposition : Disposition). Ok (Some disposition)))
+    RepliesBy) [
       | None ↦ λ (_ : _). tt
       | Some disposition ↦ λ (sends : _). sends
     ] (header_sends n))

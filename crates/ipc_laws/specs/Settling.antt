@@ -112,11 +112,11 @@ taken_weight state serial port target change what there less =
       queued_weight (with_port state serial change) target (notice_message what),
     )
 
-told_weight : (state : State) (serial : ℕ) (port : PortState) (target : Option ℕ)
+no_senders_weight : (state : State) (serial : ℕ) (port : PortState) (target : Option ℕ)
     → finmap.get state.ports serial ≡ Some port → port.no_senders_target ≡ target
     → state_weight (notified_no_senders state serial port target) ≤ state_weight state
-told_weight state serial port None there is = omega arith
-told_weight state serial port (Some target) there is =
+no_senders_weight state serial port None there is = omega arith
+no_senders_weight state serial port (Some target) there is =
     taken_weight state serial port target
     (λ (p : PortState). record p { no_senders_target = None }) (notice.NoSenders port.make_send_count) there
     (omega (arith, ap one_if_some is))
@@ -127,7 +127,7 @@ send_released_weight state serial port there =
     elim (send_count state serial == 0)
     as (λ (b : Bool). state_weight
     (if b then notified_no_senders state serial port port.no_senders_target else state) ≤ state_weight state) [
-      | true ↦ told_weight state serial port port.no_senders_target there refl
+      | true ↦ no_senders_weight state serial port port.no_senders_target there refl
       | false ↦ omega arith
     ]
 

@@ -73,7 +73,17 @@ alongside_left : (state : State) (space : ℕ) (names : Names) (serial set : ℕ
 alongside_left state space names serial set there none_in
     (other, held_names, name, entry, at_space, at, is, alongside) = elim (number_decided other space)
     as (λ _. IsHeldAlongsideSet (record state { spaces = finmap.remove state.spaces space }) serial set) [
-      | inl apart ↦ (other, held_names, name, entry, get-left state.spaces space other apart ∙ at_space, at, is, alongside)
+      | inl apart ↦ (
+        other,
+        held_names,
+        name,
+        entry,
+        get-left state.spaces space other apart
+            ∙ at_space,
+        at,
+        is,
+        alongside,
+      )
       | inr same ↦
           let same_names : held_names ≡ names =
           some_same held_names names (sym at_space ∙ ap (finmap.get state.spaces) same ∙ there) in

@@ -167,7 +167,8 @@ modify_kept old space name which delta names answer new effects lawful acyclic t
     elim (finmap.get names name) as (λ (o : Option Entry). finmap.get names name ≡ o
     → first_failing ((is_no_right which, InvalidValue) ∷ (is_no_name names name, InvalidName) ∷
     (references_in which o == 0, InvalidRight) ∷ tests_of_delta which (references_in which o) delta) ≡ None
-    → ActsOn o (λ entry. actions.modified old space names name entry which delta) answer new effects → Kept new effects) [
+    → ActsOn o (λ entry. actions.modified old space names name entry which delta) answer new effects
+    → Kept new effects) [
       | None ↦ λ (_ : _) (_ : _) (acts : _). absurd acts
       | Some entry ↦ λ (at : _) (tests : _) (acts : _).
           let last : Tests = tests_of_delta which (references_of which entry) delta in

@@ -417,7 +417,8 @@ entry_taken state hand space name names MoveSend (Port rights) taken mid there a
 entry_taken state hand space name names MoveSendOnce (Port rights) taken mid there at is = absurd (cc is)
 entry_taken state hand space name names CopySend (Port rights) taken mid there at is =
     let whole : Taken = taken_keeping state (record { kind = kind.Send; port = Live rights.port }) in
-    elim (rights.send == 0) as (λ (b : Bool). (if b then None else Some whole) ≡ Some taken → MidTaken space hand taken) [
+    elim (rights.send == 0) as (λ (b : Bool). (if b then None else Some whole) ≡ Some taken
+    → MidTaken space hand taken) [
       | true ↦ λ (e : _). absurd (cc e)
       | false ↦ λ (e : _). same_taken space hand whole taken e
           (take_copy state hand space name names rights mid there at)

@@ -372,7 +372,8 @@ target_for_there state space notify_name disposition =
           as (λ (o : Option Disposition). Confined state
           (actions.taken_target state (option_and_then (copy_in state space notify_name) o)).state space) [
             | None ↦ nothing state space
-            | Some d ↦ target_there state space (copy_in state space notify_name d) (copied_in state space notify_name d)
+            | Some d ↦ target_there state space (copy_in state space notify_name d)
+                (copied_in state space notify_name d)
           ]
     ]
 

@@ -113,7 +113,8 @@ greatest_within n [] within = omega arith
 greatest_within n (ticket ∷ tickets) within =
     elim ticket.answered as (λ (b : Bool). (b ≡ true → ticket.seen ≤ n)
     → (if b then max ticket.seen (greatest_seen tickets) else greatest_seen tickets) ≤ n) [
-      | true ↦ λ (here : _). (let le : ticket.seen ≤ n = here refl in omega (arith, le, greatest_within n tickets within.1))
+      | true ↦ λ (here : _). (let le : ticket.seen ≤ n = here refl in omega
+          (arith, le, greatest_within n tickets within.1))
       | false ↦ λ (_ : _). greatest_within n tickets within.1
     ] within.0
 
@@ -140,7 +141,7 @@ next_fits : (world : World) → InOrder world → world.taken + (next_batch worl
 next_fits world order =
     elim (is_after world) as (λ (b : Bool). is_after world ≡ b
     → world.taken + (batch_if b world).size ≤ length world.applied) [
-      | true ↦ λ (behind : _). omega (arith, order.earlier, ltb-true world.taken world.earlier behind)
+      | true ↦ λ (beyond : _). omega (arith, order.earlier, ltb-true world.taken world.earlier beyond)
       | false ↦ λ (_ : _). omega (arith, order.taken)
     ] refl
 

@@ -111,36 +111,36 @@ two_ways-third_port = simp rows
 
 -- Port 2 has a port-destroyed request, whose target is port 3. Its receive right waits in the queue of port 1, which
 -- dies.
-abbrev pub told_of : PortState
-told_of = record new_port { port_destroyed_target = Some 3 }
+abbrev pub notified_of : PortState
+notified_of = record new_port { port_destroyed_target = Some 3 }
 
-abbrev pub to_be_told : State
-to_be_told =
+abbrev pub to_be_notified : State
+to_be_notified =
     in_space_1 ((0x100, rights_to 3 true 0) ∷ [])
-    ((1, with_queue (carrying 2 ∷ [])) ∷ (2, told_of) ∷ (3, new_port) ∷ [])
+    ((1, with_queue (carrying 2 ∷ [])) ∷ (2, notified_of) ∷ (3, new_port) ∷ [])
 
-pub told-released : (effect to_be_told (release kind.Receive 1)).1 ≡ release kind.Receive 2 ∷ []
+pub notified-released : (effect to_be_notified (release kind.Receive 1)).1 ≡ release kind.Receive 2 ∷ []
 unfolding effect
-told-released = simp rows
+notified-released = simp rows
 
 abbrev pub carrier_dead : State
-carrier_dead = in_space_1 ((0x100, rights_to 3 true 0) ∷ []) ((2, told_of) ∷ (3, new_port) ∷ [])
+carrier_dead = in_space_1 ((0x100, rights_to 3 true 0) ∷ []) ((2, notified_of) ∷ (3, new_port) ∷ [])
 
 -- the receive right goes to port 3 as a notice, and port 2 lives, without the request
-pub told-notice : queue_of (effect carrier_dead (release kind.Receive 2)).0 3
+pub notified-notice : queue_of (effect carrier_dead (release kind.Receive 2)).0 3
     ≡ Some (notice_message (notice.PortDestroyed 2) ∷ [])
 unfolding effect is_circular
-told-notice = simp rows
+notified-notice = simp rows
 
-pub told-lives : finmap.get (effect carrier_dead (release kind.Receive 2)).0.ports 2 ≡ Some new_port
+pub notified-lives : finmap.get (effect carrier_dead (release kind.Receive 2)).0.ports 2 ≡ Some new_port
 unfolding effect is_circular
-told-lives = simp rows
+notified-lives = simp rows
 
-pub told-received : received_encoding (notice_message (notice.PortDestroyed 2)) 0x100 0 (0x101 ∷ [])
+pub notified-received : received_encoding (notice_message (notice.PortDestroyed 2)) 0x100 0 (0x101 ∷ [])
     ≡ 0 ∷ 18 ∷ 0 ∷ 128 ∷ 32 ∷ 0 ∷ 0 ∷ 0 ∷ 0 ∷ 0 ∷ 0 ∷ 0 ∷ 0 ∷ 1 ∷ 0 ∷ 0 ∷ 0 ∷ 0 ∷ 0 ∷ 0 ∷ 69 ∷ 0 ∷ 0 ∷ 0 ∷ 16 ∷ 32 ∷ 1 ∷
     16 ∷ 1 ∷ 1 ∷ 0 ∷ 0 ∷ []
 unfolding items_of
-told-received = refl
+notified-received = refl
 
 -- a request that would bring the right to its own queue: the port dies
 abbrev pub tells_itself : State

@@ -375,7 +375,7 @@ record Batch (bytes : List ℕ) : Type 0 where
   few : length batch ≤ MAX_RECORDS
   later : List (List Record)
   left : List ℕ
-  behind : rest ≡ batches_encoding (0 + length batch) later ++ left
+  beyond : rest ≡ batches_encoding (0 + length batch) later ++ left
   closed : IsClosed left
 
 of_batches : (bytes : List ℕ) (batches : List (List Record)) (rest : List ℕ)
@@ -392,7 +392,7 @@ of_batches bytes (batch ∷ batches) rest encoding closed canonical few = record
   few = omega (arith, few, length-append batch (all_records batches));
   later = batches;
   left = rest;
-  behind = refl;
+  beyond = refl;
   closed = closed;
 }
 
@@ -505,7 +505,7 @@ open_end-damaged = no_batch_damaged (take 52 (drop 17 first_segment) ++ (open_ga
     sym (drop_at (batch_encoding 0 b.batch) b.rest 52
     (omega (arith, length-batch 0 b.batch [], length-append (batch_encoding 0 b.batch) [], counts.1)))
     ∙ sym (ap (λ (l : List ℕ). drop 52 l) b.encoding) in
-    lone_gate (0 + length b.batch) b.later b.left b.closed (sym left ∙ b.behind))
+    lone_gate (0 + length b.batch) b.later b.left b.closed (sym left ∙ b.beyond))
 
 -- Image 5 is the latest, but segment 1 is of epoch 3.
 abbrev pub old_segment : Slots

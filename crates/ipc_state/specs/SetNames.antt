@@ -115,8 +115,8 @@ module _ (state : State) (set : ℕ) (names : Names) (at name : ℕ) (order : at
     below_none (name + 1) q (member_under state set (q, w)) (omega (arith, less)),
   )
 
-  behind : (q : ℕ) (w : Entry) → name < q → f (q, w) ≡ g (q, w)
-  behind q w more =
+  beyond : (q : ℕ) (w : Entry) → name < q → f (q, w) ≡ g (q, w)
+  beyond q w more =
       above_all at q (member_under state set (q, w)) (omega (arith, order, more))
       ∙ sym (above_all (name + 1) q (member_under state set (q, w)) (omega (arith, more)))
 
@@ -124,7 +124,7 @@ module _ (state : State) (set : ℕ) (names : Names) (at name : ℕ) (order : at
   elsewhere absent q w is = elim (nat_lt q name) as (λ (b : Bool). nat_lt q name ≡ b → f (q, w) ≡ g (q, w)) [
     | true ↦ λ (low : _). let both = before q w (ltb-true q name low) is in both.0 ∙ sym both.1
     | false ↦ λ (high : _). elim (nat_lt name q) as (λ (b : Bool). nat_lt name q ≡ b → f (q, w) ≡ g (q, w)) [
-      | true ↦ λ (more : _). behind q w (ltb-true name q more)
+      | true ↦ λ (more : _). beyond q w (ltb-true name q more)
       | false ↦ λ (no_more : _). absurd
           (cc (sym is ∙ ap (finmap.get names) (omega (arith, ltb-false q name high, ltb-false name q no_more))
           ∙ absent))
@@ -142,7 +142,7 @@ module _ (state : State) (set : ℕ) (names : Names) (at name : ℕ) (order : at
           (above_all at name (member_under state set (name, v)) order
           ∙ sym (ap (λ (l : List (ℕ × ℕ)). member_under state set (name, v) ++ l)
           (below_none (name + 1) name (member_under state set (name, v)) (omega arith))
-          ∙ append-nil (member_under state set (name, v)))) before (λ q w more _. behind q w more)
+          ∙ append-nil (member_under state set (name, v)))) before (λ q w more _. beyond q w more)
 
 -- A name whose place isn't listed at the set's place is no member's.
 module _ (spaces : SpaceMap) (table : PortTable) (space set q : ℕ) (e : Entry) where

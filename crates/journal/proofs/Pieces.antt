@@ -17,9 +17,9 @@ whole_begins most front whole encoding content is begins =
     let joined : whole ≡ encoding ++ (content ++ rest) =
     sym (take-append-drop (length front) whole) ∙ ap (λ l. l ++ rest) (sym is.shown ∙ begins)
     ∙ append_assoc encoding content rest in
-    let behind : drop (length encoding) whole ≡ content ++ rest =
+    let beyond : drop (length encoding) whole ≡ content ++ rest =
     ap (drop (length encoding)) joined ∙ drop_at encoding (content ++ rest) (length encoding) refl in
-    joined ∙ ap (λ l. encoding ++ l) (sym behind)
+    joined ∙ ap (λ l. encoding ++ l) (sym beyond)
 
 -- and after that comes the front of what is left
 pub front_after : (most less : ℕ) (front whole encoding content : List ℕ) → IsFrontOf most front whole
@@ -30,11 +30,11 @@ front_after most less front whole encoding content is begins fits =
     let joined : whole ≡ encoding ++ (content ++ rest) =
     sym (take-append-drop (length front) whole) ∙ ap (λ l. l ++ rest) (sym is.shown ∙ begins)
     ∙ append_assoc encoding content rest in
-    let behind : drop (length encoding) whole ≡ content ++ rest =
+    let beyond : drop (length encoding) whole ≡ content ++ rest =
     ap (drop (length encoding)) joined ∙ drop_at encoding (content ++ rest) (length encoding) refl in
     let long : length front ≡ length encoding + length content = ap length begins ∙ length-append encoding content in
     record {
-      shown = sym (take_at content rest (length content) refl) ∙ ap (take (length content)) (sym behind);
+      shown = sym (take_at content rest (length content) refl) ∙ ap (take (length content)) (sym beyond);
       enough = elim is.enough [
         | inl many ↦ inl (omega arith)
         | inr all ↦ inr (sym (drop_at encoding content (length encoding) refl)

@@ -203,10 +203,10 @@ pub record HasNext (bytes : List ℕ) (place : Place) (records : List Record) (e
   pub more : List Record
   pub are : records ≡ first ∷ more
   pub fits : IsRecord first
-  pub behind : List ℕ
-  pub encoding : drop place.at bytes ≡ record_encoding place.number first ++ behind
+  pub beyond : List ℕ
+  pub encoding : drop place.at bytes ≡ record_encoding place.number first ++ beyond
   pub long : length (record_encoding place.number first) ≤ place.size
-  pub others : (at size : ℕ) → drop at bytes ≡ behind → size + length (record_encoding place.number first) ≡ place.size
+  pub others : (at size : ℕ) → drop at bytes ≡ beyond → size + length (record_encoding place.number first) ≡ place.size
       → EncodesFrom bytes (record { at = at; number = place.number + 1; left = place.left - 1; size = size }) more end
 
 next_of : (bytes : List ℕ) (place : Place) (records : List Record) (end : ℕ) (batch : List Record)
@@ -231,16 +231,17 @@ next_of bytes place records end
       more = batch ++ all_records batches;
       are = flat;
       fits = fits.0;
-      behind = records_encoding (n + 1) batch ++ rest;
+      beyond = records_encoding (n + 1) batch ++ rest;
       encoding = encoding ∙ append_assoc (record_encoding n first) (records_encoding (n + 1) batch) rest;
       long = omega arith;
       others =
-          λ (at size : ℕ) (behind : drop at bytes ≡ records_encoding (n + 1) batch ++ rest) (left : size + length (record_encoding n first) ≡ place.size). record {
+          λ (at size : ℕ) (beyond : drop at bytes ≡ records_encoding (n + 1) batch ++ rest)
+          (left : size + length (record_encoding n first) ≡ place.size). record {
             batch = batch;
             batches = batches;
             tail = tail;
             encoding =
-                behind ∙ ap (λ k. records_encoding (n + 1) batch ++ (batches_encoding k batches ++ tail)) (omega arith);
+                beyond ∙ ap (λ k. records_encoding (n + 1) batch ++ (batches_encoding k batches ++ tail)) (omega arith);
             counted = omega arith;
             sized = omega arith;
             closed = closed;
@@ -303,7 +304,7 @@ first_is : (bytes : List ℕ) (old new : Place) (entry : Record) (records : List
 first_is bytes old new entry records end fits room encoding numbered left sized has =
     let n : ℕ = old.number in
     let once =
-    record_once n n has.first entry has.behind (drop new.at bytes) has.fits fits (omega arith) (omega arith)
+    record_once n n has.first entry has.beyond (drop new.at bytes) has.fits fits (omega arith) (omega arith)
     (sym has.encoding ∙ encoding) in
     let place : record { at = new.at; number = n + 1; left = old.left - 1; size = new.size } ≡ new =
     λ i. record { at = new.at; number = sym numbered i; left = sym left i; size = new.size } in (
@@ -335,24 +336,24 @@ shown_at bytes front window old over full same shows =
     (window_front bytes window over full))
 
 -- A record was taken from a window that was full.
-pub taken : (bytes front : List ℕ) (window : WindowValue) (old new : Place) (count size : ℕ) (content behind : List ℕ)
+pub taken : (bytes front : List ℕ) (window : WindowValue) (old new : Place) (count size : ℕ) (content beyond : List ℕ)
     (entry : Record) → IsOver bytes window → IsFull window → old.at ≡ window.at → front ≡ window.front
-    → IsInBatch old.left old.size front count size content → content ≡ record_encoding old.number entry ++ behind
-    → IsRecord entry → old.number < MAX_RECORDS → length content ≤ size + length behind
-    → new.at ≡ old.at + (length front - length behind) → new.number ≡ old.number + 1 → new.left ≡ count - 1
-    → new.size ≡ size - (length content - length behind) → Leads bytes old entry new
-taken bytes front window old new count size content behind entry over full same shows batch encoding fits room within
+    → IsInBatch old.left old.size front count size content → content ≡ record_encoding old.number entry ++ beyond
+    → IsRecord entry → old.number < MAX_RECORDS → length content ≤ size + length beyond
+    → new.at ≡ old.at + (length front - length beyond) → new.number ≡ old.number + 1 → new.left ≡ count - 1
+    → new.size ≡ size - (length content - length beyond) → Leads bytes old entry new
+taken bytes front window old new count size content beyond entry over full same shows batch encoding fits room within
     moved numbered left sized =
     let shown : IsFrontOf LONGEST_STEP front (drop old.at bytes) =
     shown_at bytes front window old over full same shows in
     let into = entered bytes front old count size content shown batch in
     let one : List ℕ = record_encoding old.number entry in
-    let long : length content ≡ length one + length behind = ap length encoding ∙ length-append one behind in
-    let ends : length front - length behind + old.at ≡ into.at + length one = omega (arith, into.moved, into.shorter) in
+    let long : length content ≡ length one + length beyond = ap length encoding ∙ length-append one beyond in
+    let ends : length front - length beyond + old.at ≡ into.at + length one = omega (arith, into.moved, into.shorter) in
     let from : drop (length one) (drop into.at bytes) ≡ drop new.at bytes =
     drop-drop (length one) into.at bytes ∙ ap (λ k. drop k bytes) (omega arith) in
     let whole : drop into.at bytes ≡ one ++ drop new.at bytes =
-    whole_begins longest_record content (drop into.at bytes) one behind into.shown encoding ∙ ap
+    whole_begins longest_record content (drop into.at bytes) one beyond into.shown encoding ∙ ap
     (λ l. one ++ l) from in
     let here : Place = record { at = into.at; number = old.number; left = count; size = size } in
     let on = leads_within bytes here new entry fits room into.some whole numbered left (omega arith) in
@@ -383,7 +384,7 @@ whole_closed most (gate ∷ front) (first ∷ whole) is closed = λ opened. clos
 pub last : (bytes front : List ℕ) (window : WindowValue) (old : Place) → IsOver bytes window → IsFull window
     → old.at ≡ window.at → front ≡ window.front → old.number ≤ MAX_RECORDS → IsAfterBatches old.left old.size front
     → IsLast bytes old
-last bytes front window old over full same shows room behind =
+last bytes front window old over full same shows room beyond =
     let whole : List ℕ = drop old.at bytes in
     let shown : IsFrontOf LONGEST_STEP front whole = shown_at bytes front window old over full same shows in
     record {
@@ -391,9 +392,9 @@ last bytes front window old over full same shows room behind =
       batches = [];
       tail = whole;
       encoding = refl;
-      counted = sym behind.0;
-      sized = sym behind.1;
-      closed = front_closed LONGEST_STEP front whole shown (omega arith) behind.2;
+      counted = sym beyond.0;
+      sized = sym beyond.1;
+      closed = front_closed LONGEST_STEP front whole shown (omega arith) beyond.2;
       none_empty = tt;
       flat = refl;
       canonical = tt;
@@ -467,6 +468,6 @@ no_record_at bytes front window old count size content over full same shows batc
     let short : length one ≤ longest_record =
     omega (arith, length-record_encoding old.number has.first, has.fits.frames.0, has.fits.frames.1) in
     let begins : content ≡ one ++ drop (length one) content =
-    front_begins longest_record content (drop into.at bytes) one has.behind into.shown has.encoding short in
+    front_begins longest_record content (drop into.at bytes) one has.beyond into.shown has.encoding short in
     none has.first (drop (length one) content) has.fits (omega (arith, encodes.bounded, ap length has.are))
     (omega (arith, has.long, ap length begins, length-append one (drop (length one) content))) begins

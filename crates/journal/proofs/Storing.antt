@@ -115,12 +115,12 @@ gate_written : (front encoding new : List ℕ) (gate at : ℕ) → at ≡ length
     → TornWrite at 1 (front ++ (gate ∷ encoding)) new → new ≡ front ++ (get_or new at 0 ∷ encoding)
 gate_written front encoding new gate at begins torn =
     let long : at < length new = omega (arith, torn.no_shorter, length-append front (gate ∷ encoding)) in
-    let behind : drop (at + 1) new ≡ encoding =
+    let beyond : drop (at + 1) new ≡ encoding =
     torn.after ∙ ap (λ l. drop (at + 1) l) (sym (append_assoc front (gate ∷ []) encoding))
     ∙ drop_at (front ++ gate ∷ []) encoding (at + 1) (omega (arith, length-append front (gate ∷ []))) in
     sym (take-append-drop at new) ∙
     (λ i. (torn.before ∙ take_at front (gate ∷ encoding) at (sym begins)) i
-    ++ (drop_more new at 0 long ∙ ap (λ l. get_or new at 0 ∷ l) behind) i)
+    ++ (drop_more new at 0 long ∙ ap (λ l. get_or new at 0 ∷ l) beyond) i)
 
 -- the write that opens the gate, once the bytes are on the disk
 pub storing_gate : (old mid new : View) (slot : Slot) (encoding front : List ℕ) (gate at : ℕ) → IsSynced old slot
@@ -193,8 +193,8 @@ opened_encoding s encoding gate x last =
     (λ i. take_all (gate + 1) s (omega (arith, last)) i ++ encoding
     ++ drop_all (gate + 1 + length encoding) s (omega (arith, last)) i) ∙ append-nil (s ++ encoding) in
     let front : take gate (s ++ encoding) ≡ take gate s = take-append-le gate s encoding (omega (arith, last)) in
-    let behind : drop (gate + 1) (s ++ encoding) ≡ encoding = drop_at s encoding (gate + 1) (sym last) in
-    ap (λ (l : List ℕ). written_at l gate (x ∷ [])) first ∙ (λ i. front i ++ (x ∷ []) ++ behind i)
+    let beyond : drop (gate + 1) (s ++ encoding) ≡ encoding = drop_at s encoding (gate + 1) (sym last) in
+    ap (λ (l : List ℕ). written_at l gate (x ∷ [])) first ∙ (λ i. front i ++ (x ∷ []) ++ beyond i)
     ∙ append_assoc (take gate s) (x ∷ []) encoding
 
 pub batch_written : (slot : Slot) (old mid synced new after : Slots) (encoding : List ℕ) (gate x : ℕ)

@@ -56,7 +56,7 @@ more_encoding count encoding more pushed new whole is_pushed is_new =
     front_of_one encoding content (closed_gate ∷ []) whole refl in
     let parts : pushed ≡ content ++ (more ++ closed_gate ∷ []) =
     is_pushed ∙ ap (λ (l : List ℕ). l ++ (more ++ closed_gate ∷ [])) front in
-    let behind : drop 12 pushed ≡ body ++ (more ++ closed_gate ∷ []) = ap (λ (l : List ℕ). drop 12 l) parts in
+    let beyond : drop 12 pushed ≡ body ++ (more ++ closed_gate ∷ []) = ap (λ (l : List ℕ). drop 12 l) parts in
     let long : length pushed - 13 ≡ length (body ++ more) =
     omega (
       arith,
@@ -65,7 +65,7 @@ more_encoding count encoding more pushed new whole is_pushed is_new =
       length-append more (closed_gate ∷ []),
       length-append body more,
     ) in
-    is_new ∙ (λ i. word (count + 1) ++ (long_word (long i) ++ behind i))
+    is_new ∙ (λ i. word (count + 1) ++ (long_word (long i) ++ beyond i))
     ∙ ap (λ (l : List ℕ). word (count + 1) ++ (long_word (length (body ++ more)) ++ l))
     (sym (append_assoc body more (closed_gate ∷ [])))
 
@@ -79,16 +79,16 @@ cut_encoding count size encoding cut new whole within is_cut is_new =
     let body = body_of encoding in
     let left = length body - size in
     let front : List ℕ = word count ++ (long_word (length body) ++ take left body) in
-    let behind : List ℕ = drop left body ++ closed_gate ∷ [] in
-    let whole_body : body ++ closed_gate ∷ [] ≡ take left body ++ behind =
+    let beyond : List ℕ = drop left body ++ closed_gate ∷ [] in
+    let whole_body : body ++ closed_gate ∷ [] ≡ take left body ++ beyond =
     ap (λ (l : List ℕ). l ++ closed_gate ∷ []) (sym (take-append-drop left body))
     ∙ append_assoc (take left body) (drop left body) (closed_gate ∷ []) in
-    let parts : encoding ≡ front ++ behind =
+    let parts : encoding ≡ front ++ beyond =
     whole ∙ ap (λ (l : List ℕ). word count ++ (long_word (length body) ++ l)) whole_body in
     let long : length encoding - 1 - size ≡ length front =
     omega (arith, whole_long count encoding whole, within, length-take left body) in
     let begun : take (length encoding - 1 - size) encoding ≡ front =
-    (λ i. take (long i) (parts i)) ∙ take_at front behind (length front) refl in
+    (λ i. take (long i) (parts i)) ∙ take_at front beyond (length front) refl in
     let is : cut ≡ front ++ closed_gate ∷ [] = is_cut ∙ ap (λ (l : List ℕ). l ++ closed_gate ∷ []) begun in
     let counted : length cut - 13 ≡ length (take left body) =
     omega (arith, ap length is, length-append (take left body) (closed_gate ∷ [])) in

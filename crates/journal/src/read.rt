@@ -25,11 +25,11 @@ pub const PIECE: usize = 1 << 20;
 
 /// What stands after the open gate in front of these bytes; `None` if they don't begin with one.
 fn after_open_gate(bytes: &[u8]) -> Option<&[u8]>
-    ensures open { IfSome result (λ behind. bytes.now ≡ open_gate ∷ behind.now) }
+    ensures open { IfSome result (λ beyond. bytes.now ≡ open_gate ∷ beyond.now) }
     ensures closed { IfNone result (IsClosed bytes.now) }
 {
     match bytes {
-        [OPEN_GATE, behind @ ..] => Some(behind),
+        [OPEN_GATE, beyond @ ..] => Some(beyond),
         _ => None,
     }
 }
@@ -180,9 +180,9 @@ impl RecordReader {
         let Some((left, size, content)) = batch_at(front, self.left, self.size)? else {
             return Ok(None);
         };
-        let (entry, behind) = record_at(self.alloc, content, self.number, size)?;
-        let taken = (content.len() - behind.len()) as u64;
-        let passed = front.len() - behind.len();
+        let (entry, beyond) = record_at(self.alloc, content, self.number, size)?;
+        let taken = (content.len() - beyond.len()) as u64;
+        let passed = front.len() - beyond.len();
         self.window.pass(passed);
         self.number += 1;
         self.left = left - 1;
@@ -198,7 +198,8 @@ impl RecordReader {
     pub fn next<D: Disk>(&mut self, disk: &mut D) -> Result<Option<Record>, StoreFault>
         requires { D.honest → IsOver (slot_of (D.view disk.old).seen self.old.window.slot) self.old.window }
         ensures leads { D.honest → IfOk result (λ found. IfSome found (λ entry.
-            Leads (slot_of (D.view disk.old).seen self.old.window.slot) (place_of self.old) entry (place_of self.new))) }
+            Leads (slot_of (D.view disk.old).seen self.old.window.slot) (place_of self.old) entry
+            (place_of self.new))) }
         ensures last { D.honest → IfOk result (λ found. IfNone found
             (IsLast (slot_of (D.view disk.old).seen self.old.window.slot) (place_of self.new))) }
         ensures stays { IfOk result (λ found. IfNone found (place_of self.new ≡ place_of self.old)) }

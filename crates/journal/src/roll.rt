@@ -41,7 +41,8 @@ pub fn roll_close<D: Disk>(disk: &mut D, epoch: u64) -> Result<(), DiskFault>
     ensures begun { D.honest → OnOk result (0 < length (slot_of (D.view disk.new).seen (slot_of_epoch epoch))) }
     ensures closed { D.honest → OnOk result (IsClosed (slot_of (D.view disk.new).seen (slot_of_epoch epoch))) }
     ensures others { D.honest → OnOk result ((D.view disk.new).seen
-        ≡ with_slot (D.view disk.old).seen (slot_of_epoch epoch) (slot_of (D.view disk.new).seen (slot_of_epoch epoch))) }
+        ≡ with_slot (D.view disk.old).seen (slot_of_epoch epoch)
+        (slot_of (D.view disk.new).seen (slot_of_epoch epoch))) }
     ensures synced { D.honest → OnOk result (IsSynced (D.view disk.new) (slot_of_epoch epoch)) }
     ensures any_moment { D.honest → IsSynced (D.view disk.old) (slot_of_epoch epoch)
         → Passes (D.view disk.old) (D.view disk.new) (Follows (D.view disk.old) (slot_of_epoch epoch) (IsClosing 16)) }
@@ -68,7 +69,8 @@ pub fn roll_head<D: Disk>(disk: &mut D, epoch: u64) -> Result<(), DiskFault>
 /// Opens the gate of the slot of an epoch's segment, which is then in use.
 pub fn roll_open<D: Disk>(disk: &mut D, epoch: u64) -> Result<Segment, DiskFault>
     ensures written { D.honest → OnOk result ((D.view disk.new).seen
-        ≡ with_slot (D.view disk.old).seen (slot_of_epoch epoch) (open_gate ∷ drop 1 (slot_of (D.view disk.old).seen (slot_of_epoch epoch)))) }
+        ≡ with_slot (D.view disk.old).seen (slot_of_epoch epoch)
+        (open_gate ∷ drop 1 (slot_of (D.view disk.old).seen (slot_of_epoch epoch)))) }
     ensures synced { D.honest → OnOk result (IsSynced (D.view disk.new) (slot_of_epoch epoch)) }
     ensures any_moment { D.honest
         → Passes (D.view disk.old) (D.view disk.new) (Follows (D.view disk.old) (slot_of_epoch epoch) HasSomeGate) }

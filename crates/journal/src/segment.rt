@@ -24,7 +24,8 @@ pub struct Segment {
 fn store<D: Disk>(disk: &mut D, slot: Slot, encoding: &[u8]) -> Result<(), DiskFault>
     requires { D.honest → 0 < length (slot_of (D.view disk.old).seen slot) }
     ensures stored { D.honest → OnOk result ((D.view disk.new).seen ≡ with_slot (D.view disk.old).seen slot
-        (take (length (slot_of (D.view disk.old).seen slot) - 1) (slot_of (D.view disk.old).seen slot) ++ (open_gate ∷ encoding.now))) }
+        (take (length (slot_of (D.view disk.old).seen slot) - 1) (slot_of (D.view disk.old).seen slot)
+        ++ (open_gate ∷ encoding.now))) }
     ensures synced { D.honest → OnOk result (IsSynced (D.view disk.new) slot) }
     ensures any_moment { D.honest → IsSynced (D.view disk.old) slot
         → Passes (D.view disk.old) (D.view disk.new) (Follows (D.view disk.old) slot (IsMidStore encoding.now)) }

@@ -145,10 +145,10 @@ acts_alike c old space names one other new last effects others closed a b =
     called_alike (first_failing (tests_of old space names c)) old space names c one other new last effects others closed
     a b
 
-pub prefers_told : (old : State) (space : ℕ) (c : Call) (shown : Shown) (answer : Reply) (new : State)
+pub prefers_closed : (old : State) (space : ℕ) (c : Call) (shown : Shown) (answer : Reply) (new : State)
     (effects : List Effect) → is_open c ≡ false
     → ActsIn old space (names_in old space) c answer new effects → Prefers old space c shown answer
-prefers_told old space c shown answer new effects closed acts =
+prefers_closed old space c shown answer new effects closed acts =
     record {
       takes = λ other last others _ may. acts_alike c old space
           (names_in old space) answer other new last effects others closed acts may;
@@ -257,11 +257,12 @@ prefers_extract old space name disposition shown answer new effects acts wanted 
         → answer ≡ other
     by_case (Some code) other last others is a b wanted = a.0 ∙ sym b.0
     by_case None other last others is a b wanted =
-        let told = shown_extracted (actions.taken_by old space name disposition) space other last others b in
-        let named : shown.name ≡ Some told.0 = ap name_of is ∙ ap (λ (r : Reply). name_of (shown_by r)) told.2 in
-        wanted told.0 named told.1 last others
+        let reported = shown_extracted (actions.taken_by old space name disposition) space other last others b in
+        let named : shown.name ≡ Some reported.0 =
+        ap name_of is ∙ ap (λ (r : Reply). name_of (shown_by r)) reported.2 in
+        wanted reported.0 named reported.1 last others
         (subst (λ (r : Reply). Done old space (names_in old space)
-        (call.ExtractRight name disposition) r last others) told.2 b) ∙ sym told.2
+        (call.ExtractRight name disposition) r last others) reported.2 b) ∙ sym reported.2
 
 -- a new space
 space_of : Shown → Option (ℕ × ℕ)
@@ -298,12 +299,12 @@ prefers_create old space name disposition shown answer new effects acts wanted =
         → answer ≡ other
     by_case (Some code) other last others is a b wanted = a.0 ∙ sym b.0
     by_case None other last others is a b wanted =
-        let told = shown_created (actions.taken_by old space name disposition) other last others b in
-        let numbered : shown.space ≡ Some (told.0, told.1) =
-        ap space_of is ∙ ap (λ (r : Reply). space_of (shown_by r)) told.2 in
-        wanted told.0 told.1 numbered last others
+        let reported = shown_created (actions.taken_by old space name disposition) other last others b in
+        let numbered : shown.space ≡ Some (reported.0, reported.1) =
+        ap space_of is ∙ ap (λ (r : Reply). space_of (shown_by r)) reported.2 in
+        wanted reported.0 reported.1 numbered last others
         (subst (λ (r : Reply). Done old space (names_in old space)
-        (call.SpaceCreate name disposition) r last others) told.2 b) ∙ sym told.2
+        (call.SpaceCreate name disposition) r last others) reported.2 b) ∙ sym reported.2
 
 -- a receive takes the message that a reply shows, and its rights get the names shown
 preference_of : Shown → Preference
@@ -357,19 +358,19 @@ hands_over (call.SpaceCreate name disposition) = true
 hands_over c = false
 
 -- a call that gives up rights leaves nothing open
-pub giving_told : (c : Call) → gives_up c ≡ true → is_open c ≡ false
-giving_told (call.Allocate kind) is = absurd (cc is)
-giving_told (call.RequestNotification name variant sync notify_name disposition) is = absurd (cc is)
-giving_told (call.ExtractRight name disposition) is = absurd (cc is)
-giving_told (call.Receive limit large name waited) is = absurd (cc is)
-giving_told (call.SpaceCreate name disposition) is = absurd (cc is)
-giving_told c is = refl
+pub gives_up_closed : (c : Call) → gives_up c ≡ true → is_open c ≡ false
+gives_up_closed (call.Allocate kind) is = absurd (cc is)
+gives_up_closed (call.RequestNotification name variant sync notify_name disposition) is = absurd (cc is)
+gives_up_closed (call.ExtractRight name disposition) is = absurd (cc is)
+gives_up_closed (call.Receive limit large name waited) is = absurd (cc is)
+gives_up_closed (call.SpaceCreate name disposition) is = absurd (cc is)
+gives_up_closed c is = refl
 
 -- nor does a call that only reads
-pub reading_told : (c : Call) → only_reads c ≡ true → is_open c ≡ false
-reading_told (call.Allocate kind) is = absurd (cc is)
-reading_told (call.RequestNotification name variant sync notify_name disposition) is = absurd (cc is)
-reading_told (call.ExtractRight name disposition) is = absurd (cc is)
-reading_told (call.Receive limit large name waited) is = absurd (cc is)
-reading_told (call.SpaceCreate name disposition) is = absurd (cc is)
-reading_told c is = refl
+pub reads_closed : (c : Call) → only_reads c ≡ true → is_open c ≡ false
+reads_closed (call.Allocate kind) is = absurd (cc is)
+reads_closed (call.RequestNotification name variant sync notify_name disposition) is = absurd (cc is)
+reads_closed (call.ExtractRight name disposition) is = absurd (cc is)
+reads_closed (call.Receive limit large name waited) is = absurd (cc is)
+reads_closed (call.SpaceCreate name disposition) is = absurd (cc is)
+reads_closed c is = refl

@@ -99,4 +99,4 @@ foreign_both entries number places others one two k place at there = go (got_of_
   where
     go : ((n : ℕ) × (slice_get places n ≡ Some place)) ⊎ ((n : ℕ) × (slice_get others n ≡ Some place)) → ⊥
     go (inl here) = one here.0 place here.1 there
-    go (inr behind) = two behind.0 place behind.1 there
+    go (inr beyond) = two beyond.0 place beyond.1 there

@@ -194,9 +194,11 @@ module _ (base : State) (old : SessionValue) (c : Call) (ticket : TicketValue) (
               recorded_did grew,
             )
         | inr none ↦ own_state_as number space acknowledged more tickets places
-            (space_after old.task.space c ticket.answer) old.task.places same (answered none).0 kept given (answered none).1 (
+            (space_after old.task.space c ticket.answer) old.task.places same (answered none).0 kept given
+            (answered none).1 (
               did_session base old (called c ticket.answer)
-                  (calling old past (space_after old.task.space c ticket.answer) old.task.places) amount more did.history is
+                  (calling old past (space_after old.task.space c ticket.answer) old.task.places) amount more
+                  did.history is
                   (answered_did none) refl (answered_own is.own) ((answered none).2 ∙ is.counted),
               answered_did none,
             )

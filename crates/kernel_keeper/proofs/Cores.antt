@@ -10,7 +10,7 @@ use Rattle.ipc_model.specs.calls.Step.{has_record}
 use Rattle.ipc_model.specs.declared.call.Call.{Call}
 use Rattle.ipc_model.specs.declared.call.Reply.{Reply}
 use Rattle.ipc_model.specs.declared.record.Record.{Record}
-use Rattle.ipc_model.specs.history.History.{IsTold, Leads, Session, has_ticket, redeemed, redeemed_for_another, redemption}
+use Rattle.ipc_model.specs.history.History.{IsAcknowledgedUpTo, Leads, Session, has_ticket, redeemed, redeemed_for_another, redemption}
 use Rattle.ipc_model.specs.state.State.{State}
 use Rattle.kernel_keeper.specs.Keeping.{Applies, BothPastsValue, KernelCoreValue, IsKernelCore, Learns, both_learned, entries_of_call}
 use Rattle.kernel_keeper.specs.Tokens.{IsHistory, entry_by, SessionValue, IsSession, session_of}
@@ -101,7 +101,8 @@ module _ (old new : BothPastsValue) (space : ℕ) (c : Call) where
   both_begin P (Ok ticket) seen begins learned unlearned err =
       elim (learned_or_not ticket.answer (has_record c ticket.answer) refl learned unlearned) [
         | inl is ↦ subst (λ (v : BothPastsValue). Begins seen v.mine.entries) (sym is)
-            (begins_trans seen old.mine.entries (old.mine.entries ++ entry_by old.number space c ticket.answer ∷ []) begins
+            (begins_trans seen old.mine.entries (old.mine.entries ++ entry_by old.number space c ticket.answer ∷ [])
+            begins
             (begins_more old.mine.entries (entry_by old.number space c ticket.answer ∷ [])))
         | inr is ↦ subst (λ (v : BothPastsValue). Begins seen v.mine.entries) (sym is) begins
       ]
@@ -196,7 +197,8 @@ unapplied_call base old new past kept after opened earlier taken older now core 
         begins = begins;
         history = elim err.2 [
           | inl same ↦ subst (IsHistory base) (sym same) history
-          | inr all ↦ subst (IsHistory base) (sym all) (core_history base old kept.entries opened earlier taken older core)
+          | inr all ↦ subst (IsHistory base) (sym all) (core_history base old kept.entries opened earlier taken older
+              core)
         ];
       },
       (λ i. record {
@@ -211,15 +213,16 @@ unapplied_call base old new past kept after opened earlier taken older now core 
 
 -- The operation of redeeming a ticket whose reply saw no more than the session has seen.
 redeems : (base : State) (history : List Record) (old new : Session) (seen : ℕ) (own : Bool) → has_ticket old seen ≡ own
-    → IsTold old seen new → Leads base history old (if own then redeemed seen else redeemed_for_another seen) new
+    → IsAcknowledgedUpTo old seen new → Leads base history old
+    (if own then redeemed seen else redeemed_for_another seen) new
 redeems base history old new seen true is acknowledged = (is, acknowledged)
 redeems base history old new seen false is acknowledged = acknowledged
 
 -- A session to which this many records were acknowledged, which it has seen.
-pub told_session : (base : State) (old : SessionValue) (seen amount : ℕ) → seen ≤ length old.past.entries
+pub acknowledged_session : (base : State) (old : SessionValue) (seen amount : ℕ) → seen ≤ length old.past.entries
     → IsSession base old amount → IsSession base
     (record old { task = record old.task { acknowledged = max old.task.acknowledged seen } }) amount
-told_session base old seen amount within is =
+acknowledged_session base old seen amount within is =
     did_session base old (redemption old.task seen)
     (record old { task = record old.task { acknowledged = max old.task.acknowledged seen } }) amount amount
     is.history is (record {

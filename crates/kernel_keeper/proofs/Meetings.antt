@@ -22,7 +22,7 @@ module _ (old ahead new : PastValue) where
       → OnOk r (new.entries ≡ old.entries ++ drop (length old.entries) ahead.entries)
       → OnOk r (Begins old.entries new.entries × Begins ahead.entries new.entries)
       → OnOk r (old.blocks < ahead.blocks → new ≡ record ahead { read = 0 }) → Caught old ahead new
-  caught (Err fault) is behind ok begins moved = absurd (cc is)
+  caught (Err fault) is beyond ok begins moved = absurd (cc is)
   caught (Ok _) is (inl earlier) ok begins moved =
       let same : new.entries ≡ ahead.entries = ap (λ (p : PastValue). p.entries) (moved earlier) in
       (same, subst (Begins old.entries) same begins.0)
@@ -44,8 +44,8 @@ module _ (old ahead new : PastValue) where
       → OnOk r (Begins old.entries new.entries × Begins ahead.entries new.entries)
       → OnOk r (old.blocks < ahead.blocks → new ≡ record ahead { read = 0 }) → OnErr r (new ≡ old)
       → Caught old ahead new ⊎ (new ≡ old)
-  caught_or_same (Ok done) behind ok begins moved err = inl (caught (Ok done) refl behind ok begins moved)
-  caught_or_same (Err fault) behind ok begins moved err = inr err
+  caught_or_same (Ok done) beyond ok begins moved err = inl (caught (Ok done) refl beyond ok begins moved)
+  caught_or_same (Err fault) beyond ok begins moved err = inr err
 
 -- It is still a session.
 pub learned : (base : State) (old : SessionValue) (ahead new : PastValue) (amount : ℕ) → IsSession base old amount

@@ -58,7 +58,7 @@ impl<L: Founding> Session<L> {
 
     /// Learns what another session has seen, which is no less. Returns whether it did; else nothing changed.
     fn learn(&mut self, other: &mut Session<L>) -> bool
-        requires behind { IsAfter self.old.past other.old.past }
+        requires beyond { IsAfter self.old.past other.old.past }
         requires differ { self.old.number ≡ other.old.number → ⊥ }
         ensures met { result ≡ true → Meets self.old other.old self.new other.new
             × Meets other.old self.old other.new self.new }

@@ -43,7 +43,8 @@ impl<L: Founding> Model for Session<L> {
 
     ghost coded = { session_code };
 
-    ghost view = { λ s. session_of s.own_state.number s.own_state.space s.own_state.acknowledged s.own_state.tickets.numbers
+    ghost view = { λ s. session_of s.own_state.number s.own_state.space s.own_state.acknowledged
+        s.own_state.tickets.numbers
         s.own_state.places.numbers s.past };
 
     ghost invariant = { λ s. IsSession L.base (session_of s.own_state.number s.own_state.space s.own_state.acknowledged

@@ -1,6 +1,6 @@
 mod Counted
 mod Drawn
 mod Listed
-mod Told
+mod Reported
 mod Walked
 mod Lines

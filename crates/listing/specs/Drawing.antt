@@ -19,11 +19,14 @@ port_node serial = codes "p" ++ decimal serial
 -- the node of a name, with its type and its references
 unfoldable pub name_node_line : ℕ → ℕ → Entry → List ℕ
 name_node_line space name entry =
-    codes "    " ++ (name_node space name ++ (codes " [label=\"" ++ (hexadecimal name ++ (codes " " ++ (hexadecimal (type_of entry)
+    codes "    " ++ (name_node space name ++ (codes " [label=\""
+    ++ (hexadecimal name ++ (codes " " ++ (hexadecimal (type_of entry)
     ++ (codes " refs " ++ (decimal (references_of entry) ++ codes "\"];\n")))))))
 
 unfoldable pub cluster_head : ℕ → List ℕ
-cluster_head space = codes "  subgraph cluster_" ++ (decimal space ++ (codes " {\n    label=\"space " ++ (decimal space ++ codes "\";\n")))
+cluster_head space =
+    codes "  subgraph cluster_" ++ (decimal space ++ (codes " {\n    label=\"space "
+    ++ (decimal space ++ codes "\";\n")))
 
 abbrev pub cluster_end : List ℕ
 cluster_end = codes "  }\n"
@@ -40,7 +43,8 @@ queue_label port =
 
 unfoldable pub port_node_text : ℕ → ℕ → ℕ → PortState → List ℕ
 port_node_text serial send send_once port =
-    codes "  " ++ (port_node serial ++ (codes " [shape=ellipse, label=\"port " ++ (decimal serial ++ (codes "\\nsend " ++ (decimal send
+    codes "  " ++ (port_node serial ++ (codes " [shape=ellipse, label=\"port "
+    ++ (decimal serial ++ (codes "\\nsend " ++ (decimal send
     ++ (codes " once " ++ (decimal send_once ++ (codes "\\n" ++ (queue_label port ++ codes "\"];\n")))))))))
 
 -- a live port, with how many send and send-once rights it has
@@ -81,7 +85,8 @@ label references of_kind (port_destroyed_request port) = codes "port-destroyed r
 label references of_kind waiting = codes "no-senders request"
 
 unfoldable pub edge_text : List ℕ → ℕ → List ℕ → List ℕ
-edge_text from serial called = codes "  " ++ (from ++ (codes " -> " ++ (port_node serial ++ (codes " [label=\"" ++ (called ++ codes "\"];\n")))))
+edge_text from serial called =
+    codes "  " ++ (from ++ (codes " -> " ++ (port_node serial ++ (codes " [label=\"" ++ (called ++ codes "\"];\n")))))
 
 abbrev pub edge_line : ℕ → Right → List ℕ
 edge_line references right = edge_text (source right.place) right.port (label references right.kind right.place)

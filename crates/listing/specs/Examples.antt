@@ -57,11 +57,13 @@ made_spaces = entries-from_sorted nat_cmp spaces_made tt
 made_ports : finmap.entries {R = nat_cmp} (from_sorted ports_made) ≡ ports_made
 made_ports = entries-from_sorted nat_cmp ports_made tt
 
-pub made-lines : listing 0 4 made ≡ codes "epoch 0 records 4\nspace 1\nname 00000100 00030000 port 1 refs 1\nport 1 held 1 00000100 send 1 once 0 queue 0 of 5 seqno 1 mscount 1\n"
+pub made-lines : listing 0 4 made
+    ≡ codes "epoch 0 records 4\nspace 1\nname 00000100 00030000 port 1 refs 1\nport 1 held 1 00000100 send 1 once 0 queue 0 of 5 seqno 1 mscount 1\n"
 unfolding listing placed hexadecimal name_line space_line queue_text port_encoding store_line encode_with digits
 made-lines = simp (made_spaces, made_ports) (simp made_names)
 
-pub made-drawn : drawing made ≡ codes "digraph ports {\n  rankdir=LR;\n  node [shape=box];\n  subgraph cluster_1 {\n    label=\"space 1\";\n    n1_00000100 [label=\"00000100 00030000 refs 1\"];\n  }\n  p1 [shape=ellipse, label=\"port 1\\nsend 1 once 0\\nqueue 0 of 5\\nseqno 1 mscount 1\"];\n  n1_00000100 -> p1 [label=\"receive\"];\n  n1_00000100 -> p1 [label=\"send x1\"];\n}\n"
+pub made-drawn : drawing made ≡ codes
+    "digraph ports {\n  rankdir=LR;\n  node [shape=box];\n  subgraph cluster_1 {\n    label=\"space 1\";\n    n1_00000100 [label=\"00000100 00030000 refs 1\"];\n  }\n  p1 [shape=ellipse, label=\"port 1\\nsend 1 once 0\\nqueue 0 of 5\\nseqno 1 mscount 1\"];\n  n1_00000100 -> p1 [label=\"receive\"];\n  n1_00000100 -> p1 [label=\"send x1\"];\n}\n"
 unfolding drawing placed hexadecimal name_node port_node name_node_line cluster_head queue_label port_node_text
     edge_text encode_with digits
 made-drawn = simp (made_spaces, made_ports) (simp made_names)
@@ -135,7 +137,8 @@ pub mixed-lines : listing 3 12 mixed ≡
 unfolding listing placed hexadecimal name_line space_line queue_text port_encoding store_line encode_with digits
 mixed-lines = simp (mixed_spaces, mixed_ports) (simp (mixed_names_1, mixed_names_2))
 
-pub mixed-drawn : drawing mixed ≡ codes "digraph ports {\n  rankdir=LR;\n  node [shape=box];\n  subgraph cluster_1 {\n    label=\"space 1\";\n    n1_00000100 [label=\"00000100 00030000 refs 2\"];\n    n1_00000101 [label=\"00000101 80010000 refs 3\"];\n    n1_00000102 [label=\"00000102 00040000 refs 1\"];\n    n1_00000103 [label=\"00000103 00080000 refs 1\"];\n    n1_00000104 [label=\"00000104 00100000 refs 2\"];\n    n1_00000105 [label=\"00000105 00020000 refs 0\"];\n  }\n  subgraph cluster_2 {\n    label=\"space 2\";\n    n2_00000200 [label=\"00000200 80040000 refs 1\"];\n  }\n  p1 [shape=ellipse, label=\"port 1\\nsend 3 once 3\\nqueue 1 of 5\\nseqno 0 mscount 4\"];\n  p2 [shape=ellipse, label=\"port 2\\nsend 1 once 2\\nqueue 1 of 16\\nseqno 3 mscount 0\"];\n  p4 [shape=ellipse, label=\"port 4\\nsend 0 once 3\\nqueue 0 of 5\\nseqno 0 mscount 0\"];\n  n1_00000100 -> p1 [label=\"receive\"];\n  n1_00000100 -> p1 [label=\"send x2\"];\n  n1_00000101 -> p2 [label=\"send x3\"];\n  n1_00000101 -> p1 [label=\"dead-name request\"];\n  n1_00000102 -> p1 [label=\"send-once\"];\n  n1_00000105 -> p4 [label=\"receive\"];\n  n2_00000200 -> p2 [label=\"send-once\"];\n  n2_00000200 -> p4 [label=\"dead-name request\"];\n  p1 -> p1 [label=\"carried send\"];\n  p1 -> p4 [label=\"carried send-once\"];\n  p1 -> p2 [label=\"carried receive\"];\n  p1 -> p1 [label=\"carried send\"];\n  p1 -> p4 [label=\"no-senders request\"];\n  p2 -> p2 [label=\"carried send-once\"];\n  p2 -> p1 [label=\"port-destroyed request\"];\n}\n"
+pub mixed-drawn : drawing mixed
+    ≡ codes "digraph ports {\n  rankdir=LR;\n  node [shape=box];\n  subgraph cluster_1 {\n    label=\"space 1\";\n    n1_00000100 [label=\"00000100 00030000 refs 2\"];\n    n1_00000101 [label=\"00000101 80010000 refs 3\"];\n    n1_00000102 [label=\"00000102 00040000 refs 1\"];\n    n1_00000103 [label=\"00000103 00080000 refs 1\"];\n    n1_00000104 [label=\"00000104 00100000 refs 2\"];\n    n1_00000105 [label=\"00000105 00020000 refs 0\"];\n  }\n  subgraph cluster_2 {\n    label=\"space 2\";\n    n2_00000200 [label=\"00000200 80040000 refs 1\"];\n  }\n  p1 [shape=ellipse, label=\"port 1\\nsend 3 once 3\\nqueue 1 of 5\\nseqno 0 mscount 4\"];\n  p2 [shape=ellipse, label=\"port 2\\nsend 1 once 2\\nqueue 1 of 16\\nseqno 3 mscount 0\"];\n  p4 [shape=ellipse, label=\"port 4\\nsend 0 once 3\\nqueue 0 of 5\\nseqno 0 mscount 0\"];\n  n1_00000100 -> p1 [label=\"receive\"];\n  n1_00000100 -> p1 [label=\"send x2\"];\n  n1_00000101 -> p2 [label=\"send x3\"];\n  n1_00000101 -> p1 [label=\"dead-name request\"];\n  n1_00000102 -> p1 [label=\"send-once\"];\n  n1_00000105 -> p4 [label=\"receive\"];\n  n2_00000200 -> p2 [label=\"send-once\"];\n  n2_00000200 -> p4 [label=\"dead-name request\"];\n  p1 -> p1 [label=\"carried send\"];\n  p1 -> p4 [label=\"carried send-once\"];\n  p1 -> p2 [label=\"carried receive\"];\n  p1 -> p1 [label=\"carried send\"];\n  p1 -> p4 [label=\"no-senders request\"];\n  p2 -> p2 [label=\"carried send-once\"];\n  p2 -> p1 [label=\"port-destroyed request\"];\n}\n"
 unfolding drawing placed hexadecimal name_node port_node name_node_line cluster_head queue_label port_node_text
     edge_text encode_with digits
 mixed-drawn = simp (mixed_spaces, mixed_ports) (simp (mixed_names_1, mixed_names_2))

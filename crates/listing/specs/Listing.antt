@@ -31,7 +31,8 @@ references_of (Dead references) = references
 unfoldable pub name_line : ℕ → Entry → List ℕ
 name_line name entry =
     codes "name " ++ (hexadecimal name ++ (codes " " ++ (hexadecimal (type_of entry)
-    ++ (codes " port " ++ (decimal (port_of entry) ++ (codes " refs " ++ (decimal (references_of entry) ++ codes "\n")))))))
+    ++ (codes " port " ++ (decimal (port_of entry) ++ (codes " refs "
+    ++ (decimal (references_of entry) ++ codes "\n")))))))
 
 unfoldable pub space_line : ℕ → List ℕ
 space_line space = codes "space " ++ (decimal space ++ codes "\n")
@@ -66,11 +67,13 @@ receive_text (Some right) = place_encoding right.place
 unfoldable pub queue_text : PortState → List ℕ
 queue_text port =
     codes " queue " ++ (decimal (length port.messages) ++ (codes " of " ++ (decimal port.limit
-    ++ (codes " seqno " ++ (decimal port.sequence_number ++ (codes " mscount " ++ (decimal port.make_send_count ++ codes "\n")))))))
+    ++ (codes " seqno " ++ (decimal port.sequence_number
+    ++ (codes " mscount " ++ (decimal port.make_send_count ++ codes "\n")))))))
 
 unfoldable pub port_encoding : ℕ → List ℕ → ℕ → ℕ → PortState → List ℕ
 port_encoding serial receive send send_once port =
-    codes "port " ++ (decimal serial ++ (receive ++ (codes " send " ++ (decimal send ++ (codes " once " ++ (decimal send_once ++ queue_text port))))))
+    codes "port " ++ (decimal serial ++ (receive ++ (codes " send "
+    ++ (decimal send ++ (codes " once " ++ (decimal send_once ++ queue_text port))))))
 
 -- a live port, where its receive right is, and how many send and send-once rights it has
 abbrev pub port_line : State → ℕ → PortState → List ℕ

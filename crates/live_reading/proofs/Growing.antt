@@ -25,7 +25,7 @@ nothing (x ∷ xs) none = absurd (omega (arith, none))
 module _ {Moment : Type 0} (Later : Moment → Moment → Type 0) (stays : (m : Moment) → Later m m)
     (joins : (a b c : Moment) → Later a b → Later b c → Later a c)
     (slot front : Moment → List ℕ) (begun : Moment)
-    (holds : (m : Moment) → Later begun m → (behind : List ℕ) × (slot m ≡ front m ++ behind) × IsClosed behind)
+    (holds : (m : Moment) → Later begun m → (beyond : List ℕ) × (slot m ≡ front m ++ beyond) × IsClosed beyond)
     (grows : (a b : Moment) → Later begun a → Later a b → (more : List ℕ) × (front b ≡ front a ++ more)) where
   -- what was copied so far is within the front,
   abbrev Within : Moment → List ℕ → Type 0
@@ -50,8 +50,8 @@ module _ {Moment : Type 0} (Later : Moment → Moment → Type 0) (stays : (m : 
       (within.0 ++ more.0, more.1 ∙ ap (λ l. l ++ more.0) within.1 ∙ append_assoc copy within.0 more.0)
 
   -- one more piece of what stands after the front
-  piece_past : (now : Moment) (copy rest behind : List ℕ) (far : ℕ) → Later begun now → 0 < far
-      → front now ≡ copy ++ rest → IsClosed behind → Reads now (copy ++ (rest ++ take far behind))
+  piece_past : (now : Moment) (copy rest beyond : List ℕ) (far : ℕ) → Later begun now → 0 < far
+      → front now ≡ copy ++ rest → IsClosed beyond → Reads now (copy ++ (rest ++ take far beyond))
   piece_past now copy rest [] far since some within shut =
       inl (
         [],
@@ -59,18 +59,18 @@ module _ {Moment : Type 0} (Later : Moment → Moment → Type 0) (stays : (m : 
             (λ l. l ++ []) (ap (λ l. copy ++ l)
             (sym (append-nil rest) ∙ ap (λ l. rest ++ l) (sym (take_all far [] (omega arith))))),
       )
-  piece_past now copy rest (gate ∷ behind) far since some within shut = inr (
+  piece_past now copy rest (gate ∷ beyond) far since some within shut = inr (
     record {
       at = now;
       since = since;
       until = stays now;
-      rest = take far (gate ∷ behind);
+      rest = take far (gate ∷ beyond);
       encoding =
-          sym (append_assoc copy rest (take far (gate ∷ behind))) ∙ ap
-          (λ l. l ++ take far (gate ∷ behind)) (sym within);
-      shut = closed_front far (gate ∷ behind) shut;
+          sym (append_assoc copy rest (take far (gate ∷ beyond))) ∙ ap
+          (λ l. l ++ take far (gate ∷ beyond)) (sym within);
+      shut = closed_front far (gate ∷ beyond) shut;
     },
-    omega (arith, some, length-take far (gate ∷ behind)),
+    omega (arith, some, length-take far (gate ∷ beyond)),
   )
 
   -- One more piece of a slot whose front the copy is within: it ends within the front, or after it.
@@ -79,21 +79,21 @@ module _ {Moment : Type 0} (Later : Moment → Moment → Type 0) (stays : (m : 
   piece_within now copy count since within =
       let rest = within.0 in
       let held = holds now since in
-      let behind = held.0 in
-      let whole : slot now ≡ copy ++ (rest ++ behind) =
-      held.1 ∙ ap (λ l. l ++ behind) within.1 ∙ append_assoc copy rest behind in
-      let next : drop (length copy) (slot now) ≡ rest ++ behind =
-      ap (drop (length copy)) whole ∙ drop_at copy (rest ++ behind) (length copy) refl in
+      let beyond = held.0 in
+      let whole : slot now ≡ copy ++ (rest ++ beyond) =
+      held.1 ∙ ap (λ l. l ++ beyond) within.1 ∙ append_assoc copy rest beyond in
+      let next : drop (length copy) (slot now) ≡ rest ++ beyond =
+      ap (drop (length copy)) whole ∙ drop_at copy (rest ++ beyond) (length copy) refl in
       elim (cases_lt (length rest) count) as (λ _. Reads now (copy ++ take count (drop (length copy) (slot now)))) [
         | inl past ↦
             let far = count - length rest in
-            let taken : take count (rest ++ behind) ≡ rest ++ take far behind =
-            ap (λ k. take k (rest ++ behind)) (omega (arith, past)) ∙ take-append-add rest behind far in
+            let taken : take count (rest ++ beyond) ≡ rest ++ take far beyond =
+            ap (λ k. take k (rest ++ beyond)) (omega (arith, past)) ∙ take-append-add rest beyond far in
             subst (λ l. Reads now (copy ++ l)) (sym (ap (take count) next ∙ taken))
-            (piece_past now copy rest behind far since (omega (arith, past)) within.1 held.2)
+            (piece_past now copy rest beyond far since (omega (arith, past)) within.1 held.2)
         | inr short ↦
-            let taken : take count (rest ++ behind) ≡ take count rest =
-            take-append-le count rest behind (omega (arith, short)) in
+            let taken : take count (rest ++ beyond) ≡ take count rest =
+            take-append-le count rest beyond (omega (arith, short)) in
             subst (λ l. Reads now (copy ++ l)) (sym (ap (take count) next ∙ taken)) (inl (
               drop count rest,
               within.1 ∙ ap (λ l. copy ++ l) (sym (take-append-drop count rest))

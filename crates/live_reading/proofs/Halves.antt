@@ -19,21 +19,21 @@ batches_joined : (n : ℕ) (xs ys : List (List Record)) → (rest : List ℕ)
     × (batches_encoding n (xs ++ ys) ≡ batches_encoding n xs ++ rest)
 batches_joined n [] ys = (batches_encoding n ys, refl)
 batches_joined n (batch ∷ xs) ys =
-    let behind = batches_joined (n + length batch) xs ys in (
-      behind.0,
-      ap (λ l. open_gate ∷ (batch_encoding n batch ++ l)) behind.1
+    let beyond = batches_joined (n + length batch) xs ys in (
+      beyond.0,
+      ap (λ l. open_gate ∷ (batch_encoding n batch ++ l)) beyond.1
           ∙ ap (λ l. open_gate ∷ l) (sym
-          (append_assoc (batch_encoding n batch) (batches_encoding (n + length batch) xs) behind.0)),
+          (append_assoc (batch_encoding n batch) (batches_encoding (n + length batch) xs) beyond.0)),
     )
 
 -- the front of a segment grows with its batches
 front_grows : (epoch : ℕ) (xs ys : List (List Record)) → (rest : List ℕ)
     × (front epoch (xs ++ ys) ≡ front epoch xs ++ rest)
 front_grows epoch xs ys =
-    let behind = batches_joined 0 xs ys in (
-      behind.0,
-      ap (λ l. segment_header open_gate epoch ++ l) behind.1
-          ∙ sym (append_assoc (segment_header open_gate epoch) (batches_encoding 0 xs) behind.0),
+    let beyond = batches_joined 0 xs ys in (
+      beyond.0,
+      ap (λ l. segment_header open_gate epoch ++ l) beyond.1
+          ∙ sym (append_assoc (segment_header open_gate epoch) (batches_encoding 0 xs) beyond.0),
     )
 
 -- what begins with the front of a segment and continues without an open gate encodes the segment's records
@@ -112,9 +112,9 @@ module _ (start : Moment) where
       → IsCopy Appends (at_slot slot) begun ended copy → EncodedAt begun ended epoch copy batches
   segment_copied begun ended slot epoch batches copy held grows is =
       let ends = copy_ends Appends nothing_appended more_appended (at_slot slot) (λ m. front epoch (batches m)) begun
-      (λ m later. let h = held m later in (h.behind, h.encoding, h.closed))
-      (λ a b later more. let grown = grows a b more in let behind = front_grows epoch (batches a) grown.0 in
-      (behind.0, ap (front epoch) grown.1 ∙ behind.1)) ended copy is in
+      (λ m later. let h = held m later in (h.beyond, h.encoding, h.closed))
+      (λ a b later more. let grown = grows a b more in let beyond = front_grows epoch (batches a) grown.0 in
+      (beyond.0, ap (front epoch) grown.1 ∙ beyond.1)) ended copy is in
       record {
         at = ends.at;
         since = ends.since;

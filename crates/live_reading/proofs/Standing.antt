@@ -28,8 +28,8 @@ segment_is_open epoch slot batches held = subst (IsOpen segment_header_length) (
 segment_is_of : (epoch : ℕ) (slot : List ℕ) (batches : _) → epoch < 2 ^ 64 → HoldsBatches epoch slot batches
     → IsOfEpoch (epoch % 2) epoch slot
 segment_is_of epoch slot batches fits held = record {
-  rest = batches_encoding 0 batches ++ held.behind;
-  encoding = held.encoding ∙ append_assoc (segment_header open_gate epoch) (batches_encoding 0 batches) held.behind;
+  rest = batches_encoding 0 batches ++ held.beyond;
+  encoding = held.encoding ∙ append_assoc (segment_header open_gate epoch) (batches_encoding 0 batches) held.beyond;
   fits = fits;
   of_number = refl;
 }

@@ -16,9 +16,9 @@ front epoch batches = segment_header open_gate epoch ++ batches_encoding 0 batch
 
 -- A segment of an epoch holds these batches, and after them stands a gate that isn't open, or nothing.
 pub record HoldsBatches (epoch : ℕ) (slot : List ℕ) (batches : List (List Record)) : Type 0 where
-  pub behind : List ℕ
-  pub encoding : slot ≡ front epoch batches ++ behind
-  pub closed : IsClosed behind
+  pub beyond : List ℕ
+  pub encoding : slot ≡ front epoch batches ++ beyond
+  pub closed : IsClosed beyond
   pub none_empty : NoneEmpty batches
   pub canonical : AreRecords (all_records batches)
   pub bounded : length (all_records batches) ≤ MAX_RECORDS

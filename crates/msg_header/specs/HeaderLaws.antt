@@ -55,10 +55,10 @@ written_back header seqno body fits whole =
     let remote : ℕ = header.remote_disposition in
     let local : ℕ = header.local_disposition in
     let bits : ℕ = header_bits header in
-    let behind : List ℕ =
+    let beyond : List ℕ =
     word header.size ++ (word header.remote ++ (word header.local ++ (word seqno ++ (word header.id ++ body)))) in
-    let bits_is : little_number 4 (word bits ++ behind) ≡ bits =
-    little_number-word bits behind
+    let bits_is : little_number 4 (word bits ++ beyond) ≡ bits =
+    little_number-word bits beyond
     (bits_fit remote local header.complex fits.remote_disposition fits.local_disposition) in
     let remote_is : little_number 4
     (word header.remote ++ (word header.local ++ (word seqno ++ (word header.id ++ body))))
@@ -67,7 +67,7 @@ written_back header seqno body fits whole =
     let local_is : little_number 4 (word header.local ++ (word seqno ++ (word header.id ++ body))) ≡ header.local =
     little_number-word header.local (word seqno ++ (word header.id ++ body)) fits.local in
     let id_is : little_number 4 (word header.id ++ body) ≡ header.id = little_number-word header.id body fits.id in
-    let size_is : length (word bits ++ behind) ≡ header.size = omega (arith, whole) in
+    let size_is : length (word bits ++ beyond) ≡ header.size = omega (arith, whole) in
     record {
       whole = omega arith;
       parts_are = sym (λ i. record {

@@ -34,7 +34,7 @@ pub fn message(alloc: Global, notice: Notice) -> Result<Message, AllocError>
 }
 
 /// A notice that reports one word.
-fn plain(alloc: Global, id: u32, descriptor: u32, told: u32) -> Result<Message, AllocError>
+fn plain(alloc: Global, id: u32, descriptor: u32, number: u32) -> Result<Message, AllocError>
     ensures { IfOk result (λ message. message
         ≡ record {
           destination = RightKind.SendOnce;
@@ -42,10 +42,10 @@ fn plain(alloc: Global, id: u32, descriptor: u32, told: u32) -> Result<Message, 
           id = id;
           complex = false;
           rights = [];
-          body = word descriptor ++ word told;
+          body = word descriptor ++ word number;
         }) }
 {
-    let body = one_item(alloc, descriptor, told)?;
+    let body = one_item(alloc, descriptor, number)?;
     Ok(without_rights(id, alloc, body))
 }
 
@@ -91,11 +91,11 @@ pub fn port_destroyed(alloc: Global, serial: u64) -> Result<Message, AllocError>
 }
 
 /// A body with one item of one word.
-fn one_item(alloc: Global, descriptor: u32, told: u32) -> Result<Vec<u8>, AllocError>
-    ensures { IfOk result (λ body. body.items ≡ word descriptor ++ word told) }
+fn one_item(alloc: Global, descriptor: u32, number: u32) -> Result<Vec<u8>, AllocError>
+    ensures { IfOk result (λ body. body.items ≡ word descriptor ++ word number) }
 {
     let mut body = Vec::new(alloc);
     push_word(&mut body, descriptor)?;
-    push_word(&mut body, told)?;
+    push_word(&mut body, number)?;
     Ok(body)
 }

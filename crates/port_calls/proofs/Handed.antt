@@ -12,9 +12,9 @@ made right new notices = Some (record { right = right; state = new; notices = no
 
 some_is : (taken : Taken) (right : CarriedRight) (new : State) (notices : List Effect) → Some right ≡ Some taken.right
     → new ≡ taken.state → notices ≡ taken.notices → Some taken ≡ made right new notices
-some_is taken right new notices same state told =
+some_is taken right new notices same state reported =
     sym (ap (λ (r : CarriedRight). made r new notices) (some_same right taken.right same) ∙ ap
-    (λ (s : State). made taken.right s notices) state ∙ ap (made taken.right taken.state) told)
+    (λ (s : State). made taken.right s notices) state ∙ ap (made taken.right taken.state) reported)
 
 -- what came out is what was to be taken
 pub taken_is : (o : Option Taken) (old new : State) (waiting after : List Effect) (right : CarriedRight) → waiting ≡ []

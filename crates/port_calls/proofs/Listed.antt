@@ -10,8 +10,9 @@ use Rattle.ipc_model.specs.declared.call.Reply.TheVariants as reply
 use Rattle.ipc_model.specs.declared.entry.Entry.TheVariants.{Set}
 use Rattle.ipc_model.specs.state.State.{State, Names, members_of}
 
-pub members_told : (old : State) (space : ℕ) (names : Names) (name : ℕ) (answer : Reply) → is_no_name names name ≡ false
+pub members_reported : (old : State) (space : ℕ) (names : Names) (name : ℕ) (answer : Reply) → is_no_name names name
+    ≡ false
     → finmap.get names name ≡ Some Set → answer ≡ reply.SetStatus (members_of old names name)
     → ActsIn old space names (call.GetSetStatus name) answer old []
 unfolding tests_of Done
-members_told old space names name answer used at told = rw (used, at) (told, refl, refl)
+members_reported old space names name answer used at reported = rw (used, at) (reported, refl, refl)

@@ -77,7 +77,8 @@ fn mod_send(
     requires a_name { is_no_name (names_in state.old.current space) name ≡ false }
     requires found { map.get (names_in state.old.current space) name ≡ Some (Entry.Port rights) }
     requires at { entry_at state.old.current space name ≡ Some (Entry.Port rights) }
-    ensures acts { Acts state.old.current space (call.ModRefs name (number_of Right.Send) delta) result state.new.current effects.new }
+    ensures acts { Acts state.old.current space (call.ModRefs name (number_of Right.Send) delta) result
+        state.new.current effects.new }
     ensures before { state.new.before ≡ state.old.before }
 {
     if rights.send == 0 {
@@ -110,7 +111,8 @@ fn mod_receive(
     requires found { map.get (names_in state.old.current space) name ≡ Some (Entry.Port rights) }
     requires at { entry_at state.old.current space name ≡ Some (Entry.Port rights) }
     requires few { AreFewReferences (Entry.Port rights) }
-    ensures acts { Acts state.old.current space (call.ModRefs name (number_of Right.Receive) delta) result state.new.current effects.new }
+    ensures acts { Acts state.old.current space (call.ModRefs name (number_of Right.Receive) delta) result
+        state.new.current effects.new }
     ensures before { state.new.before ≡ state.old.before }
 {
     if !rights.receive {
@@ -165,7 +167,8 @@ fn mod_send_once(
     requires none { effects.old ≡ [] }
     requires a_name { is_no_name (names_in state.old.current space) name ≡ false }
     requires found { map.get (names_in state.old.current space) name ≡ Some (Entry.SendOnce port request) }
-    ensures acts { Acts state.old.current space (call.ModRefs name (number_of Right.SendOnce) delta) result state.new.current effects.new }
+    ensures acts { Acts state.old.current space (call.ModRefs name (number_of Right.SendOnce) delta) result
+        state.new.current effects.new }
     ensures before { state.new.before ≡ state.old.before }
 {
     if delta == MINUS_ONE {
@@ -191,7 +194,8 @@ fn mod_dead(
     requires a_name { is_no_name (names_in state.old.current space) name ≡ false }
     requires found { map.get (names_in state.old.current space) name ≡ Some (Entry.Dead references) }
     requires at { entry_at state.old.current space name ≡ Some (Entry.Dead references) }
-    ensures acts { Acts state.old.current space (call.ModRefs name (number_of Right.DeadName) delta) result state.new.current effects.new }
+    ensures acts { Acts state.old.current space (call.ModRefs name (number_of Right.DeadName) delta) result
+        state.new.current effects.new }
     ensures before { state.new.before ≡ state.old.before }
 {
     if references == 0 {
@@ -231,7 +235,8 @@ fn mod_set(
     requires a_name { is_no_name (names_in state.old.current space) name ≡ false }
     requires found { map.get (names_in state.old.current space) name ≡ Some Entry.Set }
     requires at { entry_at state.old.current space name ≡ Some Entry.Set }
-    ensures acts { Acts state.old.current space (call.ModRefs name (number_of Right.PortSet) delta) result state.new.current effects.new }
+    ensures acts { Acts state.old.current space (call.ModRefs name (number_of Right.PortSet) delta) result
+        state.new.current effects.new }
     ensures before { state.new.before ≡ state.old.before }
 {
     let _none = &effects;

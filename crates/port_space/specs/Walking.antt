@@ -59,8 +59,8 @@ module _ {X A : Type 0} where
       → ((q : ℕ) (w : X) → q < k → map.find nat_cmp q es ≡ Some w → (f (q, w) ≡ []) × (g (q, w) ≡ []))
       → ((q : ℕ) (w : X) → k < q → map.find nat_cmp q es ≡ Some w → f (q, w) ≡ g (q, w))
       → flat_map f es ≡ gained ++ flat_map g es
-  split_in f g gained k v here [] sorted found before behind = absurd (cc found)
-  split_in f g gained k v here (e ∷ es) sorted found before behind =
+  split_in f g gained k v here [] sorted found before beyond = absurd (cc found)
+  split_in f g gained k v here (e ∷ es) sorted found before beyond =
       let below = front_of (below_all nat_cmp e.0 es) (is_sorted nat_cmp es) sorted in
       let rest = back_of (below_all nat_cmp e.0 es) (is_sorted nat_cmp es) sorted in
       elim (eq_by_cmp nat_cmp k e.0)
@@ -71,7 +71,7 @@ module _ {X A : Type 0} where
             ap (λ (x : X). (k, x)) (sym (some_same e.1 v there)) ∙ ap (λ (n : ℕ). (n, e.1)) (key_is k e.0 same) in
             ap (λ (xs : List A). xs ++ flat_map f es) (subst (λ (p : ℕ × X). f p ≡ gained ++ g p) is here)
             ∙ ap (λ (xs : List A). (gained ++ g e) ++ xs)
-            (alike_in f g es rest (λ q w is. behind q w
+            (alike_in f g es rest (λ q w is. beyond q w
             (omega (arith, key_is k e.0 same, above e.0 q w es below is)) (there_found e es q w below is)))
             ∙ append_assoc gained (g e) (flat_map g es)
         | false ↦ λ (_ : _) (there : _).
@@ -79,7 +79,7 @@ module _ {X A : Type 0} where
             ap (λ (xs : List A). xs ++ flat_map f es) none.0
             ∙ split_in f g gained k v here es rest there
             (λ q w less is. before q w less (there_found e es q w below is))
-            (λ q w more is. behind q w more (there_found e es q w below is))
+            (λ q w more is. beyond q w more (there_found e es q w below is))
             ∙ ap (λ (xs : List A). gained ++ (xs ++ flat_map g es)) (sym none.1)
       ] refl found
 
@@ -97,10 +97,10 @@ module _ {X A : Type 0} where
       → ((q : ℕ) (w : X) → q < k → get m q ≡ Some w → (f (q, w) ≡ []) × (g (q, w) ≡ []))
       → ((q : ℕ) (w : X) → k < q → get m q ≡ Some w → f (q, w) ≡ g (q, w))
       → flat_map f (entries m) ≡ gained ++ flat_map g (entries m)
-  entries_split f g gained m k v there here before behind =
+  entries_split f g gained m k v there here before beyond =
       split_in f g gained k v here (entries m) (entries_sorted m) (sym (get-entries m k) ∙ there)
       (λ q w less is. before q w less (get-entries m q ∙ is))
-      (λ q w more is. behind q w more (get-entries m q ∙ is))
+      (λ q w more is. beyond q w more (get-entries m q ∙ is))
 
 module _ {X : Type 0} where
   -- the entries from a key on

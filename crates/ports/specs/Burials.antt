@@ -155,10 +155,10 @@ module _ (w : Weight) (serial : ℕ)
   port_only : (queue : ℕ) (port : PortState) → (queue == serial) ≡ false
       → is_number port.no_senders_target serial ≡ false → is_number port.port_destroyed_target serial ≡ false
       → port_weigh w queue (queue_after_death serial port) ≡ 0
-  port_only queue port apart asked told = omega (
+  port_only queue port apart asked notified = omega (
     arith,
     target_only port.no_senders_target asked,
-    target_only port.port_destroyed_target told,
+    target_only port.port_destroyed_target notified,
     weigh-map (message_weigh w queue) (message_after_death serial) port.messages,
     weigh-zero (λ (m : Message). message_weigh w queue (message_after_death serial m))
         (λ m. message_only queue m apart) port.messages,
@@ -185,12 +185,12 @@ module _ (w : Weight) (serial : ℕ)
 -- the port's own weight is that of its messages
 own_weight : (w : Weight) (serial : ℕ) (ports : Ports) → IsUntargeted serial ports
     → weight (port_weigh w) serial (get ports serial) ≡ weigh (message_weigh w serial) (messages_at ports serial)
-own_weight w serial ports untargeted = by (get ports serial) untargeted.none_asked untargeted.none_told
+own_weight w serial ports untargeted = by (get ports serial) untargeted.none_asked untargeted.none_notified
   where
     by : (o : Option PortState) → option_and_then no_senders_of o ≡ None → option_and_then destroyed_of o ≡ None
         → weight (port_weigh w) serial o ≡ weigh (message_weigh w serial) (messages_in o)
-    by None asked told = refl
-    by (Some port) asked told = omega (arith, ap (target_weigh w) asked, ap (target_weigh w) told)
+    by None asked notified = refl
+    by (Some port) asked notified = omega (arith, ap (target_weigh w) asked, ap (target_weigh w) notified)
 
 -- the counts of both kinds of right to the port are cleared
 cleared_counts : (f g : Weight → ℕ) (counts : Counts) (serial : ℕ) → serial < 2 ^ 64
@@ -432,7 +432,8 @@ pub buried_indexed : (table after : PortTable) (old new : PortIndexes) (serial :
 buried_indexed table after old new serial fits untargeted is done are =
     subst (λ (t : PortTable). AreIndexed t (present_parts new)) (sym is) (record {
       counted =
-          subst (AreCounted (weighed (map_values (queue_after_death serial) (remove table.ports serial)))) (sym done.counts)
+          subst (AreCounted (weighed (map_values (queue_after_death serial) (remove table.ports serial))))
+          (sym done.counts)
           (cleared_counts (weighed (remove table.ports serial)) _ _ serial fits
           (λ what s apart. weighed_blind (right_weight what s) serial
           (λ w. blind_to w what s serial apart) (remove table.ports serial))
@@ -443,7 +444,8 @@ buried_indexed table after old new serial fits untargeted is done are =
           ∙ ap (cond {A = ℕ} (inner == serial) 0) (queue_gone inner outer small)
           ∙ sym (carried_buried serial table.ports inner outer);
       no_senders =
-          subst (IsIndexed (target_at no_senders_of (map_values (queue_after_death serial) (remove table.ports serial))))
+          subst (IsIndexed (target_at no_senders_of (map_values (queue_after_death serial)
+          (remove table.ports serial))))
           (sym done.no_senders)
           (alike_indexed (target_at no_senders_of table.ports) _ old.no_senders.current
           (λ q _. target_buried no_senders_of (λ s p. refl) serial table.ports untargeted.none_asked q) are.no_senders);
@@ -451,7 +453,8 @@ buried_indexed table after old new serial fits untargeted is done are =
           subst (IsIndexed (target_at destroyed_of (map_values (queue_after_death serial) (remove table.ports serial))))
           (sym done.destroyed)
           (alike_indexed (target_at destroyed_of table.ports) _ old.port_destroyed.current
-          (λ q _. target_buried destroyed_of (λ s p. refl) serial table.ports untargeted.none_told q) are.destroyed);
+          (λ q _. target_buried destroyed_of (λ s p. refl) serial table.ports untargeted.none_notified q)
+          are.destroyed);
       small = small_buried table serial are.small;
     })
   where

@@ -276,7 +276,8 @@ carriers_carried_more g carriers queue (r ∷ rights) small are i o other =
     omega (
       arith,
       carriers_carried_more
-          (λ i o. g i o + in_queue queue o (receives i r)) (carrier_more carriers queue r.kind r.port) queue rights small
+          (λ i o. g i o + in_queue queue o (receives i r)) (carrier_more carriers queue r.kind r.port) queue rights
+          small
           (carrier_carried_more g carriers queue r small are) i o other,
       two_in (queue == o) (receives i r) (received i rights),
     )

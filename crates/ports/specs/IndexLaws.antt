@@ -266,12 +266,12 @@ fit_more (m ∷ messages) message fit last s to =
     → (b || list_any (mentions s) (messages ++ message ∷ [])) ≡ true → s < 2 ^ 64) [
       | true ↦ λ (is : _) (_ : _). fit s (ap (λ (b : Bool). b || list_any (mentions s) messages) is)
       | false ↦ λ (is : _) (e : _). fit_more messages message
-          (λ k some. fit k (behind (mentions k m) (list_any (mentions k) messages) some)) last s e
+          (λ k some. fit k (beyond (mentions k m) (list_any (mentions k) messages) some)) last s e
     ] refl to
   where
-    behind : (a b : Bool) → b ≡ true → (a || b) ≡ true
-    behind true b e = refl
-    behind false b e = e
+    beyond : (a b : Bool) → b ≡ true → (a || b) ≡ true
+    beyond true b e = refl
+    beyond false b e = e
 
 live_fits : (table : PortTable) (message : Message) → AreLive table.ports message → AreSmall table
     → Fit (λ s. mentions s message)

@@ -45,7 +45,7 @@ pub record IsUntargeted (serial : ℕ) (ports : Ports) : Type 0 where
   pub no_senders : (q : ℕ) → is_number (target_at no_senders_of ports q) serial ≡ false
   pub destroyed : (q : ℕ) → is_number (target_at destroyed_of ports q) serial ≡ false
   pub none_asked : target_at no_senders_of ports serial ≡ None
-  pub none_told : target_at destroyed_of ports serial ≡ None
+  pub none_notified : target_at destroyed_of ports serial ≡ None
 
 same : (m n : Ports) → ((q : ℕ) → get m q ≡ get n q) → m ≡ n
 same m n alike = same_map nat_cmp_total nat_cmp-IsAntisymmetric m n alike
@@ -164,10 +164,10 @@ module _ (look : PortState → Option ℕ) (clear forget : PortState → PortSta
   pub none_requests : (ports : Ports) (at : ℕ) → ((q : ℕ) → q < at → is_number (target_at look ports q) target ≡ false)
       → ((q : ℕ) → at ≤ q → is_number (target_at look ports q) target ≡ false) → (q : ℕ)
       → is_number (target_at look ports q) target ≡ false
-  none_requests ports at before behind q =
+  none_requests ports at before beyond q =
       elim (nat_lt q at) as (λ (b : Bool). nat_lt q at ≡ b → is_number (target_at look ports q) target ≡ false) [
         | true ↦ λ (e : _). before q (ltb-true q at e)
-        | false ↦ λ (e : _). behind q (ltb-false q at e)
+        | false ↦ λ (e : _). beyond q (ltb-false q at e)
       ] refl
 
   -- none is left
@@ -232,14 +232,14 @@ disconnected_untargeted serial ports = record {
       (get_disconnected serial ports q) ∙ asked q (eq_by_cmp nat_cmp q serial);
   destroyed =
       λ q. ap (λ (o : Option PortState). is_number (option_and_then destroyed_of o) serial)
-      (get_disconnected serial ports q) ∙ told q (eq_by_cmp nat_cmp q serial);
+      (get_disconnected serial ports q) ∙ notified q (eq_by_cmp nat_cmp q serial);
   none_asked =
       ap (option_and_then no_senders_of) (get_disconnected serial ports serial) ∙ ap
       (λ (b : Bool). option_and_then no_senders_of
       (cond b (option_map requests_cleared (get ports serial))
       (option_map (λ port. destroyed_forgotten serial (no_senders_forgotten serial port))
       (get ports serial)))) (same_key serial) ∙ nothing no_senders_of (λ _. refl) (get ports serial);
-  none_told =
+  none_notified =
       ap (option_and_then destroyed_of) (get_disconnected serial ports serial) ∙ ap
       (λ (b : Bool). option_and_then destroyed_of
       (cond b (option_map requests_cleared (get ports serial))
@@ -266,12 +266,12 @@ disconnected_untargeted serial ports = record {
         each None = refl
         each (Some port) = without_is serial port.no_senders_target
 
-    told : (q : ℕ) (b : Bool) → is_number
+    notified : (q : ℕ) (b : Bool) → is_number
         (option_and_then destroyed_of (cond b (option_map requests_cleared (get ports serial))
         (option_map (λ port. destroyed_forgotten serial (no_senders_forgotten serial port)) (get ports q)))) serial
         ≡ false
-    told q true = ap (λ (o : Option ℕ). is_number o serial) (nothing destroyed_of (λ _. refl) (get ports serial))
-    told q false = each (get ports q)
+    notified q true = ap (λ (o : Option ℕ). is_number o serial) (nothing destroyed_of (λ _. refl) (get ports serial))
+    notified q false = each (get ports q)
       where
         each : (o : Option PortState) → is_number
             (option_and_then destroyed_of (option_map

@@ -130,11 +130,11 @@ fn subtract_body(
     ensures carriers_before { carriers.new.before ≡ carriers.old.before }
 {
     let mut rest = rights;
-    while let Some((carried, behind)) = rest.split_first() {
+    while let Some((carried, beyond)) = rest.split_first() {
         let now = ports.seen(*carried);
         subtract_carried(counts, now)?;
         subtract_carrier(carriers, queue, now)?;
-        rest = behind;
+        rest = beyond;
     }
     Ok(())
 }

@@ -33,10 +33,10 @@ pub(crate) fn add_body(
     ensures carriers_before { carriers.new.before ≡ carriers.old.before }
 {
     let mut rest = rights;
-    while let Some((carried, behind)) = rest.split_first() {
+    while let Some((carried, beyond)) = rest.split_first() {
         add_carried(counts, *carried)?;
         add_carrier(carriers, queue, *carried)?;
-        rest = behind;
+        rest = beyond;
     }
     Ok(())
 }

@@ -53,7 +53,8 @@ impl Model for Queue {
 
     ghost view = { λ q. record { before = take q.before q.messages.items; current = drop q.taken q.messages.items } };
 
-    ghost invariant = { λ q. (q.before ≤ length q.messages.items) × (q.taken ≤ length q.messages.items) × (q.before ≤ MAX_MESSAGES)
+    ghost invariant = { λ q. (q.before ≤ length q.messages.items) × (q.taken ≤ length q.messages.items)
+        × (q.before ≤ MAX_MESSAGES)
         × (length q.messages.items ≤ MAX_MESSAGES + q.taken) };
 }
 

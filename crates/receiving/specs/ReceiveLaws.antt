@@ -87,24 +87,25 @@ has_first state serial port message later live first =
     ap (λ (l : List Message). is_some (oldest l)) (messages_of_port state serial port live ∙ first)
 
 -- another receive that took the message of the port that was found
-abbrev pub ToldBy : State → ℕ → Names → ReceiveArguments → ℕ → ℕ → Reply → Reply → State → List Effect → Type 0
-ToldBy old space names arguments member serial answer other last others =
+abbrev pub HasOneAnswer : State → ℕ → Names → ReceiveArguments → ℕ → ℕ → Reply → Reply → State → List Effect → Type 0
+HasOneAnswer old space names arguments member serial answer other last others =
     OfOldest old serial (λ port message. TakesOut old space names arguments member serial port message other last others
     → answer ≡ other)
 
 same_source : (old : State) (space : ℕ) (names : Names) (arguments : ReceiveArguments)
     (member serial other_member other_serial : ℕ) (port : PortState) (message : Message) (later : List Message)
     (answer other : Reply) (last : State) (others : List Effect)
-    → ToldBy old space names arguments member serial answer other last others → HoldsReceiveRight names member serial
+    → HasOneAnswer old space names arguments member serial answer other last others
+    → HoldsReceiveRight names member serial
     → HoldsReceiveRight names other_member other_serial → other_member ≡ member
     → finmap.get old.ports other_serial ≡ Some port → port.messages ≡ message ∷ later
     → TakesOut old space names arguments other_member other_serial port message other last others → answer ≡ other
 same_source old space names arguments member serial other_member other_serial port message later answer other last
-    others told here there same live first may =
+    others alike here there same live first may =
     let serials : other_serial ≡ serial =
     one_serial names member other_serial serial
     (subst (λ (n : ℕ). HoldsReceiveRight names n other_serial) same there) here in
-    told port message later (subst (λ (s : ℕ). finmap.get old.ports s ≡ Some port) serials live) first
+    alike port message later (subst (λ (s : ℕ). finmap.get old.ports s ≡ Some port) serials live) first
     (subst (λ (s : ℕ). TakesOut old space names arguments member s port message other last others) serials
     (subst (λ (n : ℕ). TakesOut old space names arguments n other_serial port message other last others) same may))
 
@@ -157,7 +158,7 @@ module _ (old : State) (space : ℕ) (names : Names) (arguments : ReceiveArgumen
     (takes : OfOldest old serial
     (λ port message. TakesOut old space names arguments member serial port message answer new effects))
     (other : Reply) (last : State) (others : List Effect)
-    (told : ToldBy old space names arguments member serial answer other last others)
+    (alike : HasOneAnswer old space names arguments member serial answer other last others)
     (shows : wanted ≡ preferred_by other) where
   by_member : (name port_serial : ℕ) (port : PortState) (message : Message) (later : List Message) (code : KernReturn)
       (size : ℕ) (encoding : List ℕ) → Contains (source_list old names arguments) name
@@ -172,7 +173,7 @@ module _ (old : State) (space : ℕ) (names : Names) (arguments : ReceiveArgumen
       (shows ∙ by_code other code size name encoding is ∙ by) among holds
       (has_first old port_serial port message later live first) in
       same_source old space names arguments member serial name port_serial port message later answer other last others
-      told source.holds holds same live first may
+      alike source.holds holds same live first may
 
   by_lacking : (name port_serial : ℕ) (port : PortState) (message : Message) (later : List Message)
       → Contains (source_list old names arguments) name → HoldsReceiveRight names name port_serial
@@ -217,8 +218,8 @@ module _ (old : State) (space : ℕ) (names : Names) (arguments : ReceiveArgumen
       ] refl may
 
   -- a receive with the same reply took the same message
-  pub receives_told : Receives old space names arguments other last others → answer ≡ other
-  receives_told may =
+  pub receives_one_answer : Receives old space names arguments other last others → answer ≡ other
+  receives_one_answer may =
       let taken : ReceivesBy None old space names arguments other last others =
       subst (λ (refusal : Option KernReturn). ReceivesBy refusal old space names arguments other last others)
       source.passes may in

@@ -199,14 +199,14 @@ whole_received old space names member serial port message answer mid new effects
 
 -- A reply is determined by what it shows.
 
-pub large_told : (old : State) (space : ℕ) (names : Names) (arguments : ReceiveArguments) (member serial : ℕ)
+pub large_reported : (old : State) (space : ℕ) (names : Names) (arguments : ReceiveArguments) (member serial : ℕ)
     (port : PortState)
     (message : Message) (answer : Reply) (new : State) (effects : List Effect) (other : Reply) (last : State)
     (others : List Effect)
     → nat_lt arguments.limit (message_size message) ≡ true
     → TooLarge old member serial message arguments.large answer new effects
     → TakesOut old space names arguments member serial port message other last others → answer ≡ other
-large_told old space names arguments member serial port message answer new effects other last others large is may =
+large_reported old space names arguments member serial port message answer new effects other last others large is may =
     let too : TooLarge old member serial message arguments.large other last others =
     subst (λ (b : Bool). MatchBool b (TooLarge old member serial message arguments.large other last others)
     (MatchBool (lacks_names names message)
@@ -228,19 +228,19 @@ small_takes old space names arguments member serial port message other last othe
     ((other ≡ without_message RcvHeaderErrorSpace 0 0) × (last ≡ old) × (others ≡ []))
     (Received old space names member serial port message other last others))) small may
 
-pub lacking_told : (old : State) (space : ℕ) (names : Names) (arguments : ReceiveArguments) (member serial : ℕ)
+pub lacking_reported : (old : State) (space : ℕ) (names : Names) (arguments : ReceiveArguments) (member serial : ℕ)
     (port : PortState) (message : Message) (answer : Reply) (other : Reply) (last : State) (others : List Effect)
     → nat_lt arguments.limit (message_size message) ≡ false → lacks_names names message ≡ true
     → answer ≡ without_message RcvHeaderErrorSpace 0 0
     → TakesOut old space names arguments member serial port message other last others → answer ≡ other
-lacking_told old space names arguments member serial port message answer other last others small lacks is may =
+lacking_reported old space names arguments member serial port message answer other last others small lacks is may =
     let too : (other ≡ without_message RcvHeaderErrorSpace 0 0) × (last ≡ old) × (others ≡ []) =
     subst (λ (b : Bool). MatchBool b ((other ≡ without_message RcvHeaderErrorSpace 0 0) × (last ≡ old) × (others ≡ []))
     (Received old space names member serial port message other last others)) lacks
     (small_takes old space names arguments member serial port message other last others small may) in
     is ∙ sym too.0
 
-pub whole_told : (old : State) (space : ℕ) (names : Names) (arguments : ReceiveArguments) (member serial : ℕ)
+pub whole_reported : (old : State) (space : ℕ) (names : Names) (arguments : ReceiveArguments) (member serial : ℕ)
     (port : PortState)
     (message : Message) (answer : Reply) (wanted : List ℕ) (other : Reply) (last : State) (others : List Effect)
     → nat_lt arguments.limit (message_size message) ≡ false → lacks_names names message ≡ false → LawfulMessage message
@@ -250,8 +250,9 @@ pub whole_told : (old : State) (space : ℕ) (names : Names) (arguments : Receiv
     (received_encoding message member port.sequence_number wanted))
     → wanted ≡ names_shown (encoding_in other)
     → TakesOut old space names arguments member serial port message other last others → answer ≡ other
-whole_told old space names arguments member serial port message answer wanted other last others small fits lawful named
-    told shows may =
+whole_reported old space names arguments member serial port message answer wanted other last others small fits lawful
+    named
+    alike shows may =
     let whole : Received old space names member serial port message other last others =
     subst (λ (b : Bool). MatchBool b ((other ≡ without_message RcvHeaderErrorSpace 0 0) × (last ≡ old) × (others ≡ []))
     (Received old space names member serial port message other last others)) fits
@@ -262,7 +263,7 @@ whole_told old space names arguments member serial port message answer wanted ot
     shows ∙ ap (λ (r : Reply). names_shown (encoding_in r)) whole.3
     ∙ shown_are_given message member port.sequence_number given lawful many
     (arrived_small names (arriving message) given whole.1 (lawful_fit names named) whole.2) in
-    told whole.1 (subst (λ (l : List ℕ). Arrives names (arriving message) l whole.1) (sym same) whole.2)
+    alike whole.1 (subst (λ (l : List ℕ). Arrives names (arriving message) l whole.1) (sym same) whole.2)
     ∙ ap (λ (l : List ℕ). reply.Message Success (message_size message) member
     (received_encoding message member port.sequence_number l)) same ∙ sym whole.3
 

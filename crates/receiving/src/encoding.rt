@@ -95,7 +95,7 @@ fn body_names(reply: Option<CarriedRight>, given: &[u32]) -> &[u32]
     ensures { result.now ≡ body_names reply given.now }
 {
     match (reply, given.split_first()) {
-        (Some(_), Some((_, behind))) => behind,
+        (Some(_), Some((_, beyond))) => beyond,
         _ => given,
     }
 }

@@ -57,7 +57,8 @@ pub fn receive(
     requires none { effects.old ≡ [] }
     requires there { IsSome (map.get state.old.current.spaces space) }
     requires lawful { Lawful state.old.current }
-    ensures acts { Acts state.old.current space (call.Receive asked.limit asked.large asked.name asked.waited) result state.new.current effects.new }
+    ensures acts { Acts state.old.current space (call.Receive asked.limit asked.large asked.name asked.waited) result
+        state.new.current effects.new }
     // If the call may be answered by a reply that shows this, it is.
     ensures shown { IfOk result (λ reply. (other : machine.Reply) → (last : State) → (others : List waiting.Effect)
         → preference ≡ preferred_by other → names.now ≡ names_shown (encoding_in other)

@@ -56,21 +56,21 @@ of_memory (Ok v) is = tt
 of_memory (Err f) is = inr (inr is)
 
 pub memory_no_damage : {T : Type 0} (r : Result T StoreFault) → r ≡ Err fault.NoMemory → IsErrOf r fault.Damaged → ⊥
-memory_no_damage (Ok v) is told = cc is
-memory_no_damage (Err f) is told = cc (is, told)
+memory_no_damage (Ok v) is reported = cc is
+memory_no_damage (Err f) is reported = cc (is, reported)
 
 pub of_device : {T : Type 0} (r : Result T StoreFault) → r ≡ Err fault.Device → OnlyReadingFaults r
 of_device (Ok v) is = tt
 of_device (Err f) is = inl is
 
 pub device_no_damage : {T : Type 0} (r : Result T StoreFault) → r ≡ Err fault.Device → IsErrOf r fault.Damaged → ⊥
-device_no_damage (Ok v) is told = cc is
-device_no_damage (Err f) is told = cc (is, told)
+device_no_damage (Ok v) is reported = cc is
+device_no_damage (Err f) is reported = cc (is, reported)
 
 pub other_fault : {T P : Type 0} (r : Result T StoreFault) (f : StoreFault) → r ≡ Err f
     → OnErr r ((r ≡ Err fault.Device) ⊎ P) → (f ≡ fault.Device → ⊥) → P
-other_fault (Ok v) f is told other = absurd (cc is)
-other_fault (Err e) f is told other = elim told [
+other_fault (Ok v) f is reported other = absurd (cc is)
+other_fault (Err e) f is reported other = elim reported [
   | inl device ↦ absurd (other (cc (is, device)))
   | inr holds ↦ holds
 ]
@@ -89,25 +89,25 @@ none_in_error P (Err f) e is = tt
 pub counts_same : {T : Type 0} (before now : ℕ) (r : Result T StoreFault) → (IsErrOf r fault.Device → ⊥) → now ≡ before
     → CountsDevice before now r
 counts_same before now (Ok v) never same =
-    record { quiet = same; still = tt; device = λ told. absurd (never told) }
+    record { quiet = same; still = tt; device = λ reported. absurd (never reported) }
 counts_same before now (Err f) never same =
-    record { quiet = tt; still = inr same; device = λ told. absurd (never told) }
+    record { quiet = tt; still = inr same; device = λ reported. absurd (never reported) }
 
 pub counts_ok : {T : Type 0} (before now : ℕ) (v : T) → now ≡ before → CountsDevice before now (Ok v)
-counts_ok before now v same = counts_same before now (Ok v) (λ told. cc told) same
+counts_ok before now v same = counts_same before now (Ok v) (λ reported. cc reported) same
 
 pub counts_other : {T : Type 0} (before now : ℕ) (r : Result T StoreFault) (f : StoreFault) → r ≡ Err f
     → (f ≡ fault.Device → ⊥) → now ≡ before → CountsDevice before now r
-counts_other before now r f is other same = counts_same before now r (λ told. other (cc (is, told))) same
+counts_other before now r f is other same = counts_same before now r (λ reported. other (cc (is, reported))) same
 
 pub counts_memory : {T : Type 0} (before now : ℕ) (r : Result T StoreFault) → r ≡ Err fault.NoMemory → now ≡ before
     → CountsDevice before now r
-counts_memory before now r is same = counts_same before now r (λ told. cc (is, told)) same
+counts_memory before now r is same = counts_same before now r (λ reported. cc (is, reported)) same
 
 pub counts_device : {T : Type 0} (before now : ℕ) (r : Result T StoreFault) → r ≡ Err fault.Device
     → now ≡ one_more before → CountsDevice before now r
 counts_device before now (Ok v) is more = absurd (cc is)
-counts_device before now (Err f) is more = record { quiet = tt; still = inl is; device = λ told. more }
+counts_device before now (Err f) is more = record { quiet = tt; still = inl is; device = λ reported. more }
 
 -- a fault that is passed on
 pub counts_passed : {T U : Type 0} (before now : ℕ) (f : StoreFault) (r : Result U StoreFault) → r ≡ Err f
@@ -116,7 +116,7 @@ counts_passed before now f (Ok v) is counts = absurd (cc is)
 counts_passed before now f (Err e) is counts = record {
   quiet = tt;
   still = elim counts.still [ inl device ↦ inl (cc (device, is)) | inr same ↦ inr same ];
-  device = λ told. counts.device (cc (told, is));
+  device = λ reported. counts.device (cc (reported, is));
 }
 
 -- a step after others that didn't fail
@@ -133,7 +133,7 @@ counts_read before mid now (Err e) f (Ok v) same from is still device = absurd (
 counts_read before mid now (Err e) f (Err h) same from is still device = record {
   quiet = tt;
   still = elim still [ inl failed ↦ inl (cc (failed, from, is)) | inr kept ↦ inr (kept ∙ same) ];
-  device = λ told. device (cc (told, from, is)) ∙ ap one_more same;
+  device = λ reported. device (cc (reported, from, is)) ∙ ap one_more same;
 }
 
 -- what opening a store comes to

@@ -78,7 +78,7 @@ front_read slot buffer old n count bytes =
     ]
 
 -- an epoch after the front of a header
-pub epoch_after : (slot rest behind : List ℕ) (epoch : ℕ) → slot ≡ version_one ++ rest
-    → rest ≡ long_word epoch ++ behind → epoch < 2 ^ 64 → IsOfEpoch (epoch % 2) epoch slot
-epoch_after slot rest behind epoch first second fits =
-    record { rest = behind; encoding = first ∙ ap (λ l. version_one ++ l) second; fits = fits; of_number = refl }
+pub epoch_after : (slot rest beyond : List ℕ) (epoch : ℕ) → slot ≡ version_one ++ rest
+    → rest ≡ long_word epoch ++ beyond → epoch < 2 ^ 64 → IsOfEpoch (epoch % 2) epoch slot
+epoch_after slot rest beyond epoch first second fits =
+    record { rest = beyond; encoding = first ∙ ap (λ l. version_one ++ l) second; fits = fits; of_number = refl }

@@ -34,10 +34,10 @@ same_rest n (a ∷ more) (b ∷ more_too) x y shut shut_too are are_too room roo
     (are_records-front a (all_records more) are) (are_records-front b (all_records more_too) are_too) (omega arith)
     (omega arith) whole in
     let counts : length a ≡ length b = ap length first.0 in
-    let behind : batches_encoding (n + length a) more ++ x ≡ batches_encoding (n + length a) more_too ++ y =
+    let beyond : batches_encoding (n + length a) more ++ x ≡ batches_encoding (n + length a) more_too ++ y =
     first.1 ∙ ap (λ k. batches_encoding (n + k) more_too ++ y) (sym counts) in
     same_rest (n + length a) more more_too x y shut shut_too (are_records-back a (all_records more) are)
-    (are_records-back b (all_records more_too) are_too) (omega arith) (omega arith) behind
+    (are_records-back b (all_records more_too) are_too) (omega arith) (omega arith) beyond
 
 one_rest : (bytes : List ℕ) (r1 r2 : List Record) → (a : EncodesBatches bytes r1) → (b : EncodesBatches bytes r2)
     → a.rest ≡ b.rest
@@ -93,10 +93,10 @@ empty_has_gate epoch segment is = has_gate epoch segment []
 -- a segment in use to which a batch is appended
 
 -- the batches of a segment in use, with other bytes after them
-other_after : (epoch : ℕ) (old new behind : List ℕ) (records : List Record) → (used : IsInUse epoch old records)
-    → new ≡ take (length old - 1) old ++ behind
-    → new ≡ segment_header open_gate epoch ++ (batches_encoding 0 used.encoded.batches ++ behind)
-other_after epoch old new behind records used is =
+other_after : (epoch : ℕ) (old new beyond : List ℕ) (records : List Record) → (used : IsInUse epoch old records)
+    → new ≡ take (length old - 1) old ++ beyond
+    → new ≡ segment_header open_gate epoch ++ (batches_encoding 0 used.encoded.batches ++ beyond)
+other_after epoch old new beyond records used is =
     let header : List ℕ = segment_header open_gate epoch in
     let encoding : List ℕ = batches_encoding 0 used.encoded.batches in
     let whole : old ≡ (header ++ encoding) ++ used.encoded.rest =
@@ -104,26 +104,26 @@ other_after epoch old new behind records used is =
     ∙ sym (append_assoc header encoding used.encoded.rest) in
     let long : length old - 1 ≡ length (header ++ encoding) =
     omega (arith, used.ended, ap length whole, length-append (header ++ encoding) used.encoded.rest) in
-    is ∙ (λ i. take (long i) (whole i) ++ behind) ∙ ap
-    (λ l. l ++ behind) (take_at (header ++ encoding) used.encoded.rest (length (header ++ encoding)) refl)
-    ∙ append_assoc header encoding behind
+    is ∙ (λ i. take (long i) (whole i) ++ beyond) ∙ ap
+    (λ l. l ++ beyond) (take_at (header ++ encoding) used.encoded.rest (length (header ++ encoding)) refl)
+    ∙ append_assoc header encoding beyond
 
 closed_with_tail : (rest tail : List ℕ) → length rest ≡ 1 → IsClosed rest → IsClosed (rest ++ tail)
 closed_with_tail [] tail one shut = absurd (omega (arith, one))
 closed_with_tail (gate ∷ rest) tail one shut = shut
 
-same_records : (epoch : ℕ) (old new behind : List ℕ) (records : List Record) → (used : IsInUse epoch old records)
-    → IsClosed behind → 0 < length behind
-    → new ≡ segment_header open_gate epoch ++ (batches_encoding 0 used.encoded.batches ++ behind) → HasLastGate new
-same_records epoch old new behind records used shut some is =
+same_records : (epoch : ℕ) (old new beyond : List ℕ) (records : List Record) → (used : IsInUse epoch old records)
+    → IsClosed beyond → 0 < length beyond
+    → new ≡ segment_header open_gate epoch ++ (batches_encoding 0 used.encoded.batches ++ beyond) → HasLastGate new
+same_records epoch old new beyond records used shut some is =
     let encoded = used.encoded in
     has_gate epoch new records
     (record {
-      content = batches_encoding 0 encoded.batches ++ behind;
+      content = batches_encoding 0 encoded.batches ++ beyond;
       encoding = is;
       encoded = record {
         batches = encoded.batches;
-        rest = behind;
+        rest = beyond;
         encoding = refl;
         closed = shut;
         none_empty = encoded.none_empty;

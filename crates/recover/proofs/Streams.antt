@@ -16,12 +16,12 @@ pub record IsLeft (segment : List ℕ) (first place : Place) (old now : State) :
       → Replays segment place now state count end ↔ Replays segment first old state count end
 
 -- the records after the first, from the state after it
-behind : (segment : List ℕ) (place next : Place) (entry : Record) (now mid state : State) (records more : List Record)
+beyond : (segment : List ℕ) (place next : Place) (entry : Record) (now mid state : State) (records more : List Record)
     (count end : ℕ) → records ≡ entry ∷ more → EncodesFrom segment next more end
     → ((other : State) → Step now entry.space entry.call entry.reply other → other ≡ mid)
     → next.number ≡ place.number + 1 → Run now records state → count ≡ place.number + length records
     → Replays segment next mid state count end
-behind segment place next entry now mid state records more count end are encoded only numbered run counted =
+beyond segment place next entry now mid state records more count end are encoded only numbered run counted =
     let first : Run now (entry ∷ more) state = subst (λ (l : List Record). Run now l state) are run in
     record {
       records = more;
@@ -46,7 +46,7 @@ left_on segment first place next entry old now mid so_far leads numbered step on
     λ r.
         let here = (so_far.same state count end).1 r in
         let apart = (leads.on here.records end).0 here.encoded in
-        behind segment place next entry now mid state here.records apart.0 count end apart.1 apart.2 only numbered
+        beyond segment place next entry now mid state here.records apart.0 count end apart.1 apart.2 only numbered
         here.run here.counted,
   );
 }
@@ -161,6 +161,6 @@ replayed_all segment old new count end inside replays =
       encoded = counted.0;
       run = replays.run;
       counted = omega (arith, replays.counted);
-      behind = counted.1;
+      beyond = counted.1;
       inside = counted.2;
     }

@@ -48,8 +48,9 @@ tell_odd s e a b c d odd t =
     (subst (λ m. TellBy s b a d c 1 m) (sym even) (t.image1, t.image0, t.segment1, t.segment0)))
 
 -- the epoch that a slot is of is the only one
-told_epoch : (length number n e o : ℕ) (slot : List ℕ) → Tells length number slot (Some o) → IsOfEpoch n e slot → o ≡ e
-told_epoch length number n e o slot tells is =
+reported_epoch : (length number n e o : ℕ) (slot : List ℕ) → Tells length number slot (Some o) → IsOfEpoch n e slot
+    → o ≡ e
+reported_epoch length number n e o slot tells is =
     one_epoch o e tells.1.rest is.rest tells.1.fits is.fits (sym tells.1.encoding ∙ is.encoding)
 
 encoded_epoch : (e : ℕ) (slot : List ℕ) (records : List Record) → e < 2 ^ 64 → EncodesSegment e slot records
@@ -61,9 +62,9 @@ encoded_epoch e slot records fits encoded =
 
 before_or_none : (e f : ℕ) (slot : List ℕ) (o : Option ℕ) → Tells image_header ((e + 1) % 2) slot o → IsLatest e o
     → IsOfEpoch ((e + 1) % 2) f slot → IsOpen image_header slot → f ≤ e
-before_or_none e f slot None told latest is is_open = absurd (told is_open)
-before_or_none e f slot (Some before) told latest is is_open =
-    omega (arith, latest, told_epoch image_header ((e + 1) % 2) ((e + 1) % 2) f before slot told is)
+before_or_none e f slot None reported latest is is_open = absurd (reported is_open)
+before_or_none e f slot (Some before) reported latest is is_open =
+    omega (arith, latest, reported_epoch image_header ((e + 1) % 2) ((e + 1) % 2) f before slot reported is)
 
 at_most : (s : Slots) (e : ℕ) (other own_segment other_segment : Option ℕ)
     → TellOf s e (Some e) other own_segment other_segment → IsLatest e other
@@ -77,7 +78,7 @@ at_most s e other own_segment other_segment tells latest base records stored =
           let here : IsOfEpoch (e % 2) f (slot_of s (image_slot e)) =
           subst (IsOfEpoch (e % 2) f) (image_at s e)
           (subst (λ n. IsOfEpoch n f ((as_written s).image n)) own image_is) in
-          omega (arith, told_epoch image_header (e % 2) (e % 2) f e (slot_of s (image_slot e)) tells.image here)
+          omega (arith, reported_epoch image_header (e % 2) (e % 2) f e (slot_of s (image_slot e)) tells.image here)
       | inr next ↦
           let here : IsOfEpoch ((e + 1) % 2) f (slot_of s (image_slot (e + 1))) =
           subst (IsOfEpoch ((e + 1) % 2) f) (image_at s (e + 1))
@@ -97,25 +98,27 @@ epoch_is s e other own_segment other_segment tells latest base records stored =
     (subst (IsOfEpoch (e % 2) e) (sym (image_at s e)) tells.image.1) in
     omega (arith, least, at_most s e other own_segment other_segment tells latest base records stored)
 
-own_told : (e : ℕ) (slot : List ℕ) (o : Option ℕ) (records : List Record) → Tells segment_header_length (e % 2) slot o
+own_reported : (e : ℕ) (slot : List ℕ) (o : Option ℕ) (records : List Record)
+    → Tells segment_header_length (e % 2) slot o
     → e < 2 ^ 64 → EncodesSegment e slot records → o ≡ Some e
-own_told e slot None records told fits encoded = absurd (told (segment_is_open e slot records encoded))
-own_told e slot (Some o) records told fits encoded =
-    ap Some (told_epoch segment_header_length (e % 2) (e % 2) e o slot told (encoded_epoch e slot records fits encoded))
+own_reported e slot None records reported fits encoded = absurd (reported (segment_is_open e slot records encoded))
+own_reported e slot (Some o) records reported fits encoded =
+    ap Some (reported_epoch segment_header_length (e % 2) (e % 2) e o slot reported
+    (encoded_epoch e slot records fits encoded))
 
-other_told : (e : ℕ) (slot : List ℕ) (o : Option ℕ) (next : List Record)
+other_reported : (e : ℕ) (slot : List ℕ) (o : Option ℕ) (next : List Record)
     → Tells segment_header_length ((e + 1) % 2) slot o → Continues e slot next → (o ≡ Some (e + 1)) ⊎ Adjoins e o
-other_told e slot None next told continues = inr tt
-other_told e slot (Some o) next told (inl closed) = absurd (closed.0 told.0)
-other_told e slot (Some o) next told (inr (inl before)) =
+other_reported e slot None next reported continues = inr tt
+other_reported e slot (Some o) next reported (inl closed) = absurd (closed.0 reported.0)
+other_reported e slot (Some o) next reported (inr (inl before)) =
     inr (omega (
       arith,
       before.1,
-      told_epoch segment_header_length ((e + 1) % 2)
-          (before.0 % 2) before.0 o slot told before.2,
+      reported_epoch segment_header_length ((e + 1) % 2)
+          (before.0 % 2) before.0 o slot reported before.2,
     ))
-other_told e slot (Some o) next told (inr (inr encoded)) =
-    inl (ap Some (told_epoch segment_header_length ((e + 1) % 2) ((e + 1) % 2) (e + 1) o slot told
+other_reported e slot (Some o) next reported (inr (inr encoded)) =
+    inl (ap Some (reported_epoch segment_header_length ((e + 1) % 2) ((e + 1) % 2) (e + 1) o slot reported
     (encoded_epoch (e + 1) slot next encoded.0 encoded.1)))
 
 -- the parts of a store in use of this epoch, by slots
@@ -145,11 +148,11 @@ pub never_new : (s : Slots) (e : ℕ) → IsOpen image_header (slot_of s (image_
 never_new s e is_open new =
     new.no_image (e % 2) (omega arith) (subst (IsOpen image_header) (sym (image_at s e)) is_open)
 
-pub told_damaged : (s : Slots) (e : ℕ) (other own_segment other_segment : Option ℕ)
+pub reported_damaged : (s : Slots) (e : ℕ) (other own_segment other_segment : Option ℕ)
     → TellOf s e (Some e) other own_segment other_segment → IsLatest e other
     → (own_segment ≢ Some e) ⊎ ((other_segment ≢ Some (e + 1)) × (Adjoins e other_segment → ⊥))
     → (base : State) (records : List Record) → Encodes (as_written s) base records → ⊥
-told_damaged s e other own_segment other_segment tells latest wrong base records encoded =
+reported_damaged s e other own_segment other_segment tells latest wrong base records encoded =
     elim encoded.reading as (λ _. ⊥) [
       | inl new ↦ never_new s e tells.image.0 new.0
       | inr stored ↦
@@ -157,9 +160,9 @@ told_damaged s e other own_segment other_segment tells latest wrong base records
           parts_of s e base records stored
           (epoch_is s e other own_segment other_segment tells latest base records stored) in
           elim wrong as (λ _. ⊥) [
-            | inl own ↦ own (own_told e (slot_of s (segment_slot e)) own_segment parts.first tells.segment
+            | inl own ↦ own (own_reported e (slot_of s (segment_slot e)) own_segment parts.first tells.segment
                 tells.image.1.fits parts.segment)
-            | inr neither ↦ elim (other_told e
+            | inr neither ↦ elim (other_reported e
                 (slot_of s (segment_slot (e + 1))) other_segment parts.next tells.other_segment parts.other) as (λ _. ⊥)
                 [ inl next ↦ neither.0 next | inr before ↦ neither.1 before ]
           ]
@@ -177,15 +180,15 @@ no_open_image : (s : Slots) → (IsOpen image_header s.image0 → ⊥) → (IsOp
 no_open_image s first second = each_number (λ n. IsOpen image_header ((as_written s).image n) → ⊥) first second
 
 second_none : (s : Slots) (o : Option ℕ) → Tells segment_header_length 1 s.segment1 o → IsNew (as_written s) → o ≡ None
-second_none s None told new = refl
-second_none s (Some o) told new =
-    let zero_is : o ≡ 0 = (new.unused 1 o (omega arith) told.0 told.1).0 in
-    absurd (omega (arith, zero_is, told.1.of_number))
+second_none s None reported new = refl
+second_none s (Some o) reported new =
+    let zero_is : o ≡ 0 = (new.unused 1 o (omega arith) reported.0 reported.1).0 in
+    absurd (omega (arith, zero_is, reported.1.of_number))
 
 first_none_or_0 : (s : Slots) (o : Option ℕ) → Tells segment_header_length 0 s.segment0 o → IsNew (as_written s)
     → (o ≡ None) ⊎ (o ≡ Some 0)
-first_none_or_0 s None told new = inl refl
-first_none_or_0 s (Some o) told new = inr (ap Some (new.unused 0 o (omega arith) told.0 told.1).0)
+first_none_or_0 s None reported new = inl refl
+first_none_or_0 s (Some o) reported new = inr (ap Some (new.unused 0 o (omega arith) reported.0 reported.1).0)
 
 pub unused_damaged : (s : Slots) (segment0 segment1 : Option ℕ) → TellAll s None None segment0 segment1
     → (segment1 ≢ None) ⊎ ((segment0 ≢ None) × (segment0 ≢ Some 0))

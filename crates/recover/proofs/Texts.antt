@@ -25,8 +25,8 @@ pub one_encoding : (a b x y : List ℕ) → length a < 2 ^ 64 → length b < 2 ^
     → long_word (length a) ++ (a ++ x) ≡ long_word (length b) ++ (b ++ y) → a ≡ b
 one_encoding a b x y fits fits_too is =
     let long : length a ≡ length b = same_long_word (length a) (length b) (a ++ x) (b ++ y) fits fits_too is in
-    let behind : a ++ x ≡ b ++ y = ap (λ (l : List ℕ). drop 8 l) is in
-    sym (take_at a x (length b) long) ∙ ap (take (length b)) behind ∙ take_at b y (length b) refl
+    let beyond : a ++ x ≡ b ++ y = ap (λ (l : List ℕ). drop 8 l) is in
+    sym (take_at a x (length b) long) ∙ ap (take (length b)) beyond ∙ take_at b y (length b) refl
 
 -- the image of a state, and its encoding
 pub image_after : (epoch : ℕ) (slot : List ℕ) (state : State) → HoldsImage epoch slot state
@@ -34,7 +34,7 @@ pub image_after : (epoch : ℕ) (slot : List ℕ) (state : State) → HoldsImage
 image_after epoch slot state image = record {
   rest = image.rest;
   fits = image.fits;
-  behind =
+  beyond =
       ap (λ (l : List ℕ). drop 16 l) image.encoding
       ∙ append_assoc (long_word (length (image_encoding state))) (image_encoding state) image.rest;
 }
@@ -44,7 +44,7 @@ pub encoding_is_image : (number epoch : ℕ) (slot encoding : List ℕ) (state :
 encoding_is_image number epoch slot encoding state is holds image =
     let same : drop 16 slot ≡ is.rest = ap (λ (l : List ℕ). drop 16 l) is.encoding in
     let whole : slot ≡ segment_header open_gate epoch ++ (long_word (length encoding) ++ (encoding ++ holds.rest)) =
-    is.encoding ∙ ap (λ (l : List ℕ). segment_header open_gate epoch ++ l) (sym same ∙ holds.behind) in
+    is.encoding ∙ ap (λ (l : List ℕ). segment_header open_gate epoch ++ l) (sym same ∙ holds.beyond) in
     record {
       rest = holds.rest;
       encoding =
@@ -58,19 +58,19 @@ encoding_is_image number epoch slot encoding state is holds image =
     }
 
 -- a word that is read after a slot's header
-pub word_read : (slot buffer old behind : List ℕ) (n size : ℕ) → 24 ≤ length slot → length old ≡ 8
+pub word_read : (slot buffer old beyond : List ℕ) (n size : ℕ) → 24 ≤ length slot → length old ≡ 8
     → n ≡ min (length old) (length slot - 16) → buffer ≡ take n (drop 16 slot) ++ drop n old
-    → buffer ≡ long_word size ++ behind
+    → buffer ≡ long_word size ++ beyond
     → (rest : List ℕ) × (drop 16 slot ≡ long_word size ++ rest)
-word_read slot buffer old behind n size long one count bytes found =
+word_read slot buffer old beyond n size long one count bytes found =
     let all : n ≡ 8 = omega (arith, long, one, count) in
     let none : drop 8 old ≡ [] = nothing (drop 8 old) (omega (arith, length-drop 8 old, one)) in
     let front : buffer ≡ take 8 (drop 16 slot) =
     bytes ∙ (λ i. take (all i) (drop 16 slot) ++ drop (all i) old) ∙ ap
     (λ (l : List ℕ). take 8 (drop 16 slot) ++ l) none ∙ append-nil (take 8 (drop 16 slot)) in (
-      behind ++ drop 8 (drop 16 slot),
+      beyond ++ drop 8 (drop 16 slot),
       sym (take-append-drop 8 (drop 16 slot)) ∙ ap (λ (l : List ℕ). l ++ drop 8 (drop 16 slot)) (sym front ∙ found)
-          ∙ append_assoc (long_word size) behind (drop 8 (drop 16 slot)),
+          ∙ append_assoc (long_word size) beyond (drop 8 (drop 16 slot)),
     )
   where
     nothing : (l : List ℕ) → length l ≡ 0 → l ≡ []
@@ -89,13 +89,13 @@ encoding_read slot buffer old rest n size word fits room long made count bytes =
     (λ (l : List ℕ). take size (drop 24 slot) ++ l) none ∙ append-nil (take size (drop 24 slot)) in
     let sized : length buffer ≡ size =
     omega (arith, ap length front, length-take size (drop 24 slot), length-drop 24 slot, room, long) in
-    let behind : drop 24 slot ≡ rest = drop_more slot ∙ ap (λ (l : List ℕ). drop 8 l) word in
+    let beyond : drop 24 slot ≡ rest = drop_more slot ∙ ap (λ (l : List ℕ). drop 8 l) word in
     record {
       rest = drop size (drop 24 slot);
       fits = omega (arith, sized, fits);
-      behind =
+      beyond =
           word ∙ ap (λ (l : List ℕ). long_word size ++ l)
-          (sym behind ∙ sym (take-append-drop size (drop 24 slot)) ∙ ap
+          (sym beyond ∙ sym (take-append-drop size (drop 24 slot)) ∙ ap
           (λ (l : List ℕ). l ++ drop size (drop 24 slot)) (sym front))
           ∙ ap (λ (k : ℕ). long_word k ++ (buffer ++ drop size (drop 24 slot))) (sym sized);
     }
@@ -158,7 +158,7 @@ encoding_of_image epoch slot encoding state holds image =
     record {
       encoding_is =
           one_encoding encoding (image_encoding state) holds.rest own.rest holds.fits own.fits
-          (sym holds.behind ∙ own.behind);
+          (sym holds.beyond ∙ own.beyond);
       lawful = image.lawful;
       acyclic = image.acyclic;
       short = image.short;

@@ -273,7 +273,7 @@ gate_inside n e slot old new count end is has r =
       r.encoded.sized,
       ap length (header_apart n e slot is),
       length-append (segment_header open_gate e) (drop 16 slot),
-      r.behind,
+      r.beyond,
     )
 
 pub ended_one : (s : Slots) (e : ℕ) (base state : State) (count end : ℕ) (x : List ℕ)
@@ -285,7 +285,7 @@ ended_one s e base state count end x is r one cut =
     let slot = slot_of s (segment_slot e) in
     let used =
     ended_in_use e slot (drop 16 slot) x r.records (end - 16) end (header_apart (e % 2) e slot is) r.encoded
-    (omega (arith, r.behind)) cut in
+    (omega (arith, r.beyond)) cut in
     (used, one_segment_changed s e base r.records r.records x one (in_use_encodes e x r.records used))
 
 pub ending_same : (old new : View) (e : ℕ) (base state : State) (count end : ℕ) → IsAtRest old → HaveLastGates old.seen
@@ -303,7 +303,7 @@ ending_same old new e base state count end rest gates is r one time =
     let x = slot_of c slot in
     let known =
     cut_encodes e segment (drop 16 segment) x r.records (end - 16) end (header_apart (e % 2) e segment is) r.encoded
-    (omega (arith, r.behind)) own differs.0 in
+    (omega (arith, r.beyond)) own differs.0 in
     subst (StandForSame old.seen) (sym differs.1) (
       same_by_one old.seen (with_slot old.seen slot x) state (one_recovered old.seen e base state r.records one r.run)
           (one_recovered (with_slot old.seen slot x) e base state r.records
@@ -438,7 +438,7 @@ next_written s new e content state count end parts is =
           (sym same) parts.replays.encoded;
       run = parts.replays.run;
       counted = parts.replays.counted;
-      behind = parts.replays.behind;
+      beyond = parts.replays.beyond;
       inside = subst (λ (l : List ℕ). end ≤ length l) (sym same) parts.replays.inside;
     } in
     record {

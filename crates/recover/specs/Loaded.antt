@@ -6,4 +6,4 @@ use Rattle.words.specs.Words.{long_word}
 pub record HoldsEncoding (slot encoding : List ℕ) : Type 0 where
   pub rest : List ℕ
   pub fits : length encoding < 2 ^ 64
-  pub behind : drop 16 slot ≡ long_word (length encoding) ++ (encoding ++ rest)
+  pub beyond : drop 16 slot ≡ long_word (length encoding) ++ (encoding ++ rest)

@@ -21,5 +21,5 @@ pub record ReplaysAll (segment : List ℕ) (old new : State) (count end : ℕ) :
   pub encoded : EncodesCounted (drop 16 segment) records (end - 16)
   pub run : Run old records new
   pub counted : count ≡ length records
-  pub behind : 16 ≤ end
+  pub beyond : 16 ≤ end
   pub inside : end ≤ length segment

@@ -31,7 +31,8 @@ pub(crate) fn write_after<D: Disk, T: Drop>(
 ) -> Result<T, DiskFault>
     ensures value { IfOk result (λ v. v ≡ value) }
     ensures made { D.honest → OnOk result ((D.view disk.new).seen
-        ≡ with_slot (D.view disk.old).seen (slot_of_epoch image.now.epoch) (open_image image.now.epoch image.now.encoding)) }
+        ≡ with_slot (D.view disk.old).seen (slot_of_epoch image.now.epoch)
+        (open_image image.now.epoch image.now.encoding)) }
     ensures synced { D.honest → OnOk result (IsSynced (D.view disk.new) (slot_of_epoch image.now.epoch)) }
     ensures any_moment { D.honest → IsSynced (D.view disk.old) (slot_of_epoch image.now.epoch)
         → Passes (D.view disk.old) (D.view disk.new)

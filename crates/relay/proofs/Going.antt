@@ -24,8 +24,8 @@ begun own peer = record {
     sent = Appends-nil peer.written;
     sent_on = refl;
     heard = Consumes-nil peer.left;
-    told = Appends-nil own.written;
-    told_on = refl;
+    replied = Appends-nil own.written;
+    left_waiting = refl;
   };
   counted = refl;
 }
@@ -60,7 +60,8 @@ pub goes_on : (own peer own_mid peer_mid own_now peer_now : Side) (count : ℕ) 
     → Appends peer_mid.written peer_now.written (frame_encoding request) → peer_now.waiting ≡ []
     → IsTaken peer_mid.left reply peer_now.left → Appends own_mid.written own_now.written (frame_encoding reply)
     → own_now.waiting ≡ [] → Going own peer own_now peer_now (count + 1)
-goes_on own peer own_mid peer_mid own_now peer_now count request reply so_far asked sent sent_on answered told told_on =
+goes_on own peer own_mid peer_mid own_now peer_now count request reply so_far asked sent sent_on answered replied
+    left_waiting =
     let exchange : List ℕ × List ℕ = (request, reply) in
     let before = so_far.exchanged in
     let requests = requests_encoding-push so_far.exchanges exchange in
@@ -79,10 +80,10 @@ goes_on own peer own_mid peer_mid own_now peer_now count request reply so_far as
         heard =
             subst (Consumes peer.left peer_now.left) replies
             (Consumes-trans peer.left peer_mid.left peer_now.left _ _ before.heard answered.taken);
-        told =
+        replied =
             subst (Appends own.written own_now.written) replies
-            (Appends-trans own.written own_mid.written own_now.written _ _ before.told told);
-        told_on = told_on ∙ nothing_waits own.waiting so_far.exchanges exchange;
+            (Appends-trans own.written own_mid.written own_now.written _ _ before.replied replied);
+        left_waiting = left_waiting ∙ nothing_waits own.waiting so_far.exchanges exchange;
       };
       counted = omega (arith, so_far.counted, length-append so_far.exchanges (exchange ∷ []));
     }

@@ -69,8 +69,8 @@ pub record Exchanged (own peer : Side) (exchanges : Exchanges) (own_now peer_now
   pub sent : Appends peer.written peer_now.written (requests_encoding exchanges)
   pub sent_on : peer_now.waiting ≡ waiting_after peer.waiting exchanges
   pub heard : Consumes peer.left peer_now.left (replies_encoding exchanges)
-  pub told : Appends own.written own_now.written (replies_encoding exchanges)
-  pub told_on : own_now.waiting ≡ waiting_after own.waiting exchanges
+  pub replied : Appends own.written own_now.written (replies_encoding exchanges)
+  pub left_waiting : own_now.waiting ≡ waiting_after own.waiting exchanges
 
 -- How a relay ended between the side that it stands on (`own`) and its peer's.
 module _ (own peer own_new peer_new : Side) where

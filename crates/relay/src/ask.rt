@@ -30,7 +30,8 @@ pub fn run_client<N: Net, I: Read, O: Write + Drop, E: Write>(
     ensures ended { (end : RelayEnd) × (result ≡ status_of end)
         × AppendsPart (E.contents errors.old) (E.contents errors.new) (line_of end)
         × EndsClient (side (I.remaining input.old) (writer_contents O.contents output.old) (writer_buffer output.old))
-        (side (I.remaining input.new) (writer_contents O.contents output.new) (writer_buffer output.new)) (option_map (λ texts. length texts.now) words.entry) end }
+        (side (I.remaining input.new) (writer_contents O.contents output.new) (writer_buffer output.new))
+        (option_map (λ texts. length texts.now) words.entry) end }
 {
     let end = ask_peer(alloc, net, words, input, output);
     let _ = end.tell(errors);
@@ -47,7 +48,8 @@ pub fn ask_peer<N: Net, I: Read, O: Write + Drop>(
 ) -> RelayEnd
     ensures ended { EndsClient (side (I.remaining input.old) (writer_contents O.contents output.old)
         (writer_buffer output.old))
-        (side (I.remaining input.new) (writer_contents O.contents output.new) (writer_buffer output.new)) (option_map (λ texts. length texts.now) words.entry) result }
+        (side (I.remaining input.new) (writer_contents O.contents output.new) (writer_buffer output.new))
+        (option_map (λ texts. length texts.now) words.entry) result }
 {
     let Some([socket]) = words else {
         return RelayEnd::CommandLine;

@@ -63,7 +63,8 @@ impl RelayEnd {
 /// Writes the program's name, followed by these words.
 fn write_line<E: Write>(errors: &mut E, words: &str) -> Result<(), WireFault>
     ensures ok { OnOk result (Appends (E.contents errors.old) (E.contents errors.new) (codes "machc: " ++ words.now)) }
-    ensures part { OnErr result (AppendsPart (E.contents errors.old) (E.contents errors.new) (codes "machc: " ++ words.now)) }
+    ensures part { OnErr result (AppendsPart (E.contents errors.old) (E.contents errors.new)
+        (codes "machc: " ++ words.now)) }
     ensures err { IfErr result (λ fault. fault ≡ WireFault.Device) }
 {
     write_bytes(errors, b"machc: ")?;

@@ -9,12 +9,13 @@ use Rattle.ipc_model.specs.state.State.{State, is_empty_entry, request_of, with_
 use Rattle.ipc_state.specs.Passed.{PortNumbers, numbers_of, with_numbers}
 use Rattle.ipc_state.specs.Running.{Running}
 
-pub left_told : {T E : Type 0} (r : Result T E) (name : ℕ) (entry : Entry) (request : Option ℕ) (old new : List Effect)
+pub left_notified : {T E : Type 0} (r : Result T E) (name : ℕ) (entry : Entry) (request : Option ℕ)
+    (old new : List Effect)
     → is_empty_entry entry ≡ true → request ≡ request_of entry
     → OnOk r (new ≡ old ++ port_deleted name request) → OnOk r (new ≡ old ++ notices_of_left name entry)
-left_told (Err e) name entry request old new empty is told = tt
-left_told (Ok v) name entry request old new empty is told =
-    told ∙ (ap (λ (o : Option ℕ). old ++ port_deleted name o) is ∙ ap
+left_notified (Err e) name entry request old new empty is notified = tt
+left_notified (Ok v) name entry request old new empty is notified =
+    notified ∙ (ap (λ (o : Option ℕ). old ++ port_deleted name o) is ∙ ap
     (λ (b : Bool). old ++ (if b then port_deleted name (request_of entry) else [])) (sym empty))
 
 abbrev reset : PortNumbers → PortNumbers

@@ -39,18 +39,18 @@ wanted_front left later (Some first) n others front is =
     let joined : first ∷ later ≡ n ∷ others = sym front ∙ is in
     (ap (λ k. Some k) (same_head first n later others joined), same_tail first n later others joined)
 
-pub way_more : (start now after : Names) (rights rest behind : List CarriedRight)
+pub way_more : (start now after : Names) (rights rest beyond : List CarriedRight)
     (wanted left later given added : List ℕ) (right : CarriedRight) (name : ℕ) (shown : Option ℕ)
     → OnTheWay start now rights rest wanted left given
-    → rest ≡ right ∷ behind → MayArrive now right.kind right.port name
+    → rest ≡ right ∷ beyond → MayArrive now right.kind right.port name
     → after ≡ names_after now right.kind right.port name → added ≡ given ++ name ∷ []
     → MatchOption shown ((left ≡ []) × (later ≡ [])) (λ first. left ≡ first ∷ later)
     → ((n : ℕ) → shown ≡ Some n → MayArrive now right.kind right.port n → name ≡ n)
-    → OnTheWay start after rights behind wanted later added
-way_more start now after rights rest behind wanted left later given added right name shown way is may after_is added_is
+    → OnTheWay start after rights beyond wanted later added
+way_more start now after rights rest beyond wanted left later given added right name shown way is may after_is added_is
     front prefers =
-    subst (λ (a : Names). OnTheWay start a rights behind wanted later added) (sym after_is)
-    (subst (λ (g : List ℕ). OnTheWay start next rights behind wanted later g) (sym added_is)
+    subst (λ (a : Names). OnTheWay start a rights beyond wanted later added) (sym after_is)
+    (subst (λ (g : List ℕ). OnTheWay start next rights beyond wanted later g) (sym added_is)
     (record {
       arrives =
           λ others last arrives. subst (λ (l : List ℕ). Arrives start rights l last)
@@ -60,7 +60,7 @@ way_more start now after rights rest behind wanted left later given added right 
           (name, others, refl, may, arrives)));
       fits = (
         _,
-        fits_later start now way.fits.0 right behind name
+        fits_later start now way.fits.0 right beyond name
             (subst (λ (l : List CarriedRight). Fits start now way.fits.0 l) is way.fits.1) may,
       );
       wants = λ last arrives.
@@ -71,8 +71,8 @@ way_more start now after rights rest behind wanted left later given added right 
             had.0 ∙ ap (λ (l : List ℕ). given ++ l)
                 (first.2 ∙ ap (λ (n : ℕ). n ∷ first.1) (sym name_is) ∙ ap (λ (l : List ℕ). name ∷ l) (sym shown_is.1))
                 ∙ sym (append_assoc given (name ∷ []) later),
-            subst (λ (n : ℕ). Arrives (names_after now right.kind right.port n) behind later last) (sym name_is)
-                (subst (λ (l : List ℕ). Arrives (names_after now right.kind right.port first.0) behind l last)
+            subst (λ (n : ℕ). Arrives (names_after now right.kind right.port n) beyond later last) (sym name_is)
+                (subst (λ (l : List ℕ). Arrives (names_after now right.kind right.port first.0) beyond l last)
                 (sym shown_is.1) first.4),
           );
     }))
@@ -81,12 +81,12 @@ way_more start now after rights rest behind wanted left later given added right 
     next = names_after now right.kind right.port name
 
 -- there is room for the next one
-pub way_room : (start now : Names) (rights rest behind : List CarriedRight) (wanted left given : List ℕ)
-    (right : CarriedRight) → OnTheWay start now rights rest wanted left given → rest ≡ right ∷ behind
+pub way_room : (start now : Names) (rights rest beyond : List CarriedRight) (wanted left given : List ℕ)
+    (right : CarriedRight) → OnTheWay start now rights rest wanted left given → rest ≡ right ∷ beyond
     → (name serial : ℕ) → right.port ≡ in_message.Live serial → MayArrive now right.kind right.port name
     → finmap.get now name ≡ None → finmap.len now < MAX_NAMES
-way_room start now rights rest behind wanted left given right way is name serial live may free =
-    room_for_one start now way.fits.0 right behind name serial live
+way_room start now rights rest beyond wanted left given right way is name serial live may free =
+    room_for_one start now way.fits.0 right beyond name serial live
     (subst (λ (l : List CarriedRight). Fits start now way.fits.0 l) is way.fits.1) may free
 
 -- all have arrived

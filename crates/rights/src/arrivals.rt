@@ -79,7 +79,7 @@ fn front(wanted: &[u32]) -> (Option<u32>, &[u32])
         (λ first. wanted.now ≡ first ∷ result.1.now) }
 {
     match wanted.split_first() {
-        Some((first, behind)) => (Some(*first), behind),
+        Some((first, beyond)) => (Some(*first), beyond),
         None => (None, wanted),
     }
 }
@@ -107,11 +107,11 @@ pub fn arrive(
 {
     let mut rest = rights;
     let mut left = wanted;
-    while let Some((right, behind)) = rest.split_first() {
+    while let Some((right, beyond)) = rest.split_first() {
         let (shown, later) = front(left);
         let name = arrive_one(state, space, *right, shown)?;
         given.push(name)?;
-        rest = behind;
+        rest = beyond;
         left = later;
     }
     Ok(())

@@ -83,7 +83,8 @@ disposition n ws fits = value_again Disposition n ws tt fits
 
 receive_parts : (w0 w1 w2 w3 ws : List (List ℕ)) (limit name : ℕ) (large waited : Bool)
     → value_at Hexadecimal w0 ≡ Ok (name, w1)
-    → labelled_at (codes "limit") Decimal w1 ≡ Ok (limit, w2) → flag_at (codes "large") w2 ≡ (large, w3) → flag_at (codes "waited") w3 ≡ (waited, ws)
+    → labelled_at (codes "limit") Decimal w1 ≡ Ok (limit, w2) → flag_at (codes "large") w2 ≡ (large, w3)
+    → flag_at (codes "waited") w3 ≡ (waited, ws)
     → receive_at w0 ≡ Ok (call.Receive limit large name waited, ws)
 unfolding receive_at
 receive_parts w0 w1 w2 w3 ws limit name large waited e1 e2 e3 e4 = rw (e1, e2, e3, e4) refl
@@ -99,8 +100,10 @@ receive_again limit name large waited ws fits fits_name no_label =
     let grouped : argument_words (call.Receive limit large name waited) ++ ws ≡ value_word Hexadecimal name ∷ w1 =
     simp append_assoc in
     ap receive_at grouped
-    ∙ receive_parts (value_word Hexadecimal name ∷ w1) w1 w2 w3 ws limit name large waited (hex name w1 fits_name) (labelled_again (codes "limit") Decimal limit w2 tt fits)
-    (flag_again (codes "large") large w3 (past_flag (codes "large") (codes "waited") waited ws refl (no_label.0 (codes "large") refl)))
+    ∙ receive_parts (value_word Hexadecimal name ∷ w1) w1 w2 w3 ws limit name large waited (hex name w1 fits_name)
+    (labelled_again (codes "limit") Decimal limit w2 tt fits)
+    (flag_again (codes "large") large w3 (past_flag (codes "large") (codes "waited") waited ws refl
+    (no_label.0 (codes "large") refl)))
     (flag_again (codes "waited") waited ws (no_label.0 (codes "waited") refl))
 
 send_parts : (m : List ℕ) (words ws : List (List ℕ)) → message_at words ≡ Ok (m, ws)

@@ -15,7 +15,8 @@ use Rattle.script.specs.Replies.{last_value, results_at, reply_at, silence}
 use Rattle.script.specs.Scripts.{lines_of, lines_read, script_read}
 
 -- a comment and a blank line hold no call, but count as lines
-comments_count : script_read (codes "# a task" ++ 10 ∷ 10 ∷ codes "type 256 = 0x30000" ++ 10 ∷ codes " destroy 0x1 # done")
+comments_count : script_read (codes "# a task" ++ 10 ∷ 10 ∷ codes "type 256 = 0x30000" ++ 10
+    ∷ codes " destroy 0x1 # done")
     ≡ Ok (record { number = 3; exchange = record { call = call.Type 256; reply = reply.Type 0x30000 } } ∷
     record { number = 4; exchange = record { call = call.Destroy 1; reply = reply.Done 6 } } ∷ [])
 unfolding lines_of lines_read line_read words_of exchange_at call_at after_at plain_at arguments_at value_at number_at
@@ -23,7 +24,8 @@ unfolding lines_of lines_read line_read words_of exchange_at call_at after_at pl
 comments_count = refl
 
 -- the first line that can't be read is reported, and no later one
-first_fault : script_read (codes "destroy 0x1" ++ 10 ∷ codes "destroy  nine # no name" ++ 10 ∷ codes "destroy" ++ 10 ∷ []) ≡ Err (record { line = 2; fault = line_fault.Unreadable 9 expected.Number })
+first_fault : script_read (codes "destroy 0x1" ++ 10 ∷ codes "destroy  nine # no name" ++ 10 ∷ codes "destroy" ++ 10
+    ∷ []) ≡ Err (record { line = 2; fault = line_fault.Unreadable 9 expected.Number })
 unfolding lines_of lines_read line_read words_of exchange_at call_at after_at plain_at arguments_at value_at number_at
     read_word reply_at silence column_of
 first_fault = refl

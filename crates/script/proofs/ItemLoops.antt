@@ -61,11 +61,13 @@ more_bytes : (done item : List ℕ) (read : Reading (List ℕ × List (List ℕ)
 more_bytes done item (Err place) = refl
 more_bytes done item (Ok b) = ap (λ (l : List ℕ). Ok (l, b.1)) (append_assoc done item b.0)
 
-one_more : (n : ℕ) (words rest : List (List ℕ)) → label_at (codes "item") words ≡ Some rest → parts_at (suc n) words ≡ (item_at rest >>= λ i. after_bytes i.0 (parts_at n i.1))
+one_more : (n : ℕ) (words rest : List (List ℕ)) → label_at (codes "item") words ≡ Some rest → parts_at (suc n) words
+    ≡ (item_at rest >>= λ i. after_bytes i.0 (parts_at n i.1))
 unfolding parts_at
 one_more n words rest is = rw (is, parts_at) refl
 
-pub item_read : (done item : List ℕ) (left : ℕ) (words rest more : List (List ℕ)) → label_at (codes "item") words ≡ Some rest → item_at rest ≡ Ok (item, more) → 0 < left
+pub item_read : (done item : List ℕ) (left : ℕ) (words rest more : List (List ℕ)) → label_at (codes "item") words
+    ≡ Some rest → item_at rest ≡ Ok (item, more) → 0 < left
     → after_bytes (done ++ item) (parts_at (left - 1) more) ≡ after_bytes done (parts_at left words)
 item_read done item zero words rest more label read some = absurd (omega arith)
 item_read done item (suc n) words rest more label read some =
@@ -74,7 +76,9 @@ item_read done item (suc n) words rest more label read some =
     ∙ sym (ap (after_bytes done) (one_more n words rest label ∙ ap
     (λ (r : Reading (List ℕ × List (List ℕ))). r >>= λ i. after_bytes i.0 (parts_at n i.1)) read))
 
-pub item_fault : (f : Fault) (done : List ℕ) (left : ℕ) (words rest : List (List ℕ)) (all : Reading (List ℕ × List (List ℕ))) → label_at (codes "item") words ≡ Some rest → Fails f (item_at rest) → 0 < left
+pub item_fault : (f : Fault) (done : List ℕ) (left : ℕ) (words rest : List (List ℕ))
+    (all : Reading (List ℕ × List (List ℕ))) → label_at (codes "item") words ≡ Some rest → Fails f (item_at rest)
+    → 0 < left
     → after_bytes done (parts_at left words) ≡ all → Fails f all
 item_fault fault.NoMemory done left words rest all label fails some is = tt
 item_fault (fault.Unreadable place) done zero words rest all label fails some is = absurd (omega arith)
@@ -83,12 +87,14 @@ item_fault (fault.Unreadable place) done (suc n) words rest all label fails some
     (one_more n words rest label ∙ ap
     (λ (r : Reading (List ℕ × List (List ℕ))). r >>= λ i. after_bytes i.0 (parts_at n i.1)) fails)
 
-pub no_item_read : (left : ℕ) (words : List (List ℕ)) → label_at (codes "item") words ≡ None → parts_at left words ≡ optional_bytes_at (codes "data") words
+pub no_item_read : (left : ℕ) (words : List (List ℕ)) → label_at (codes "item") words ≡ None → parts_at left words
+    ≡ optional_bytes_at (codes "data") words
 unfolding parts_at
 no_item_read zero words none = refl
 no_item_read (suc n) words none = rw (none, parts_at) refl
 
-pub none_to_read : (left : ℕ) (words : List (List ℕ)) → left ≡ 0 → parts_at left words ≡ optional_bytes_at (codes "data") words
+pub none_to_read : (left : ℕ) (words : List (List ℕ)) → left ≡ 0 → parts_at left words
+    ≡ optional_bytes_at (codes "data") words
 unfolding parts_at
 none_to_read left words none = rw none refl
 

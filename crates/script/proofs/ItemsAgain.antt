@@ -16,7 +16,7 @@ use Rattle.script_words.specs.declared.kind.Kind.TheVariants as kind
 use Rattle.script_words.specs.Items.{zeros, descriptor}
 use Rattle.script_words.specs.Kinds.{value_word, read_word}
 use Rattle.script_printing.specs.Bytes.{bytes_word, optional_bytes}
-use Rattle.script_printing.specs.Items.{element_kind, words_item_words, bytes_item_words, ◌>>?◌, word_front, split_front, number_told, numbers_in, words_front, bytes_front, item_front, body_within, body_words}
+use Rattle.script_printing.specs.Items.{element_kind, words_item_words, bytes_item_words, ◌>>?◌, word_front, split_front, stated_number, numbers_in, words_front, bytes_front, item_front, body_within, body_words}
 use Rattle.script.specs.declared.fault.Expected.TheVariants as expected
 use Rattle.script.specs.Bytes.{bytes_at, optional_bytes_at}
 use Rattle.script.specs.Items.{words_item, bytes_item, numbers_at, words_item_at, bytes_item_at, item_at, parts_at, body_at}
@@ -80,7 +80,7 @@ record SplitFront (n : ℕ) (bytes : List ℕ) (s : List ℕ × List ℕ) : Type
   is : bytes ≡ s.0 ++ s.1
   count : length s.0 ≡ n
   first : AreBytes s.0
-  behind : AreBytes s.1
+  beyond : AreBytes s.1
 
 split_parts : (n : ℕ) (bytes : List ℕ) (s : List ℕ × List ℕ) → AreBytes bytes → split_front n bytes ≡ Some s
     → SplitFront n bytes s
@@ -92,7 +92,7 @@ split_parts n bytes s fits e =
       is = sym (take-append-drop n bytes);
       count = length-take-le n bytes enough;
       first = bytes_first n bytes fits;
-      behind = bytes_after n bytes fits;
+      beyond = bytes_after n bytes fits;
     })
 
 record Numbers (k : ℕ) (bytes : List ℕ) : Type 0 where
@@ -124,23 +124,23 @@ pub record WordsFront (body : List ℕ) (w : ℕ × List ℕ × List ℕ) : Type
   pub small : w.0 < 0x100
   pub few : length (numbers_in w.1) < 0x1000
   pub fit : AreNumbers (numbers_in w.1)
-  pub behind : AreBytes w.2
+  pub beyond : AreBytes w.2
 
 abbrev words_content : ℕ × List ℕ → List ℕ × List ℕ → Option (ℕ × List ℕ × List ℕ)
 words_content w c = Some (w.0 % 0x100, c.0, c.1)
 
 abbrev words_after : ℕ × List ℕ → Option (ℕ × List ℕ × List ℕ)
 words_after w =
-    cond (w.0 == descriptor (w.0 % 0x100) 32 (number_told w.0))
-    (split_front (4 * number_told w.0) w.1 >>? words_content w) None
+    cond (w.0 == descriptor (w.0 % 0x100) 32 (stated_number w.0))
+    (split_front (4 * stated_number w.0) w.1 >>? words_content w) None
 
-words_joined : (t w : ℕ) (ns body behind content rest : List ℕ) → t + 32 * 2 ^ 8 + length ns * 2 ^ 16 + 2 ^ 28 ≡ w
-    → flat_map word ns ≡ content → rest ≡ content ++ behind → body ≡ word w ++ rest
-    → item_encoding (words_item t ns) ++ behind ≡ body
-words_joined t w ns body behind content rest told numbers split front =
-    append_assoc (word (t + 32 * 2 ^ 8 + length ns * 2 ^ 16 + 2 ^ 28)) (flat_map word ns) behind
-    ∙ ap (λ (n : ℕ). word n ++ (flat_map word ns ++ behind)) told
-    ∙ ap (λ (l : List ℕ). word w ++ (l ++ behind)) numbers
+words_joined : (t w : ℕ) (ns body beyond content rest : List ℕ) → t + 32 * 2 ^ 8 + length ns * 2 ^ 16 + 2 ^ 28 ≡ w
+    → flat_map word ns ≡ content → rest ≡ content ++ beyond → body ≡ word w ++ rest
+    → item_encoding (words_item t ns) ++ beyond ≡ body
+words_joined t w ns body beyond content rest stated numbers split front =
+    append_assoc (word (t + 32 * 2 ^ 8 + length ns * 2 ^ 16 + 2 ^ 28)) (flat_map word ns) beyond
+    ∙ ap (λ (n : ℕ). word n ++ (flat_map word ns ++ beyond)) stated
+    ∙ ap (λ (l : List ℕ). word w ++ (l ++ beyond)) numbers
     ∙ ap (λ (l : List ℕ). word w ++ l) (sym split)
     ∙ sym front
 
@@ -152,29 +152,30 @@ words_parts body found fits e =
     let w : ℕ × List ℕ = first.0 in
     let front : WordFront body w = word_parts body w fits first.1 in
     let test =
-    if_some (w.0 == descriptor (w.0 % 0x100) 32 (number_told w.0))
-    (split_front (4 * number_told w.0) w.1 >>? words_content w) found first.2 in
-    let same : w.0 ≡ descriptor (w.0 % 0x100) 32 (number_told w.0) =
-    eqb-true w.0 (descriptor (w.0 % 0x100) 32 (number_told w.0)) test.0 in
-    let second = bind_option (split_front (4 * number_told w.0) w.1) (words_content w) found test.1 in
+    if_some (w.0 == descriptor (w.0 % 0x100) 32 (stated_number w.0))
+    (split_front (4 * stated_number w.0) w.1 >>? words_content w) found first.2 in
+    let same : w.0 ≡ descriptor (w.0 % 0x100) 32 (stated_number w.0) =
+    eqb-true w.0 (descriptor (w.0 % 0x100) 32 (stated_number w.0)) test.0 in
+    let second = bind_option (split_front (4 * stated_number w.0) w.1) (words_content w) found test.1 in
     let c : List ℕ × List ℕ = second.0 in
-    let split : SplitFront (4 * number_told w.0) w.1 c = split_parts (4 * number_told w.0) w.1 c front.fits second.1 in
-    let numbers : Numbers (number_told w.0) c.0 = numbers_back (number_told w.0) c.0 split.first split.count in
-    let told : w.0 % 0x100 + 32 * 2 ^ 8 + length (numbers_in c.0) * 2 ^ 16 + 2 ^ 28 ≡ w.0 =
+    let split : SplitFront (4 * stated_number w.0) w.1 c =
+    split_parts (4 * stated_number w.0) w.1 c front.fits second.1 in
+    let numbers : Numbers (stated_number w.0) c.0 = numbers_back (stated_number w.0) c.0 split.first split.count in
+    let stated : w.0 % 0x100 + 32 * 2 ^ 8 + length (numbers_in c.0) * 2 ^ 16 + 2 ^ 28 ≡ w.0 =
     omega (arith, same, numbers.count) in
     subst (WordsFront body) (some_same (w.0 % 0x100, c.0, c.1) found second.2) (record {
-      is = words_joined (w.0 % 0x100) w.0 (numbers_in c.0) body c.1 c.0 w.1 told numbers.is split.is front.is;
+      is = words_joined (w.0 % 0x100) w.0 (numbers_in c.0) body c.1 c.0 w.1 stated numbers.is split.is front.is;
       small = omega arith;
       few = omega (arith, numbers.count);
       fit = numbers.fit;
-      behind = split.behind;
+      beyond = split.beyond;
     })
 
 pub record BytesFront (body : List ℕ) (b : List ℕ × List ℕ) : Type 0 where
   pub is : item_encoding (bytes_item b.0) ++ b.1 ≡ body
   pub few : length b.0 < 0x1000
   pub bytes : AreBytes b.0
-  pub behind : AreBytes b.1
+  pub beyond : AreBytes b.1
 
 abbrev zeros_after : ℕ → List ℕ → List ℕ × List ℕ → Option (List ℕ × List ℕ)
 zeros_after n bytes z = cond (bytes_eq z.0 (zeros n)) (Some (bytes, z.1)) None
@@ -184,19 +185,19 @@ tail_after n b = split_front (length (zeros n)) b.1 >>? zeros_after n b.0
 
 abbrev bytes_after_word : ℕ × List ℕ → Option (List ℕ × List ℕ)
 bytes_after_word w =
-    cond (w.0 == descriptor 9 8 (number_told w.0))
-    (split_front (number_told w.0) w.1 >>? tail_after (number_told w.0)) None
+    cond (w.0 == descriptor 9 8 (stated_number w.0))
+    (split_front (stated_number w.0) w.1 >>? tail_after (stated_number w.0)) None
 
-bytes_joined : (w n : ℕ) (bytes body behind zero_bytes tail rest : List ℕ)
+bytes_joined : (w n : ℕ) (bytes body beyond zero_bytes tail rest : List ℕ)
     → 9 + 8 * 2 ^ 8 + length bytes * 2 ^ 16 + 2 ^ 28 ≡ w → length bytes ≡ n → zero_bytes ≡ zeros n
-    → tail ≡ zero_bytes ++ behind → rest ≡ bytes ++ tail → body ≡ word w ++ rest
-    → item_encoding (bytes_item bytes) ++ behind ≡ body
-bytes_joined w n bytes body behind zero_bytes tail rest told count same after split front =
-    append_assoc (word (9 + 8 * 2 ^ 8 + length bytes * 2 ^ 16 + 2 ^ 28)) (bytes ++ zeros (length bytes)) behind
-    ∙ ap (λ (k : ℕ). word k ++ ((bytes ++ zeros (length bytes)) ++ behind)) told
-    ∙ ap (λ (l : List ℕ). word w ++ l) (append_assoc bytes (zeros (length bytes)) behind)
-    ∙ ap (λ (k : ℕ). word w ++ (bytes ++ (zeros k ++ behind))) count
-    ∙ ap (λ (l : List ℕ). word w ++ (bytes ++ (l ++ behind))) (sym same)
+    → tail ≡ zero_bytes ++ beyond → rest ≡ bytes ++ tail → body ≡ word w ++ rest
+    → item_encoding (bytes_item bytes) ++ beyond ≡ body
+bytes_joined w n bytes body beyond zero_bytes tail rest stated count same after split front =
+    append_assoc (word (9 + 8 * 2 ^ 8 + length bytes * 2 ^ 16 + 2 ^ 28)) (bytes ++ zeros (length bytes)) beyond
+    ∙ ap (λ (k : ℕ). word k ++ ((bytes ++ zeros (length bytes)) ++ beyond)) stated
+    ∙ ap (λ (l : List ℕ). word w ++ l) (append_assoc bytes (zeros (length bytes)) beyond)
+    ∙ ap (λ (k : ℕ). word w ++ (bytes ++ (zeros k ++ beyond))) count
+    ∙ ap (λ (l : List ℕ). word w ++ (bytes ++ (l ++ beyond))) (sym same)
     ∙ ap (λ (l : List ℕ). word w ++ (bytes ++ l)) (sym after)
     ∙ ap (λ (l : List ℕ). word w ++ l) (sym split)
     ∙ sym front
@@ -207,7 +208,7 @@ unfolding bytes_front
 bytes_parts body found fits e =
     let first = bind_option (word_front body) bytes_after_word found e in
     let w : ℕ × List ℕ = first.0 in
-    let n : ℕ = number_told w.0 in
+    let n : ℕ = stated_number w.0 in
     let front : WordFront body w = word_parts body w fits first.1 in
     let test = if_some (w.0 == descriptor 9 8 n) (split_front n w.1 >>? tail_after n) found first.2 in
     let same : w.0 ≡ descriptor 9 8 n = eqb-true w.0 (descriptor 9 8 n) test.0 in
@@ -216,15 +217,15 @@ bytes_parts body found fits e =
     let split : SplitFront n w.1 b = split_parts n w.1 b front.fits second.1 in
     let third = bind_option (split_front (length (zeros n)) b.1) (zeros_after n b.0) found second.2 in
     let z : List ℕ × List ℕ = third.0 in
-    let tail : SplitFront (length (zeros n)) b.1 z = split_parts (length (zeros n)) b.1 z split.behind third.1 in
+    let tail : SplitFront (length (zeros n)) b.1 z = split_parts (length (zeros n)) b.1 z split.beyond third.1 in
     let last = if_some (bytes_eq z.0 (zeros n)) (Some (b.0, z.1)) found third.2 in
     let zero_bytes : z.0 ≡ zeros n = (bytes_eq-Decides z.0 (zeros n)).0 last.0 in
-    let told : 9 + 8 * 2 ^ 8 + length b.0 * 2 ^ 16 + 2 ^ 28 ≡ w.0 = omega (arith, same, split.count) in
+    let stated : 9 + 8 * 2 ^ 8 + length b.0 * 2 ^ 16 + 2 ^ 28 ≡ w.0 = omega (arith, same, split.count) in
     subst (BytesFront body) {x = (b.0, z.1)} (some_same (b.0, z.1) found last.1) (record {
-      is = bytes_joined w.0 n b.0 body z.1 z.0 b.1 w.1 told split.count zero_bytes tail.is split.is front.is;
+      is = bytes_joined w.0 n b.0 body z.1 z.0 b.1 w.1 stated split.count zero_bytes tail.is split.is front.is;
       few = omega (arith, split.count);
       bytes = split.first;
-      behind = tail.behind;
+      beyond = tail.beyond;
     })
 
 -- what holds of each item that has a form, and of items without one
@@ -274,16 +275,21 @@ below_is a b less = grind (arith, nat_tests)
 -- a type's word isn't the label of bytes
 no_bytes_label : (n : ℕ) → n < 2 ^ 32 → bytes_eq (value_word kind.Element n) (codes "bytes") ≡ false
 unfolding read_word
-no_bytes_label n fits = elim (bytes_eq (value_word kind.Element n) (codes "bytes")) as (λ (b : Bool). bytes_eq (value_word kind.Element n) (codes "bytes") ≡ b → b ≡ false) [
-  | true ↦ λ (same : _).
-      let e : value_word kind.Element n ≡ codes "bytes" = (bytes_eq-Decides (value_word kind.Element n) (codes "bytes")).0 same in
-      let wrong : read_word kind.Element (codes "bytes") ≡ Some n = ap (read_word kind.Element) (sym e) ∙ word_again kind.Element n fits in
-      let none : read_word kind.Element (codes "bytes") ≡ None = refl in
-      absurd (cc)
-  | false ↦ λ (_ : _). refl
-] refl
+no_bytes_label n fits =
+    elim (bytes_eq (value_word kind.Element n) (codes "bytes")) as
+    (λ (b : Bool). bytes_eq (value_word kind.Element n) (codes "bytes") ≡ b → b ≡ false) [
+      | true ↦ λ (same : _).
+          let e : value_word kind.Element n ≡ codes "bytes" =
+          (bytes_eq-Decides (value_word kind.Element n) (codes "bytes")).0 same in
+          let wrong : read_word kind.Element (codes "bytes") ≡ Some n =
+          ap (read_word kind.Element) (sym e) ∙ word_again kind.Element n fits in
+          let none : read_word kind.Element (codes "bytes") ≡ None = refl in
+          absurd (cc)
+      | false ↦ λ (_ : _). refl
+    ] refl
 
-words_item_parts : (words rest ws : List (List ℕ)) (t : ℕ) (ns : List ℕ) → label_at (codes "bytes") words ≡ None → bounded_at expected.Item kind.Element 0x100 words ≡ Ok (t, rest)
+words_item_parts : (words rest ws : List (List ℕ)) (t : ℕ) (ns : List ℕ) → label_at (codes "bytes") words ≡ None
+    → bounded_at expected.Item kind.Element 0x100 words ≡ Ok (t, rest)
     → numbers_at rest ≡ (ns, ws) → nat_lt (length ns) 0x1000 ≡ true
     → item_at words ≡ Ok (item_encoding (words_item t ns), ws)
 unfolding item_at words_item_at
@@ -296,7 +302,8 @@ words_item_again : (t : ℕ) (ns : List ℕ) (ws : List (List ℕ)) → t < 0x10
     ≡ Ok (item_encoding (words_item t ns), ws)
 words_item_again t ns ws small fit few none =
     let rest : List (List ℕ) = map (value_word (element_kind t)) ns ++ ws in
-    words_item_parts (value_word kind.Element t ∷ rest) rest ws t ns (other_label (codes "bytes") (value_word kind.Element t) rest (no_bytes_label t (omega (arith, small))))
+    words_item_parts (value_word kind.Element t ∷ rest) rest ws t ns
+    (other_label (codes "bytes") (value_word kind.Element t) rest (no_bytes_label t (omega (arith, small))))
     (bounded_again expected.Item kind.Element 0x100 t rest tt small (omega arith)) (numbers_again _ ns ws fit none)
     (below_is _ _ few)
 
@@ -307,22 +314,27 @@ unfolding item_at bytes_item_at
 bytes_item_parts rest ws bytes read few = rw (label_again (codes "bytes") rest, item_at) (rw read (rw few refl))
 
 -- what comes after the items
-data_only : (n : ℕ) (words : List (List ℕ)) → label_at (codes "item") words ≡ None → parts_at n words ≡ optional_bytes_at (codes "data") words
+data_only : (n : ℕ) (words : List (List ℕ)) → label_at (codes "item") words ≡ None → parts_at n words
+    ≡ optional_bytes_at (codes "data") words
 unfolding parts_at
 data_only zero words none = refl
 data_only (suc n) words none = rw (none, parts_at) refl
 
-data_again : (n : ℕ) (body : List ℕ) (ws : List (List ℕ)) → AreBytes body → NoLabel ws → parts_at n (optional_bytes (codes "data") body ++ ws) ≡ Ok (body, ws)
+data_again : (n : ℕ) (body : List ℕ) (ws : List (List ℕ)) → AreBytes body → NoLabel ws
+    → parts_at n (optional_bytes (codes "data") body ++ ws) ≡ Ok (body, ws)
 data_again n body ws fits none =
-    data_only n (optional_bytes (codes "data") body ++ ws) (past_bytes (codes "item") (codes "data") body ws refl (none.0 (codes "item") refl))
+    data_only n (optional_bytes (codes "data") body ++ ws)
+    (past_bytes (codes "item") (codes "data") body ws refl (none.0 (codes "item") refl))
     ∙ optional_bytes_again (codes "data") body ws fits (none.0 (codes "data") refl)
 
-item_more : (n : ℕ) (rest more ws : List (List ℕ)) (text body : List ℕ) → item_at rest ≡ Ok (text, more) → parts_at n more ≡ Ok (body, ws) → parts_at (suc n) (codes "item" ∷ rest) ≡ Ok (text ++ body, ws)
+item_more : (n : ℕ) (rest more ws : List (List ℕ)) (text body : List ℕ) → item_at rest ≡ Ok (text, more)
+    → parts_at n more ≡ Ok (body, ws) → parts_at (suc n) (codes "item" ∷ rest) ≡ Ok (text ++ body, ws)
 unfolding parts_at
 item_more n rest more ws text body item parts = rw (label_again (codes "item") rest, parts_at) (rw item (rw parts refl))
 
 -- the words of a body don't begin with a number
-data_no_number : (body : List ℕ) (ws : List (List ℕ)) → numbers_at ws ≡ ([], ws) → numbers_at (optional_bytes (codes "data") body ++ ws) ≡ ([], optional_bytes (codes "data") body ++ ws)
+data_no_number : (body : List ℕ) (ws : List (List ℕ)) → numbers_at ws ≡ ([], ws)
+    → numbers_at (optional_bytes (codes "data") body ++ ws) ≡ ([], optional_bytes (codes "data") body ++ ws)
 unfolding optional_bytes read_word
 data_no_number [] ws none = none
 data_no_number (b ∷ body) ws none = numbers_end (codes "data") (bytes_word (b ∷ body) ∷ ws) refl
@@ -332,7 +344,8 @@ unfolding read_word
 item_no_number ws = numbers_end (codes "item") ws refl
 
 abbrev pub words_after_item : ℕ → List ℕ → Option (List (List ℕ) × List ℕ) → List (List ℕ)
-words_after_item m body front = elim front [ None ↦ optional_bytes (codes "data") body | Some i ↦ i.0 ++ body_within m i.1 ]
+words_after_item m body front =
+    elim front [ None ↦ optional_bytes (codes "data") body | Some i ↦ i.0 ++ body_within m i.1 ]
 
 body_no_number : (m : ℕ) (body : List ℕ) (ws : List (List ℕ)) → AreBytes body → numbers_at ws ≡ ([], ws)
     → numbers_at (body_within m body ++ ws) ≡ ([], body_within m body ++ ws)
@@ -343,16 +356,20 @@ body_no_number (suc m) body ws fits none =
     ≡ ([], words_after_item m body front ++ ws)) body fits
     (λ (w : _) (parts : _). item_no_number _) (λ (b : _) (parts : _). item_no_number _) (data_no_number body ws none)
 
-pub past_within : (m : ℕ) (label body : List ℕ) (ws : List (List ℕ)) → AreBytes body → bytes_eq (codes "item") label ≡ false → bytes_eq (codes "data") label ≡ false → label_at label ws ≡ None
+pub past_within : (m : ℕ) (label body : List ℕ) (ws : List (List ℕ)) → AreBytes body → bytes_eq (codes "item") label
+    ≡ false → bytes_eq (codes "data") label ≡ false → label_at label ws ≡ None
     → label_at label (body_within m body ++ ws) ≡ None
 unfolding body_within words_item_words bytes_item_words
 past_within zero label body ws fits item apart none = past_bytes label (codes "data") body ws apart none
 past_within (suc m) label body ws fits item apart none =
     item_cases (λ (front : Option (List (List ℕ) × List ℕ)). label_at label (words_after_item m body front ++ ws)
     ≡ None) body fits
-    (λ (w : _) (parts : _). other_label label (codes "item") _ item) (λ (b : _) (parts : _). other_label label (codes "item") _ item) (past_bytes label (codes "data") body ws apart none)
+    (λ (w : _) (parts : _). other_label label (codes "item") _ item)
+    (λ (b : _) (parts : _). other_label label (codes "item") _ item)
+    (past_bytes label (codes "data") body ws apart none)
 
-pub past_body : (label body : List ℕ) (ws : List (List ℕ)) → AreBytes body → bytes_eq (codes "item") label ≡ false → bytes_eq (codes "data") label ≡ false → label_at label ws ≡ None
+pub past_body : (label body : List ℕ) (ws : List (List ℕ)) → AreBytes body → bytes_eq (codes "item") label ≡ false
+    → bytes_eq (codes "data") label ≡ false → label_at label ws ≡ None
     → label_at label (body_words body ++ ws) ≡ None
 unfolding body_words
 past_body label body ws fits item apart none = past_within (length body) label body ws fits item apart none
@@ -374,17 +391,18 @@ within_again (suc m) (suc n) body ws fits none =
     let numbers : List (List ℕ) = map (value_word (element_kind w.0)) (numbers_in w.1) in
     let more : List (List ℕ) = body_within m w.2 in
     let few : length more ≤ n = omega (arith, enough, length-append numbers more) in
-    ap (λ (l : List (List ℕ)). parts_at (suc n) (codes "item" ∷ value_word kind.Element w.0 ∷ l)) (append_assoc numbers more ws)
+    ap (λ (l : List (List ℕ)). parts_at (suc n) (codes "item" ∷ value_word kind.Element w.0 ∷ l))
+    (append_assoc numbers more ws)
     ∙ item_more n _ (more ++ ws) ws (item_encoding (words_item w.0 (numbers_in w.1))) w.2
     (words_item_again w.0 (numbers_in w.1) (more ++ ws) parts.small parts.fit parts.few
-    (body_no_number m w.2 ws parts.behind none.1)) (within_again m n w.2 ws parts.behind none few)
+    (body_no_number m w.2 ws parts.beyond none.1)) (within_again m n w.2 ws parts.beyond none few)
     ∙ ap (λ (l : List ℕ). Ok (l, ws)) parts.is)
     (λ (b : List ℕ × List ℕ) (parts : BytesFront body b) (enough : _).
     let more : List (List ℕ) = body_within m b.1 in
     let few : length more ≤ n = omega (arith, enough) in
     item_more n _ (more ++ ws) ws (item_encoding (bytes_item b.0)) b.1
     (bytes_item_parts (bytes_word b.0 ∷ more ++ ws) (more ++ ws) b.0 (bytes_at_again b.0 (more ++ ws) parts.bytes)
-    (below_is _ _ parts.few)) (within_again m n b.1 ws parts.behind none few)
+    (below_is _ _ parts.few)) (within_again m n b.1 ws parts.beyond none few)
     ∙ ap (λ (l : List ℕ). Ok (l, ws)) parts.is)
     (λ (enough : _). data_again (suc n) body ws fits none)
 

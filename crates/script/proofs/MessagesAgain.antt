@@ -31,17 +31,24 @@ pub further_again : (n : ℕ) (ws : List (List ℕ)) → n < 0x8000 → label_at
     → further_at (optional_words (codes "bits") Hexadecimal n ++ ws) ≡ Ok (n, ws)
 unfolding further_at optional_words
 further_again n ws small none =
-    elim (n == 0) as (λ (b : Bool). (n == 0) ≡ b → elim (label_at (codes "bits") (cond b [] (codes "bits" ∷ value_word Hexadecimal n ∷ []) ++ ws)) as (λ _. Reading (ℕ × List (List ℕ)))
-    [ None ↦ Ok (0, cond b [] (codes "bits" ∷ value_word Hexadecimal n ∷ []) ++ ws) | Some rest ↦ bounded_at expected.Number Hexadecimal 0x8000 rest ] ≡ Ok (n, ws)) [
+    elim (n == 0) as (λ (b : Bool). (n == 0) ≡ b → elim
+    (label_at (codes "bits") (cond b [] (codes "bits" ∷ value_word Hexadecimal n ∷ []) ++ ws)) as
+    (λ _. Reading (ℕ × List (List ℕ))) [
+      | None ↦ Ok (0, cond b [] (codes "bits" ∷ value_word Hexadecimal n ∷ []) ++ ws)
+      | Some rest ↦ bounded_at
+          expected.Number Hexadecimal 0x8000 rest
+    ] ≡ Ok (n, ws)) [
       | true ↦ λ (is : _). rw none (ap (λ (m : ℕ). Ok (m, ws)) (sym (eqb-true n 0 is)))
-      | false ↦ λ (_ : _). rw (label_again (codes "bits") (value_word Hexadecimal n ∷ ws)) (bounded_again expected.Number kind.Hexadecimal 0x8000 n ws tt small (omega arith))
+      | false ↦ λ (_ : _). rw (label_again (codes "bits") (value_word Hexadecimal n ∷ ws))
+          (bounded_again expected.Number kind.Hexadecimal 0x8000 n ws tt small (omega arith))
     ] refl
 
 pub local_again : (d n : ℕ) (ws : List (List ℕ)) → d < 0x100 → n < 2 ^ 32 → label_at (codes "local") ws ≡ None
     → local_at (local_words d n ++ ws) ≡ Ok (d, n, ws)
 unfolding local_at local_words
 local_again d n ws small fits none = elim (d == 0 && n == 0) as (λ (b : Bool). (d == 0 && n == 0) ≡ b →
-    elim (label_at (codes "local") (cond b [] (codes "local" ∷ value_word Disposition d ∷ value_word Hexadecimal n ∷ []) ++ ws)) as (λ _. Reading (ℕ × ℕ × List (List ℕ))) [
+    elim (label_at (codes "local") (cond b [] (codes "local" ∷ value_word Disposition d ∷ value_word Hexadecimal n
+    ∷ []) ++ ws)) as (λ _. Reading (ℕ × ℕ × List (List ℕ))) [
       | None ↦ Ok (0, 0, cond b [] (codes "local" ∷ value_word Disposition d ∷ value_word Hexadecimal n ∷ []) ++ ws)
       | Some rest ↦ bounded_at expected.Number Disposition 0x100 rest >>= λ r. value_at Hexadecimal r.1 >>= λ m. Ok
           (r.0, m.0, m.1)
@@ -97,8 +104,10 @@ header_parts start remote local id complex further size seqno ws h e1 e2 e3 e4 e
     rw (e1, e2, e3, e4, e5, e6, e7, e8) refl
 
 -- the words of a header, followed by others, are read as the header
-pub header_again : (h : Header) (ws : List (List ℕ)) → FitsHeader h → label_at (codes "complex") ws ≡ None → label_at (codes "bits") ws ≡ None
-    → label_at (codes "size") ws ≡ None → label_at (codes "seqno") ws ≡ None → header_at (header_words h ++ ws) ≡ Ok (h, ws)
+pub header_again : (h : Header) (ws : List (List ℕ)) → FitsHeader h → label_at (codes "complex") ws ≡ None
+    → label_at (codes "bits") ws ≡ None
+    → label_at (codes "size") ws ≡ None → label_at (codes "seqno") ws ≡ None → header_at (header_words h ++ ws)
+    ≡ Ok (h, ws)
 unfolding header_at header_words rights_at
 header_again h ws fits no_complex no_bits no_size no_seqno =
     let seqno : List (List ℕ) = optional_words (codes "seqno") Decimal h.seqno ++ ws in
@@ -109,16 +118,23 @@ header_again h ws fits no_complex no_bits no_size no_seqno =
     let local : List (List ℕ) = local_words (h.bits / 0x100 % 0x100) h.local ++ id in
     let remote : List (List ℕ) = value_word Hexadecimal h.remote ∷ local in
     let start : List (List ℕ) = value_word Disposition (h.bits % 0x100) ∷ remote in
-    let past_size : (label : List ℕ) → bytes_eq (codes "seqno") label ≡ false → bytes_eq (codes "size") label ≡ false → label_at label ws ≡ None → label_at label size ≡ None
-    = λ label a b none. past_optional label (codes "size") Decimal h.size seqno b (past_optional label (codes "seqno") Decimal h.seqno ws a none) in
+    let past_size : (label : List ℕ) → bytes_eq (codes "seqno") label ≡ false → bytes_eq (codes "size") label ≡ false
+    → label_at label ws ≡ None → label_at label size ≡ None
+    = λ label a b none. past_optional label (codes "size") Decimal h.size seqno b
+    (past_optional label (codes "seqno") Decimal h.seqno ws a none) in
     let e_rd =
     bounded_again expected.Message kind.Disposition 0x100 (h.bits % 0x100) remote tt (omega arith) (omega arith) in
     let e_remote = value_again kind.Hexadecimal h.remote local tt fits.remote in
-    let e_local = local_again (h.bits / 0x100 % 0x100) h.local id (omega arith) fits.local (other_label (codes "local") (codes "id") (value_word Decimal h.id ∷ complex) refl) in
+    let e_local = local_again (h.bits / 0x100 % 0x100) h.local id (omega arith) fits.local
+    (other_label (codes "local") (codes "id") (value_word Decimal h.id ∷ complex) refl) in
     let e_id = labelled_again (codes "id") kind.Decimal h.id complex tt fits.id in
-    let e_complex = flag_again (codes "complex") (nat_le 0x8000_0000 h.bits) further (past_optional (codes "complex") (codes "bits") Hexadecimal (h.bits / 0x1_0000 % 0x8000) size refl (past_size (codes "complex") refl refl no_complex)) in
-    let e_further = further_again (h.bits / 0x1_0000 % 0x8000) size (omega arith) (past_size (codes "bits") refl refl no_bits) in
-    let e_size = optional_again (codes "size") kind.Decimal h.size seqno tt fits.size (past_optional (codes "size") (codes "seqno") Decimal h.seqno ws refl no_size) in
+    let e_complex = flag_again (codes "complex") (nat_le 0x8000_0000 h.bits) further
+    (past_optional (codes "complex") (codes "bits") Hexadecimal (h.bits / 0x1_0000 % 0x8000) size refl
+    (past_size (codes "complex") refl refl no_complex)) in
+    let e_further = further_again (h.bits / 0x1_0000 % 0x8000) size (omega arith)
+    (past_size (codes "bits") refl refl no_bits) in
+    let e_size = optional_again (codes "size") kind.Decimal h.size seqno tt fits.size
+    (past_optional (codes "size") (codes "seqno") Decimal h.seqno ws refl no_size) in
     let e_seqno = optional_again (codes "seqno") kind.Decimal h.seqno ws tt fits.seqno no_seqno in
     let grouped : header_words h ++ ws ≡ start = simp append_assoc in
     ap header_at grouped
@@ -173,14 +189,18 @@ fits_header m fits = record {
 -- a number's word isn't the label of bytes
 no_bytes_label : (n : ℕ) → n < 2 ^ 32 → bytes_eq (value_word Disposition n) (codes "bytes") ≡ false
 unfolding read_word
-no_bytes_label n fits = elim (bytes_eq (value_word Disposition n) (codes "bytes")) as (λ (b : Bool). bytes_eq (value_word Disposition n) (codes "bytes") ≡ b → b ≡ false) [
-  | true ↦ λ (same : _).
-      let e : value_word Disposition n ≡ codes "bytes" = (bytes_eq-Decides (value_word Disposition n) (codes "bytes")).0 same in
-      let wrong : read_word kind.Disposition (codes "bytes") ≡ Some n = ap (read_word kind.Disposition) (sym e) ∙ word_again kind.Disposition n fits in
-      let none : read_word kind.Disposition (codes "bytes") ≡ None = refl in
-      absurd (cc)
-  | false ↦ λ (_ : _). refl
-] refl
+no_bytes_label n fits =
+    elim (bytes_eq (value_word Disposition n) (codes "bytes")) as
+    (λ (b : Bool). bytes_eq (value_word Disposition n) (codes "bytes") ≡ b → b ≡ false) [
+      | true ↦ λ (same : _).
+          let e : value_word Disposition n ≡ codes "bytes" =
+          (bytes_eq-Decides (value_word Disposition n) (codes "bytes")).0 same in
+          let wrong : read_word kind.Disposition (codes "bytes") ≡ Some n =
+          ap (read_word kind.Disposition) (sym e) ∙ word_again kind.Disposition n fits in
+          let none : read_word kind.Disposition (codes "bytes") ≡ None = refl in
+          absurd (cc)
+      | false ↦ λ (_ : _). refl
+    ] refl
 
 -- a header's first word
 pub header_first : (h : Header) → (rest : List (List ℕ))
@@ -188,7 +208,8 @@ pub header_first : (h : Header) → (rest : List (List ℕ))
 unfolding header_words
 header_first h = (_, refl)
 
-message_parts : (start rest ws : List (List ℕ)) (h : Header) (body : List ℕ) → label_at (codes "bytes") start ≡ None → header_at start ≡ Ok (h, rest)
+message_parts : (start rest ws : List (List ℕ)) (h : Header) (body : List ℕ) → label_at (codes "bytes") start ≡ None
+    → header_at start ≡ Ok (h, rest)
     → body_at rest ≡ Ok (body, ws) → message_at start ≡ Ok (header_encoding h body, ws)
 unfolding message_at
 message_parts start rest ws h body e1 e2 e3 = rw (e1, message_at) (rw (e2, e3) refl)
@@ -197,22 +218,28 @@ pub message_again : (m : List ℕ) (ws : List (List ℕ)) → AreBytes m → NoL
     → message_at (message_words m ++ ws) ≡ Ok (m, ws)
 unfolding message_at message_words
 message_again m ws fits none = elim (nat_lt (length m) 24) as (λ (b : Bool). nat_lt (length m) 24 ≡ b →
-    message_at (cond b (codes "bytes" ∷ bytes_word m ∷ []) (header_words (header_of m) ++ body_words (drop 24 m)) ++ ws) ≡ Ok (m, ws)) [
+    message_at (cond b (codes "bytes" ∷ bytes_word m ∷ []) (header_words (header_of m) ++ body_words (drop 24 m))
+    ++ ws) ≡ Ok (m, ws)) [
       | true ↦ λ (_ : _). rw (label_again (codes "bytes") (bytes_word m ∷ ws), message_at) (bytes_at_again m ws fits)
       | false ↦ λ (is : _).
           let long : 24 ≤ length m = grind (arith, nat_tests) in
           let h : Header = header_of m in
           let body : List ℕ = drop 24 m in
           let rest : List (List ℕ) = body_words body ++ ws in
-          let past : (label : List ℕ) → bytes_eq (codes "item") label ≡ false → bytes_eq (codes "data") label ≡ false → label_at label ws ≡ None → label_at label rest ≡ None
+          let past : (label : List ℕ) → bytes_eq (codes "item") label ≡ false → bytes_eq (codes "data") label ≡ false
+          → label_at label ws ≡ None → label_at label rest ≡ None
           = λ label item data_apart no. past_body label body ws (bytes_after 24 m fits) item data_apart no in
-          let e_header = header_again h rest (fits_header m fits) (past (codes "complex") refl refl (none.0 (codes "complex") refl)) (past (codes "bits") refl refl (none.0 (codes "bits") refl))
-          (past (codes "size") refl refl (none.0 (codes "size") refl)) (past (codes "seqno") refl refl (none.0 (codes "seqno") refl)) in
+          let e_header = header_again h rest (fits_header m fits)
+          (past (codes "complex") refl refl (none.0 (codes "complex") refl))
+          (past (codes "bits") refl refl (none.0 (codes "bits") refl))
+          (past (codes "size") refl refl (none.0 (codes "size") refl))
+          (past (codes "seqno") refl refl (none.0 (codes "seqno") refl)) in
           let e_body = body_again body ws (bytes_after 24 m fits) none in
           let first = header_first h in
           let e_label : label_at (codes "bytes") (header_words h ++ rest) ≡ None =
           ap (λ (l : List (List ℕ)). label_at (codes "bytes") (l ++ rest)) first.1
-          ∙ other_label (codes "bytes") (value_word Disposition (h.bits % 0x100)) (first.0 ++ rest) (no_bytes_label (h.bits % 0x100) (omega arith)) in
+          ∙ other_label (codes "bytes") (value_word Disposition (h.bits % 0x100)) (first.0 ++ rest)
+          (no_bytes_label (h.bits % 0x100) (omega arith)) in
           ap message_at (append_assoc (header_words h) (body_words body) ws)
           ∙ message_parts (header_words h ++ rest) rest ws h body e_label e_header e_body ∙ ap
           (λ (l : List ℕ). Ok (l, ws)) (message_is m fits long)

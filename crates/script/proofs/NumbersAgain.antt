@@ -46,7 +46,8 @@ natural_again radix n low high fits short =
     ap (λ (b : Bool). cond b None (number_from radix 0 ds)) long ∙ value ∙ ap Some is.1
 
 -- decimal digits aren't taken for another kind of number
-plain_digits : (ds : List ℕ) → AllDigits 10 ds → (starts_with nat_eq ds (codes "0x") ≡ false) × (starts_with nat_eq ds (codes "-") ≡ false)
+plain_digits : (ds : List ℕ) → AllDigits 10 ds → (starts_with nat_eq ds (codes "0x") ≡ false)
+    × (starts_with nat_eq ds (codes "-") ≡ false)
 plain_digits [] are = (refl, refl)
 plain_digits (c ∷ []) are = let bound = digit_from_value c are.0 in (grind (arith, nat_tests), grind (arith, nat_tests))
 plain_digits (c ∷ d ∷ ds) are =
@@ -72,11 +73,13 @@ negated_again : (n : ℕ) → n < 2 ^ 32 → 2 ^ 31 ≤ n → negated (2 ^ 32 - 
 negated_again n fits high = omega arith
 
 pub signed_again : (n : ℕ) → n < 2 ^ 32 → number_of_word (signed n) ≡ Some n
-signed_again n fits = elim (nat_lt n (2 ^ 31)) as (λ (b : Bool). nat_lt n (2 ^ 31) ≡ b → number_of_word (cond b (decimal n) (codes "-" ++ decimal (2 ^ 32 - n))) ≡ Some n) [
-  | true ↦ λ (_ : _). decimal_again n fits
-  | false ↦ λ (is : _).
-      let high : 2 ^ 31 ≤ n = grind (arith, nat_tests) in
-      let least : 2 ^ 32 - n < 2 ^ 32 = omega arith in
-      ap (option_map negated) (natural_again 10 (2 ^ 32 - n) (omega arith) (omega arith) least
-      (decimal_fits (2 ^ 32 - n) least)) ∙ ap Some (negated_again n fits high)
-] refl
+signed_again n fits =
+    elim (nat_lt n (2 ^ 31)) as (λ (b : Bool). nat_lt n (2 ^ 31) ≡ b
+    → number_of_word (cond b (decimal n) (codes "-" ++ decimal (2 ^ 32 - n))) ≡ Some n) [
+      | true ↦ λ (_ : _). decimal_again n fits
+      | false ↦ λ (is : _).
+          let high : 2 ^ 31 ≤ n = grind (arith, nat_tests) in
+          let least : 2 ^ 32 - n < 2 ^ 32 = omega arith in
+          ap (option_map negated) (natural_again 10 (2 ^ 32 - n) (omega arith) (omega arith) least
+          (decimal_fits (2 ^ 32 - n) least)) ∙ ap Some (negated_again n fits high)
+    ] refl

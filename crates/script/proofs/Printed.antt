@@ -71,16 +71,18 @@ hexadecimal_word n fits =
     all_digits 16 (digits 16 false n) (omega arith) is.0.1
 
 signed_word : (n : ℕ) → n < 2 ^ 32 → is_word (signed n) ≡ true
-signed_word n fits = elim (nat_lt n (2 ^ 31)) as (λ (b : Bool). nat_lt n (2 ^ 31) ≡ b → is_word (cond b (decimal n) (codes "-" ++ decimal (2 ^ 32 - n))) ≡ true) [
-  | true ↦ λ (_ : _). decimal_word n fits
-  | false ↦ λ (is : _).
-      let high : 2 ^ 31 ≤ n = grind (arith, nat_tests) in
-      let small : 2 ^ 32 - n < 2 ^ 32 = omega arith in
-      let less : 2 ^ 32 - n < 10 ^ 64 = decimal_fits (2 ^ 32 - n) small in
-      let number =
-      digits_is_IsNumeral 10 false (omega arith) (omega arith) (2 ^ 32 - n) less in
-      all_digits 10 (decimal (2 ^ 32 - n)) (omega arith) number.0.1
-] refl
+signed_word n fits =
+    elim (nat_lt n (2 ^ 31)) as (λ (b : Bool). nat_lt n (2 ^ 31) ≡ b
+    → is_word (cond b (decimal n) (codes "-" ++ decimal (2 ^ 32 - n))) ≡ true) [
+      | true ↦ λ (_ : _). decimal_word n fits
+      | false ↦ λ (is : _).
+          let high : 2 ^ 31 ≤ n = grind (arith, nat_tests) in
+          let small : 2 ^ 32 - n < 2 ^ 32 = omega arith in
+          let less : 2 ^ 32 - n < 10 ^ 64 = decimal_fits (2 ^ 32 - n) small in
+          let number =
+          digits_is_IsNumeral 10 false (omega arith) (omega arith) (2 ^ 32 - n) less in
+          all_digits 10 (decimal (2 ^ 32 - n)) (omega arith) number.0.1
+    ] refl
 
 named : (P : List ℕ → Type 0) (b : Bool) (word : List ℕ) (rest : Option (List ℕ)) (text : List ℕ) → P word
     → P (unwrap_or rest text) → P (unwrap_or (cond b (Some word) rest) text)
@@ -178,10 +180,13 @@ flag_printed label false is = refl
 
 local_printed : (d n : ℕ) → d < 2 ^ 32 → n < 2 ^ 32 → are_words (local_words d n) ≡ true
 unfolding local_words
-local_printed d n fits fits_name = elim (d == 0 && n == 0) as (λ (b : Bool). are_words (cond b [] (codes "local" ∷ value_word Disposition d ∷ value_word Hexadecimal n ∷ [])) ≡ true) [
-  | true ↦ refl
-  | false ↦ three (codes "local") (value_word Disposition d) (value_word Hexadecimal n) refl (value_printed kind.Disposition d fits) (value_printed kind.Hexadecimal n fits_name)
-]
+local_printed d n fits fits_name =
+    elim (d == 0 && n == 0) as (λ (b : Bool). are_words
+    (cond b [] (codes "local" ∷ value_word Disposition d ∷ value_word Hexadecimal n ∷ [])) ≡ true) [
+      | true ↦ refl
+      | false ↦ three (codes "local") (value_word Disposition d) (value_word Hexadecimal n) refl
+          (value_printed kind.Disposition d fits) (value_printed kind.Hexadecimal n fits_name)
+    ]
 
 optional_bytes_printed : (label bytes : List ℕ) → is_word label ≡ true → AreBytes bytes
     → are_words (optional_bytes label bytes) ≡ true
@@ -208,11 +213,19 @@ header_printed h fits =
     } in
     let local : AreWords (local_words (h.bits / 0x100 % 0x100) h.local) =
     record { is = local_printed (h.bits / 0x100 % 0x100) h.local (omega arith) fits.local } in
-    let id : AreWords (codes "id" ∷ value_word Decimal h.id ∷ []) = record { is = two (codes "id") (value_word Decimal h.id) refl (value_printed kind.Decimal h.id fits.id) } in
-    let complex : AreWords (flag_words (codes "complex") (nat_le 0x8000_0000 h.bits)) = record { is = flag_printed (codes "complex") (nat_le 0x8000_0000 h.bits) refl } in
-    let further : AreWords (optional_words (codes "bits") Hexadecimal (h.bits / 0x1_0000 % 0x8000)) = record { is = optional_printed (codes "bits") kind.Hexadecimal (h.bits / 0x1_0000 % 0x8000) refl (omega arith) } in
-    let size : AreWords (optional_words (codes "size") Decimal h.size) = record { is = optional_printed (codes "size") kind.Decimal h.size refl fits.size } in
-    let seqno : AreWords (optional_words (codes "seqno") Decimal h.seqno) = record { is = optional_printed (codes "seqno") kind.Decimal h.seqno refl fits.seqno } in
+    let id : AreWords (codes "id" ∷ value_word Decimal h.id ∷ []) =
+    record { is = two (codes "id") (value_word Decimal h.id) refl (value_printed kind.Decimal h.id fits.id) } in
+    let complex : AreWords (flag_words (codes "complex") (nat_le 0x8000_0000 h.bits)) =
+    record { is = flag_printed (codes "complex") (nat_le 0x8000_0000 h.bits) refl } in
+    let further : AreWords (optional_words (codes "bits") Hexadecimal (h.bits / 0x1_0000 % 0x8000)) =
+    record {
+      is = optional_printed (codes "bits") kind.Hexadecimal (h.bits / 0x1_0000 % 0x8000) refl
+          (omega arith);
+    } in
+    let size : AreWords (optional_words (codes "size") Decimal h.size) =
+    record { is = optional_printed (codes "size") kind.Decimal h.size refl fits.size } in
+    let seqno : AreWords (optional_words (codes "seqno") Decimal h.seqno) =
+    record { is = optional_printed (codes "seqno") kind.Decimal h.seqno refl fits.seqno } in
     (join (join (join (join (join (join rights local) id) complex) further) size) seqno).is
 
 numbers_printed : (k : Kind) (ns : List ℕ) → AreNumbers ns → are_words (map (value_word k) ns) ≡ true
@@ -227,9 +240,9 @@ within_printed (suc m) body fits =
     (λ (w : ℕ × List ℕ × List ℕ) (parts : WordsFront body w).
     both _ _ refl (both _ _ (value_printed kind.Element w.0 (omega (arith, parts.small)))
     (printed_both (map (value_word (element_kind w.0)) (numbers_in w.1)) (body_within m w.2)
-    (numbers_printed (element_kind w.0) (numbers_in w.1) parts.fit) (within_printed m w.2 parts.behind))))
+    (numbers_printed (element_kind w.0) (numbers_in w.1) parts.fit) (within_printed m w.2 parts.beyond))))
     (λ (b : List ℕ × List ℕ) (parts : BytesFront body b). both _ _ refl
-    (both _ _ refl (both _ _ (bytes_printed b.0 parts.bytes) (within_printed m b.1 parts.behind))))
+    (both _ _ refl (both _ _ (bytes_printed b.0 parts.bytes) (within_printed m b.1 parts.beyond))))
     (optional_bytes_printed (codes "data") body refl fits)
 
 body_printed : (body : List ℕ) → AreBytes body → are_words (body_words body) ≡ true
@@ -238,11 +251,13 @@ body_printed body fits = within_printed (length body) body fits
 
 pub message_printed : (m : List ℕ) → AreBytes m → are_words (message_words m) ≡ true
 unfolding message_words
-message_printed m fits = elim (nat_lt (length m) 24) as (λ (b : Bool). are_words (cond b (codes "bytes" ∷ bytes_word m ∷ []) (header_words (header_of m) ++ body_words (drop 24 m))) ≡ true) [
-  | true ↦ two (codes "bytes") (bytes_word m) refl (bytes_printed m fits)
-  | false ↦ printed_both (header_words (header_of m)) (body_words (drop 24 m))
-      (header_printed (header_of m) (fits_header m fits)) (body_printed (drop 24 m) (bytes_after 24 m fits))
-]
+message_printed m fits =
+    elim (nat_lt (length m) 24) as (λ (b : Bool). are_words
+    (cond b (codes "bytes" ∷ bytes_word m ∷ []) (header_words (header_of m) ++ body_words (drop 24 m))) ≡ true) [
+      | true ↦ two (codes "bytes") (bytes_word m) refl (bytes_printed m fits)
+      | false ↦ printed_both (header_words (header_of m)) (body_words (drop 24 m))
+          (header_printed (header_of m) (fits_header m fits)) (body_printed (drop 24 m) (bytes_after 24 m fits))
+    ]
 
 -- the words of a call
 verb_printed : (v : Verb) → is_word (verb_word v) ≡ true
@@ -258,9 +273,12 @@ count n fits = value_printed kind.Decimal n fits
 receive_printed : (limit name : ℕ) (large waited : Bool) → limit < 2 ^ 32 → name < 2 ^ 32
     → are_words (argument_words (call.Receive limit large name waited)) ≡ true
 receive_printed limit name large waited fits fits_name =
-    printed_both ((value_word Hexadecimal name ∷ codes "limit" ∷ value_word Decimal limit ∷ []) ++ flag_words (codes "large") large) (flag_words (codes "waited") waited)
-    (printed_both (value_word Hexadecimal name ∷ codes "limit" ∷ value_word Decimal limit ∷ []) (flag_words (codes "large") large)
-    (three (value_word Hexadecimal name) (codes "limit") (value_word Decimal limit) (hex name fits_name) refl (count limit fits)) (flag_printed (codes "large") large refl))
+    printed_both ((value_word Hexadecimal name ∷ codes "limit" ∷ value_word Decimal limit ∷ [])
+    ++ flag_words (codes "large") large) (flag_words (codes "waited") waited)
+    (printed_both (value_word Hexadecimal name ∷ codes "limit" ∷ value_word Decimal limit ∷ [])
+    (flag_words (codes "large") large)
+    (three (value_word Hexadecimal name) (codes "limit") (value_word Decimal limit) (hex name fits_name) refl
+    (count limit fits)) (flag_printed (codes "large") large refl))
     (flag_printed (codes "waited") waited refl)
 
 number : (k : Kind) (n : ℕ) → n < 2 ^ 32 → AreWords (value_word k n ∷ [])
@@ -327,9 +345,15 @@ answer label b is = record { is = two label (yes_or_no b) is (answer_printed b) 
 status_printed : (s : ReceiveStatus) → FitsReply (reply.ReceiveStatus s) → are_words (status_words s) ≡ true
 unfolding status_words count_words
 status_printed s f =
-    let counts = join (pair (codes "set") kind.Hexadecimal s.set refl f.0) (join (pair (codes "seqno") kind.Decimal s.sequence_number refl f.1) (join (pair (codes "mscount") kind.Decimal s.make_send_count refl f.2)
-    (join (pair (codes "qlimit") kind.Decimal s.limit refl f.3) (join (pair (codes "messages") kind.Decimal s.messages refl f.4) (pair (codes "send_once") kind.Decimal s.send_once_count refl f.5))))) in
-    let answers = join (answer (codes "senders") s.has_senders refl) (join (answer (codes "port_destroyed") s.has_port_destroyed_request refl) (answer (codes "no_senders") s.has_no_senders_request refl)) in
+    let counts = join (pair (codes "set") kind.Hexadecimal s.set refl f.0)
+    (join (pair (codes "seqno") kind.Decimal s.sequence_number refl f.1)
+    (join (pair (codes "mscount") kind.Decimal s.make_send_count refl f.2)
+    (join (pair (codes "qlimit") kind.Decimal s.limit refl f.3)
+    (join (pair (codes "messages") kind.Decimal s.messages refl f.4)
+    (pair (codes "send_once") kind.Decimal s.send_once_count refl f.5))))) in
+    let answers = join (answer (codes "senders") s.has_senders refl)
+    (join (answer (codes "port_destroyed") s.has_port_destroyed_request refl)
+    (answer (codes "no_senders") s.has_no_senders_request refl)) in
     (join counts answers).is
 
 abbrev FitsNamed : NamedType → Type 0
@@ -371,8 +395,10 @@ unfolding message_reply_words
 message_reply_printed c size member message fits fits_member bytes =
     let outcome : AreWords (outcome_words c (size == 0 && member == 0 && length message == 0)) =
     record { is = outcome_printed c (size == 0 && member == 0 && length message == 0) } in
-    let sizes : AreWords (optional_words (codes "size") Decimal size) = record { is = optional_printed (codes "size") kind.Decimal size refl fits } in
-    let members : AreWords (optional_words (codes "member") Hexadecimal member) = record { is = optional_printed (codes "member") kind.Hexadecimal member refl fits_member } in
+    let sizes : AreWords (optional_words (codes "size") Decimal size) =
+    record { is = optional_printed (codes "size") kind.Decimal size refl fits } in
+    let members : AreWords (optional_words (codes "member") Hexadecimal member) =
+    record { is = optional_printed (codes "member") kind.Hexadecimal member refl fits_member } in
     let received : AreWords (received_words message) = record { is = received_printed message bytes } in
     (join (join (join outcome sizes) members) received).is
 
@@ -396,4 +422,6 @@ reply_printed (reply.PreviousTarget name) f = (join equals (number Hexadecimal n
 reply_printed (reply.Extracted name k) f =
     (join equals (join (number Hexadecimal name f) (rows (kind_word k ∷ []) (one (kind_word k) (kind_printed k))))).is
 reply_printed (reply.Message c size member message) f = message_reply_printed c size member message f.0 f.1 f.2
-reply_printed (reply.SpaceCreated space name) f = (join equals (join (pair (codes "space") kind.Decimal space refl f.0) (pair (codes "name") kind.Hexadecimal name refl f.1))).is
+reply_printed (reply.SpaceCreated space name) f =
+    (join equals (join (pair (codes "space") kind.Decimal space refl f.0)
+    (pair (codes "name") kind.Hexadecimal name refl f.1))).is

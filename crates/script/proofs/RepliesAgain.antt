@@ -60,14 +60,16 @@ counts_again s ws (f0, f1, f2, f3, f4, f5) =
     (rw (labelled_again (codes "seqno") Decimal s.sequence_number _ tt f1)
     (rw (labelled_again (codes "mscount") Decimal s.make_send_count _ tt f2)
     (rw (labelled_again (codes "qlimit") Decimal s.limit _ tt f3)
-    (rw (labelled_again (codes "messages") Decimal s.messages _ tt f4) (rw (labelled_again (codes "send_once") Decimal s.send_once_count ws tt f5) refl)))))
+    (rw (labelled_again (codes "messages") Decimal s.messages _ tt f4)
+    (rw (labelled_again (codes "send_once") Decimal s.send_once_count ws tt f5) refl)))))
 
 status_again : (s : ReceiveStatus) → FitsStatus s → status_at (status_words s) ≡ Ok (s, [])
 unfolding status_at status_words
 status_again s fits =
     rw (counts_again s _ fits)
     (rw (answer_again (codes "senders") s.has_senders _)
-    (rw (answer_again (codes "port_destroyed") s.has_port_destroyed_request _) (rw (answer_again (codes "no_senders") s.has_no_senders_request []) refl)))
+    (rw (answer_again (codes "port_destroyed") s.has_port_destroyed_request _)
+    (rw (answer_again (codes "no_senders") s.has_no_senders_request []) refl)))
 
 abbrev FitsNamed : NamedType → Type 0
 FitsNamed n = (n.name < 2 ^ 32) × (n.bits < 2 ^ 32)
@@ -101,12 +103,14 @@ received_again [] fits = refl
 received_again (b ∷ message) fits =
     rw (sym (append-nil (message_words (b ∷ message)))) (message_again (b ∷ message) [] fits no_label_end)
 
-past_received : (label message : List ℕ) → bytes_eq (codes "message") label ≡ false → label_at label (received_words message) ≡ None
+past_received : (label message : List ℕ) → bytes_eq (codes "message") label ≡ false
+    → label_at label (received_words message) ≡ None
 unfolding received_words label_at
 past_received label [] apart = refl
 past_received label (b ∷ message) apart = ap (λ (t : Bool). cond t (Some (message_words (b ∷ message))) None) apart
 
-message_parts : (c : KernReturn) (w0 w1 w2 : List (List ℕ)) (size member : ℕ) (message : List ℕ) → optional_at (codes "size") Decimal w0 ≡ Ok (size, w1)
+message_parts : (c : KernReturn) (w0 w1 w2 : List (List ℕ)) (size member : ℕ) (message : List ℕ)
+    → optional_at (codes "size") Decimal w0 ≡ Ok (size, w1)
     → optional_at (codes "member") Hexadecimal w1 ≡ Ok (member, w2) → received_at w2 ≡ Ok (message, [])
     → message_reply_at c w0 ≡ Ok (reply.Message c size member message)
 unfolding message_reply_at last
@@ -115,17 +119,22 @@ message_parts c w0 w1 w2 size member message e1 e2 e3 = rw (e1, e2, e3) refl
 -- the results of mach_msg after its code
 results_again : (c : KernReturn) (size member : ℕ) (message : List ℕ) → size < 2 ^ 32 → member < 2 ^ 32
     → AreBytes message
-    → message_reply_at c (optional_words (codes "size") Decimal size ++ (optional_words (codes "member") Hexadecimal member ++ received_words message)) ≡ Ok (reply.Message c size member message)
+    → message_reply_at c (optional_words (codes "size") Decimal size
+    ++ (optional_words (codes "member") Hexadecimal member ++ received_words message))
+    ≡ Ok (reply.Message c size member message)
 results_again c size member message fits fits_member bytes =
     let w2 : List (List ℕ) = received_words message in
     let w1 : List (List ℕ) = optional_words (codes "member") Hexadecimal member ++ w2 in
     message_parts c (optional_words (codes "size") Decimal size ++ w1) w1 w2 size member message
-    (optional_again (codes "size") Decimal size w1 tt fits (past_optional (codes "size") (codes "member") Hexadecimal member w2 refl (past_received (codes "size") message refl)))
+    (optional_again (codes "size") Decimal size w1 tt fits
+    (past_optional (codes "size") (codes "member") Hexadecimal member w2 refl
+    (past_received (codes "size") message refl)))
     (optional_again (codes "member") Hexadecimal member w2 tt fits_member (past_received (codes "member") message refl))
     (received_again message bytes)
 
 silent : (size member : ℕ) (message : List ℕ) → (size == 0 && member == 0 && length message == 0) ≡ true
-    → reply_at 19 ((optional_words (codes "size") Decimal size ++ optional_words (codes "member") Hexadecimal member) ++ received_words message) ≡ Ok (reply.Message code.Success size member message)
+    → reply_at 19 ((optional_words (codes "size") Decimal size ++ optional_words (codes "member") Hexadecimal member)
+    ++ received_words message) ≡ Ok (reply.Message code.Success size member message)
 unfolding reply_at silence optional_words received_words
 silent size member [] is =
     let parts = and_parts (size == 0 && member == 0) true is in
@@ -136,7 +145,8 @@ silent size member [] is =
 silent size member (b ∷ message) is = absurd (grind (arith, nat_tests))
 
 silent_no_label : (size member : ℕ) (message : List ℕ) → (size == 0 && member == 0 && length message == 0) ≡ true
-    → NoLabel ((optional_words (codes "size") Decimal size ++ optional_words (codes "member") Hexadecimal member) ++ received_words message)
+    → NoLabel ((optional_words (codes "size") Decimal size ++ optional_words (codes "member") Hexadecimal member)
+    ++ received_words message)
 unfolding optional_words received_words
 silent_no_label size member [] is =
     let parts = and_parts (size == 0 && member == 0) true is in
@@ -152,13 +162,18 @@ unfolding message_reply_words outcome_words reply_at results_at refusal_at
 mach_msg_again code.Success size member message fits fits_member bytes =
     elim (size == 0 && member == 0 && length message == 0)
     as (λ (b : Bool). (size == 0 && member == 0 && length message == 0) ≡ b
-    → reply_at 19 (((cond b [] (codes "=" ∷ []) ++ optional_words (codes "size") Decimal size) ++ optional_words (codes "member") Hexadecimal member) ++ received_words message) ≡ Ok (reply.Message code.Success size member message)) [
+    → reply_at 19 (((cond b [] (codes "=" ∷ []) ++ optional_words (codes "size") Decimal size)
+    ++ optional_words (codes "member") Hexadecimal member) ++ received_words message)
+    ≡ Ok (reply.Message code.Success size member message)) [
       | true ↦ λ (is : _). silent size member message is
-      | false ↦ λ (_ : _). ap (message_reply_at code.Success) (append_assoc (optional_words (codes "size") Decimal size) (optional_words (codes "member") Hexadecimal member) (received_words message))
+      | false ↦ λ (_ : _). ap (message_reply_at code.Success)
+          (append_assoc (optional_words (codes "size") Decimal size)
+          (optional_words (codes "member") Hexadecimal member) (received_words message))
           ∙ results_again code.Success size member message fits fits_member bytes
     ] refl
 mach_msg_again c size member message fits fits_member bytes =
-    (ap (message_reply_at c) (append_assoc (optional_words (codes "size") Decimal size) (optional_words (codes "member") Hexadecimal member) (received_words message))
+    (ap (message_reply_at c) (append_assoc (optional_words (codes "size") Decimal size)
+    (optional_words (codes "member") Hexadecimal member) (received_words message))
     ∙ results_again c size member message fits fits_member bytes)
 
 -- the results of any other call
@@ -172,16 +187,19 @@ unfolding extracted_at last
 extracted_again n k fits = rw (value_again Hexadecimal n (kind_word k ∷ []) tt fits) (rw (kind_again k []) refl)
 
 space_created_again : (space name : ℕ) → space < 2 ^ 32 → name < 2 ^ 32
-    → space_created_at (codes "space" ∷ value_word Decimal space ∷ codes "name" ∷ value_word Hexadecimal name ∷ []) ≡ Ok (reply.SpaceCreated space name)
+    → space_created_at (codes "space" ∷ value_word Decimal space ∷ codes "name" ∷ value_word Hexadecimal name ∷ [])
+    ≡ Ok (reply.SpaceCreated space name)
 unfolding space_created_at last
 space_created_again space name fits fits_name =
-    rw (labelled_again (codes "space") Decimal space (codes "name" ∷ value_word Hexadecimal name ∷ []) tt fits) (rw (labelled_again (codes "name") Hexadecimal name [] tt fits_name) refl)
+    rw (labelled_again (codes "space") Decimal space (codes "name" ∷ value_word Hexadecimal name ∷ []) tt fits)
+    (rw (labelled_again (codes "name") Hexadecimal name [] tt fits_name) refl)
 
 last_status_again : (s : ReceiveStatus) → FitsStatus s → last_status_at (status_words s) ≡ Ok (reply.ReceiveStatus s)
 unfolding last_status_at last
 last_status_again s fits = rw (status_again s fits) refl
 
-refused_again : (n : ℕ) (c : KernReturn) → (n ≡ MACH_MSG → ⊥) → reply_at n (codes "!" ∷ code_word c ∷ []) ≡ Ok (reply.Refused n c)
+refused_again : (n : ℕ) (c : KernReturn) → (n ≡ MACH_MSG → ⊥) → reply_at n (codes "!" ∷ code_word c ∷ [])
+    ≡ Ok (reply.Refused n c)
 unfolding reply_at refusal_at last
 refused_again n c other =
     let not_message : (n == MACH_MSG) ≡ false = grind (arith, nat_tests) in rw (code_again c) (rw not_message refl)
@@ -195,7 +213,8 @@ done_again n plain =
       | true ↦ λ (wrong : _). absurd (cc)
       | false ↦ λ (known : _). elim (n == MACH_MSG)
           as (λ (b : Bool). IsTrue (not b)
-          → cond {A = Reading Reply} b (Ok (reply.Message code.Success 0 0 [])) (Ok (reply.Done n)) ≡ Ok (reply.Done n)) [
+          → cond {A = Reading Reply} b (Ok (reply.Message code.Success 0 0 [])) (Ok (reply.Done n))
+          ≡ Ok (reply.Done n)) [
             | true ↦ λ (wrong : _). absurd (cc)
             | false ↦ λ (_ : _). refl
           ] known
@@ -224,7 +243,8 @@ reply_no_label (reply.Refused n c) = no_label_sign 33 [] (code_word c ∷ []) (o
 reply_no_label (reply.Done n) = no_label_end
 reply_no_label (reply.Message code.Success size member message) = elim (size == 0 && member == 0 && length message == 0)
     as (λ (b : Bool). (size == 0 && member == 0 && length message == 0) ≡ b
-    → NoLabel (((cond b [] (codes "=" ∷ []) ++ optional_words (codes "size") Decimal size) ++ optional_words (codes "member") Hexadecimal member) ++ received_words message)) [
+    → NoLabel (((cond b [] (codes "=" ∷ []) ++ optional_words (codes "size") Decimal size)
+    ++ optional_words (codes "member") Hexadecimal member) ++ received_words message)) [
       | true ↦ λ (is : _). silent_no_label size member message is
       | false ↦ λ (_ : _). no_label_sign 61 [] _ (omega arith) no_number_sign.1
     ] refl

@@ -128,11 +128,11 @@ lines_front c (d ∷ ds) =
       | false ↦ rw one-add (ap (in_front c) (lines_front d ds))
     ]
 
-pub lines_next : (text line behind : List ℕ) → (text ≡ [] → ⊥) → line ≡ take (prefix_len in_line text) text
-    → behind ≡ drop 1 (drop (prefix_len in_line text) text)
-    → lines_of text ≡ line ∷ lines_of behind
-lines_next [] line behind some first rest = absurd (some refl)
-lines_next (c ∷ cs) line behind some first rest = rw (first, rest) (lines_front c cs)
+pub lines_next : (text line beyond : List ℕ) → (text ≡ [] → ⊥) → line ≡ take (prefix_len in_line text) text
+    → beyond ≡ drop 1 (drop (prefix_len in_line text) text)
+    → lines_of text ≡ line ∷ lines_of beyond
+lines_next [] line beyond some first rest = absurd (some refl)
+lines_next (c ∷ cs) line beyond some first rest = rw (first, rest) (lines_front c cs)
 
 -- what a script says, after calls that were read
 abbrev pub after_lines : List Line → Result (List Line) ScriptFault → Result (List Line) ScriptFault
@@ -148,21 +148,21 @@ next_line old new n (Ok (Some x)) (Err fault) added = refl
 next_line old new n (Ok None) below added = ap (λ (l : List Line). after_lines l below) added
 next_line old new n (Err fault) below added = absurd added
 
-pub next_read : (old new : List Line) (n : ℕ) (text line behind : List ℕ) → lines_of text ≡ line ∷ lines_of behind
+pub next_read : (old new : List Line) (n : ℕ) (text line beyond : List ℕ) → lines_of text ≡ line ∷ lines_of beyond
     → Adds old new (n + 1) (line_read line)
-    → after_lines new (lines_read (n + 1 + 1) (lines_of behind)) ≡ after_lines old (lines_read (n + 1) (lines_of text))
+    → after_lines new (lines_read (n + 1 + 1) (lines_of beyond)) ≡ after_lines old (lines_read (n + 1) (lines_of text))
 unfolding lines_read
-next_read old new n text line behind is added =
-    rw is (next_line old new (n + 1) (line_read line) (lines_read (n + 1 + 1) (lines_of behind)) added)
+next_read old new n text line beyond is added =
+    rw is (next_line old new (n + 1) (line_read line) (lines_read (n + 1 + 1) (lines_of beyond)) added)
 
 -- the fault of the next line is the script's
-pub next_fault : (fault : LineFault) (old : List Line) (n : ℕ) (text line behind : List ℕ)
-    (all : Result (List Line) ScriptFault) → lines_of text ≡ line ∷ lines_of behind
+pub next_fault : (fault : LineFault) (old : List Line) (n : ℕ) (text line beyond : List ℕ)
+    (all : Result (List Line) ScriptFault) → lines_of text ≡ line ∷ lines_of beyond
     → IsFault fault fault (line_read line) → after_lines old (lines_read (n + 1) (lines_of text)) ≡ all
     → IsFault fault (record { line = n + 1; fault = fault }) all
 unfolding lines_read
-next_fault line_fault.NoMemory old n text line behind all is said same = tt
-next_fault (line_fault.Unreadable column expected) old n text line behind all is said same =
+next_fault line_fault.NoMemory old n text line beyond all is said same = tt
+next_fault (line_fault.Unreadable column expected) old n text line beyond all is said same =
     sym same ∙ rw is (rw said refl)
 
 pub none_left : (lines : List Line) (n : ℕ) (text : List ℕ) → text ≡ []

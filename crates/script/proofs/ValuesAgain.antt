@@ -31,10 +31,12 @@ decimal_no_letter n fits =
     digits_no_letter (decimal n) (digits_is_IsNumeral 10 false (omega arith) (omega arith) n (decimal_fits n fits)).0.1
 
 signed_no_letter : (n : ℕ) → n < 2 ^ 32 → begins_with_letter (signed n) ≡ false
-signed_no_letter n fits = elim (nat_lt n (2 ^ 31)) as (λ (b : Bool). begins_with_letter (cond b (decimal n) (codes "-" ++ decimal (2 ^ 32 - n))) ≡ false) [
-  | true ↦ decimal_no_letter n fits
-  | false ↦ refl
-]
+signed_no_letter n fits =
+    elim (nat_lt n (2 ^ 31)) as (λ (b : Bool). begins_with_letter
+    (cond b (decimal n) (codes "-" ++ decimal (2 ^ 32 - n))) ≡ false) [
+      | true ↦ decimal_no_letter n fits
+      | false ↦ refl
+    ]
 
 -- a number in a word that doesn't begin with a letter
 printed : (k : Kind) (n : ℕ) (word : List ℕ) → begins_with_letter word ≡ false → number_of_word word ≡ Some n
@@ -105,10 +107,13 @@ word_again kind.Absent n fits = in_decimal kind.Absent n fits
 -- every byte string is read from its word
 not_none : (word bytes : List ℕ) → decode_of word ≡ Ok bytes → bytes_eq word (codes "none") ≡ false
 unfolding hex_on_literals
-not_none word bytes is = elim (bytes_eq word (codes "none")) as (λ (b : Bool). bytes_eq word (codes "none") ≡ b → b ≡ false) [
-  | true ↦ λ (same : _). let e : word ≡ codes "none" = (bytes_eq-Decides word (codes "none")).0 same in let wrong : decode_of (codes "none") ≡ Ok bytes = ap decode_of (sym e) ∙ is in absurd (cc)
-  | false ↦ λ (_ : _). refl
-] refl
+not_none word bytes is =
+    elim (bytes_eq word (codes "none")) as (λ (b : Bool). bytes_eq word (codes "none") ≡ b → b ≡ false) [
+      | true ↦ λ (same : _). let e : word ≡ codes "none" =
+          (bytes_eq-Decides word (codes "none")).0 same in let wrong : decode_of (codes "none") ≡ Ok bytes =
+          ap decode_of (sym e) ∙ is in absurd (cc)
+      | false ↦ λ (_ : _). refl
+    ] refl
 
 pub bytes_again : (bytes : List ℕ) → AreBytes bytes → read_bytes (bytes_word bytes) ≡ Some bytes
 unfolding bytes_word

@@ -24,7 +24,8 @@ receive_at words = do
   name ← value_at Hexadecimal words
   limit ← labelled_at (codes "limit") Decimal name.1
   Ok (
-    call.Receive limit.0 (flag_at (codes "large") limit.1).0 name.0 (flag_at (codes "waited") (flag_at (codes "large") limit.1).1).0,
+    call.Receive limit.0 (flag_at (codes "large") limit.1).0 name.0
+        (flag_at (codes "waited") (flag_at (codes "large") limit.1).1).0,
     (flag_at (codes "waited") (flag_at (codes "large") limit.1).1).1,
   )
 

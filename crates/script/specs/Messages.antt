@@ -16,7 +16,8 @@ header_encoding h body =
 
 -- the bits without a meaning
 unfoldable pub further_at : List (List ℕ) → Reading (ℕ × List (List ℕ))
-further_at words = elim (label_at (codes "bits") words) [ None ↦ Ok (0, words) | Some rest ↦ bounded_at expected.Number Hexadecimal 0x8000 rest ]
+further_at words = elim (label_at (codes "bits") words)
+    [ None ↦ Ok (0, words) | Some rest ↦ bounded_at expected.Number Hexadecimal 0x8000 rest ]
 
 unfoldable pub local_at : List (List ℕ) → Reading (ℕ × ℕ × List (List ℕ))
 local_at words = elim (label_at (codes "local") words) [

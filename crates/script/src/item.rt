@@ -23,11 +23,11 @@ fn read_numbers(alloc: Global, text: &[u8]) -> Result<(Vec<u32>, &[u8]), Fault>
 {
     let mut numbers = Vec::new(alloc);
     let mut rest = text;
-    while let Some((number, behind)) = take_number(Kind::Hexadecimal, rest) {
+    while let Some((number, beyond)) = take_number(Kind::Hexadecimal, rest) {
         if numbers.push(number).is_err() {
             return Err(Fault::NoMemory);
         }
-        rest = behind;
+        rest = beyond;
     }
     Ok((numbers, rest))
 }
@@ -37,9 +37,9 @@ fn push_words(out: &mut Vec<u8>, numbers: &[u32]) -> Result<(), AllocError>
     ensures { OnOk result (out.new.items ≡ out.old.items ++ flat_map word numbers.now) }
 {
     let mut rest = numbers;
-    while let Some((number, behind)) = rest.split_first() {
+    while let Some((number, beyond)) = rest.split_first() {
         push_word(out, *number)?;
-        rest = behind;
+        rest = beyond;
     }
     Ok(())
 }
@@ -118,11 +118,12 @@ fn read_item(alloc: Global, text: &[u8]) -> Result<(Vec<u8>, &[u8]), Fault>
 
 /// A body that begins with these bytes, completed by the rest in front of the text, and the text after that.
 fn read_rest(alloc: Global, mut body: Vec<u8>, text: &[u8]) -> Result<(Vec<u8>, &[u8]), Fault>
-    ensures { Gives (λ r. (r.0.items, words_of r.1.now)) result (after_bytes body.items (optional_bytes_at (codes "data") (words_of text.now))) }
+    ensures { Gives (λ r. (r.0.items, words_of r.1.now)) result
+        (after_bytes body.items (optional_bytes_at (codes "data") (words_of text.now))) }
 {
-    let (rest, behind) = read_optional_bytes(alloc, b"data", text)?;
+    let (rest, beyond) = read_optional_bytes(alloc, b"data", text)?;
     match body.extend_from_slice(rest.as_slice()) {
-        Ok(()) => Ok((body, behind)),
+        Ok(()) => Ok((body, beyond)),
         Err(_) => Err(Fault::NoMemory),
     }
 }
@@ -135,14 +136,14 @@ pub(crate) fn read_body(alloc: Global, text: &[u8]) -> Result<(Vec<u8>, &[u8]), 
     let mut rest = text;
     let mut left = count_words(text);
     while left > 0 {
-        let Some(behind) = after_label(b"item", rest) else {
+        let Some(beyond) = after_label(b"item", rest) else {
             return read_rest(alloc, body, rest);
         };
-        let (item, behind) = read_item(alloc, behind)?;
+        let (item, beyond) = read_item(alloc, beyond)?;
         if body.extend_from_slice(item.as_slice()).is_err() {
             return Err(Fault::NoMemory);
         }
-        rest = behind;
+        rest = beyond;
         left -= 1;
     }
     read_rest(alloc, body, rest)

@@ -141,13 +141,13 @@ fn read_names(alloc: Global, text: &[u8]) -> Result<Sequence<NamedType>, Fault>
     let mut rest = text;
     loop {
         let found = read_named(rest)?;
-        let Some((named, behind)) = found else {
+        let Some((named, beyond)) = found else {
             return Ok(Sequence::new(names));
         };
         if names.push(named).is_err() {
             return Err(Fault::NoMemory);
         }
-        rest = behind;
+        rest = beyond;
     }
 }
 
@@ -159,13 +159,13 @@ fn read_members(alloc: Global, text: &[u8]) -> Result<Sequence<u32>, Fault>
     let mut rest = text;
     loop {
         let found = read_member(rest)?;
-        let Some((member, behind)) = found else {
+        let Some((member, beyond)) = found else {
             return Ok(Sequence::new(members));
         };
         if members.push(member).is_err() {
             return Err(Fault::NoMemory);
         }
-        rest = behind;
+        rest = beyond;
     }
 }
 

@@ -30,7 +30,7 @@ fn after_first(text: &[u8]) -> &[u8]
     ensures { result.now ≡ drop 1 text.now }
 {
     match text.split_first() {
-        Some((_, behind)) => behind,
+        Some((_, beyond)) => beyond,
         None => text,
     }
 }
@@ -78,9 +78,9 @@ pub fn read_script(alloc: Global, text: &[u8]) -> Result<Vec<Line>, ScriptFault>
     let mut number = 0;
     while !rest.is_empty() {
         number += 1;
-        let (line, behind) = first_line(rest);
+        let (line, beyond) = first_line(rest);
         match add_line(alloc, &mut lines, number, line) {
-            Ok(()) => rest = behind,
+            Ok(()) => rest = beyond,
             Err(fault) => {
                 return Err(ScriptFault {
                     line: number,

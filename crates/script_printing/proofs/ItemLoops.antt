@@ -7,19 +7,25 @@ use Rattle.script_printing.specs.Bytes.{optional_bytes}
 use Rattle.script_printing.specs.Items.{item_front, body_within, body_words, AddsItem}
 
 -- one more item is printed
-pub item_pushed : (old line body behind : List ℕ) (left : ℕ) (words : List (List ℕ))
-    → item_front body ≡ Some (words, behind) → 0 < left → line ≡ old ++ spaced words
-    → line ++ spaced (body_within (left - 1) behind) ≡ old ++ spaced (body_within left body)
+pub item_pushed : (old line body beyond : List ℕ) (left : ℕ) (words : List (List ℕ))
+    → item_front body ≡ Some (words, beyond) → 0 < left → line ≡ old ++ spaced words
+    → line ++ spaced (body_within (left - 1) beyond) ≡ old ++ spaced (body_within left body)
 unfolding body_within
-item_pushed old line body behind zero words is some pushed = absurd (omega arith)
-item_pushed old line body behind (suc n) words is some pushed =
+item_pushed old line body beyond zero words is some pushed = absurd (omega arith)
+item_pushed old line body beyond (suc n) words is some pushed =
     let e : suc n - 1 ≡ n = omega arith in
-    ap (λ (k : ℕ). line ++ spaced (body_within k behind)) e
-    ∙ ap (λ (l : List ℕ). l ++ spaced (body_within n behind)) pushed
-    ∙ spaced_more old words (body_within n behind)
-    ∙ ap (λ (front : Option (List (List ℕ) × List ℕ)). old ++ spaced (elim front as (λ _. List (List ℕ)) [ None ↦ optional_bytes (codes "data") body | Some i ↦ i.0 ++ body_within n i.1 ])) (sym is)
+    ap (λ (k : ℕ). line ++ spaced (body_within k beyond)) e
+    ∙ ap (λ (l : List ℕ). l ++ spaced (body_within n beyond)) pushed
+    ∙ spaced_more old words (body_within n beyond)
+    ∙ ap (λ (front : Option (List (List ℕ) × List ℕ)). old
+    ++ spaced (elim front as (λ _. List (List ℕ)) [
+      | None ↦ optional_bytes (codes "data") body
+      | Some i ↦ i.0
+          ++ body_within n i.1
+    ])) (sym is)
 
-pub no_item_left : (body : List ℕ) (left : ℕ) → item_front body ≡ None → body_within left body ≡ optional_bytes (codes "data") body
+pub no_item_left : (body : List ℕ) (left : ℕ) → item_front body ≡ None → body_within left body
+    ≡ optional_bytes (codes "data") body
 unfolding body_within
 no_item_left body zero none = refl
 no_item_left body (suc n) none = rw (none, body_within) refl
@@ -36,11 +42,11 @@ rest_pushed (Ok done) old line new words rest all is same pushed =
 rest_pushed (Err e) old line new words rest all is same pushed = tt
 
 -- what was added of an item
-pub added_some : (old new behind : List ℕ) (front : Option (List (List ℕ) × List ℕ))
-    → AddsItem old new (Some behind) front
-    → (words : List (List ℕ)) × (front ≡ Some (words, behind)) × (new ≡ old ++ spaced words)
-added_some old new behind (Some i) added = (i.0, ap (λ (b : List ℕ). Some (i.0, b)) (sym added.1), added.0)
-added_some old new behind None added = absurd added
+pub added_some : (old new beyond : List ℕ) (front : Option (List (List ℕ) × List ℕ))
+    → AddsItem old new (Some beyond) front
+    → (words : List (List ℕ)) × (front ≡ Some (words, beyond)) × (new ≡ old ++ spaced words)
+added_some old new beyond (Some i) added = (i.0, ap (λ (b : List ℕ). Some (i.0, b)) (sym added.1), added.0)
+added_some old new beyond None added = absurd added
 
 pub added_none : (old new : List ℕ) (front : Option (List (List ℕ) × List ℕ)) → AddsItem old new None front
     → (front ≡ None) × (new ≡ old)

@@ -50,7 +50,8 @@ disposition_word n = value_word Disposition n
 
 abbrev pub receive_words : ℕ → Bool → ℕ → Bool → List (List ℕ)
 receive_words limit large name waited =
-    (name_word name ∷ codes "limit" ∷ count_word limit ∷ []) ++ flag_words (codes "large") large ++ flag_words (codes "waited") waited
+    (name_word name ∷ codes "limit" ∷ count_word limit ∷ []) ++ flag_words (codes "large") large
+    ++ flag_words (codes "waited") waited
 
 -- the arguments of the calls that have two, the first of which is a name
 abbrev pub pair_words : Call → List (List ℕ)

@@ -16,7 +16,8 @@ abbrev pub element_kind : ℕ → Kind
 element_kind type_name = if is_port_type type_name then Hexadecimal else Decimal
 
 unfoldable pub words_item_words : ℕ → List ℕ → List (List ℕ)
-words_item_words type_name numbers = codes "item" ∷ value_word Element type_name ∷ map (value_word (element_kind type_name)) numbers
+words_item_words type_name numbers =
+    codes "item" ∷ value_word Element type_name ∷ map (value_word (element_kind type_name)) numbers
 
 unfoldable pub bytes_item_words : List ℕ → List (List ℕ)
 bytes_item_words bytes = codes "item" ∷ codes "bytes" ∷ bytes_word bytes ∷ []
@@ -34,8 +35,8 @@ unfoldable pub split_front : ℕ → List ℕ → Option (List ℕ × List ℕ)
 split_front n bytes = if nat_lt (length bytes) n then None else Some (take n bytes, drop n bytes)
 
 -- the number of elements that the word of a short inline descriptor gives
-abbrev pub number_told : ℕ → ℕ
-number_told w = (w / 0x1_0000) % 0x1000
+abbrev pub stated_number : ℕ → ℕ
+stated_number w = (w / 0x1_0000) % 0x1000
 
 -- the numbers in bytes, four in each
 abbrev pub numbers_in : List ℕ → List ℕ
@@ -45,16 +46,16 @@ numbers_in bytes = []
 -- an item of words: its type, their bytes, and the bytes after it
 unfoldable pub words_front : List ℕ → Option (ℕ × List ℕ × List ℕ)
 words_front body = word_front body >>? λ w.
-    if w.0 == descriptor (w.0 % 0x100) 32 (number_told w.0)
-    then (split_front (4 * number_told w.0) w.1 >>? λ c. Some (w.0 % 0x100, c.0, c.1))
+    if w.0 == descriptor (w.0 % 0x100) 32 (stated_number w.0)
+    then (split_front (4 * stated_number w.0) w.1 >>? λ c. Some (w.0 % 0x100, c.0, c.1))
     else None
 
 -- an item of bytes: its bytes, and the bytes after it
 unfoldable pub bytes_front : List ℕ → Option (List ℕ × List ℕ)
 bytes_front body = word_front body >>? λ w.
-    if w.0 == descriptor 9 8 (number_told w.0) then (
-    split_front (number_told w.0) w.1 >>? λ b. split_front
-    (length (zeros (number_told w.0))) b.1 >>? λ z. if bytes_eq z.0 (zeros (number_told w.0)) then Some (b.0, z.1)
+    if w.0 == descriptor 9 8 (stated_number w.0) then (
+    split_front (stated_number w.0) w.1 >>? λ b. split_front
+    (length (zeros (stated_number w.0))) b.1 >>? λ z. if bytes_eq z.0 (zeros (stated_number w.0)) then Some (b.0, z.1)
     else None
     ) else None
 
@@ -68,7 +69,8 @@ item_front body = elim (words_front body) [
 -- A body is written as the items at its front that have a form, at most this many, and then the rest as bytes.
 unfoldable pub body_within : ℕ → List ℕ → List (List ℕ)
 body_within zero body = optional_bytes (codes "data") body
-body_within (suc n) body = elim (item_front body) [ None ↦ optional_bytes (codes "data") body | Some i ↦ i.0 ++ body_within n i.1 ]
+body_within (suc n) body =
+    elim (item_front body) [ None ↦ optional_bytes (codes "data") body | Some i ↦ i.0 ++ body_within n i.1 ]
 
 -- each item has at least one byte, so there are no more items than bytes
 unfoldable pub body_words : List ℕ → List (List ℕ)
@@ -76,6 +78,6 @@ body_words body = body_within (length body) body
 
 -- The item at the front was added, and this follows it; or there is none.
 abbrev pub AddsItem : List ℕ → List ℕ → Option (List ℕ) → Option (List (List ℕ) × List ℕ) → Type 0
-AddsItem old new (Some behind) (Some i) = (new ≡ old ++ spaced i.0) × (behind ≡ i.1)
+AddsItem old new (Some beyond) (Some i) = (new ≡ old ++ spaced i.0) × (beyond ≡ i.1)
 AddsItem old new None None = new ≡ old
-AddsItem old new told front = ⊥
+AddsItem old new reported front = ⊥

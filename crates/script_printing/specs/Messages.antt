@@ -18,7 +18,9 @@ flag_words label holds = if holds then label ∷ [] else []
 
 -- the right to reply by, if the message says anything of it
 unfoldable pub local_words : ℕ → ℕ → List (List ℕ)
-local_words disposition name = if disposition == 0 && name == 0 then [] else codes "local" ∷ value_word Disposition disposition ∷ value_word Hexadecimal name ∷ []
+local_words disposition name =
+    if disposition == 0 && name == 0 then [] else codes "local" ∷ value_word Disposition disposition
+    ∷ value_word Hexadecimal name ∷ []
 
 -- the six words that a message begins with
 abbrev pub header_of : List ℕ → Header
@@ -36,7 +38,8 @@ header_words h =
     (value_word Disposition (h.bits % 0x100) ∷ value_word Hexadecimal h.remote ∷ [])
     ++ local_words (h.bits / 0x100 % 0x100) h.local
     ++ (codes "id" ∷ value_word Decimal h.id ∷ []) ++ flag_words (codes "complex") (nat_le 0x8000_0000 h.bits)
-    ++ optional_words (codes "bits") Hexadecimal (h.bits / 0x1_0000 % 0x8000) ++ optional_words (codes "size") Decimal h.size
+    ++ optional_words (codes "bits") Hexadecimal (h.bits / 0x1_0000 % 0x8000)
+    ++ optional_words (codes "size") Decimal h.size
     ++ optional_words (codes "seqno") Decimal h.seqno
 
 -- A message with a whole header is written as its fields, and a shorter one as its bytes.

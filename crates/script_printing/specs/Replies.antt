@@ -22,17 +22,20 @@ kind_word right.Send = codes "send"
 kind_word right.SendOnce = codes "send_once"
 
 abbrev pub place_words : ReceiveStatus → List (List ℕ)
-place_words s = codes "set" ∷ name_word s.set ∷ codes "seqno" ∷ count_word s.sequence_number ∷ codes "mscount" ∷ count_word s.make_send_count ∷ []
+place_words s = codes "set" ∷ name_word s.set ∷ codes "seqno" ∷ count_word s.sequence_number ∷ codes "mscount"
+    ∷ count_word s.make_send_count ∷ []
 
 abbrev pub queue_words : ReceiveStatus → List (List ℕ)
-queue_words s = codes "qlimit" ∷ count_word s.limit ∷ codes "messages" ∷ count_word s.messages ∷ codes "send_once" ∷ count_word s.send_once_count ∷ []
+queue_words s = codes "qlimit" ∷ count_word s.limit ∷ codes "messages" ∷ count_word s.messages ∷ codes "send_once"
+    ∷ count_word s.send_once_count ∷ []
 
 unfoldable pub count_words : ReceiveStatus → List (List ℕ)
 count_words s = place_words s ++ queue_words s
 
 abbrev pub answers_words : ReceiveStatus → List (List ℕ)
 answers_words s =
-    codes "senders" ∷ yes_or_no s.has_senders ∷ codes "port_destroyed" ∷ yes_or_no s.has_port_destroyed_request ∷ codes "no_senders" ∷ yes_or_no s.has_no_senders_request ∷ []
+    codes "senders" ∷ yes_or_no s.has_senders ∷ codes "port_destroyed" ∷ yes_or_no s.has_port_destroyed_request
+    ∷ codes "no_senders" ∷ yes_or_no s.has_no_senders_request ∷ []
 
 unfoldable pub status_words : ReceiveStatus → List (List ℕ)
 status_words s = count_words s ++ answers_words s

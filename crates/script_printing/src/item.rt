@@ -3,7 +3,7 @@ ghost use Rattle.std.specs.Option.{option_map};
 ghost use Rattle.script_words.specs.Items.{descriptor};
 ghost use Rattle.script_words.specs.Kinds.{value_word};
 ghost use Rattle.script_words.specs.Spaced.{spaced};
-ghost use Rattle.script_printing.specs.Items.{element_kind, words_item_words, bytes_item_words, word_front, split_front, number_told, numbers_in, words_front, bytes_front, item_front, body_words, AddsItem};
+ghost use Rattle.script_printing.specs.Items.{element_kind, words_item_words, bytes_item_words, word_front, split_front, stated_number, numbers_in, words_front, bytes_front, item_front, body_words, AddsItem};
 
 use crate::bytes::{push_bytes, push_optional_bytes};
 use byteorder::{ByteOrder, LittleEndian};
@@ -14,8 +14,8 @@ use std::alloc::AllocError;
 use words::take_word;
 
 /// The number of elements that a short descriptor gives.
-fn number_told(descriptor: u32) -> u32
-    ensures told { result ≡ number_told descriptor }
+fn stated_number(descriptor: u32) -> u32
+    ensures reported { result ≡ stated_number descriptor }
     ensures small { result < 0x1000 }
 {
     descriptor / 0x1_0000 % 0x1000
@@ -38,8 +38,8 @@ fn word_front(bytes: &[u8]) -> Option<(u32, &[u8])>
     if bytes.len() < 4 {
         return None;
     }
-    let (_, behind) = bytes.split_at(4);
-    Some((LittleEndian::read_u32(bytes), behind))
+    let (_, beyond) = bytes.split_at(4);
+    Some((LittleEndian::read_u32(bytes), beyond))
 }
 
 #[tactic(auto, unfolding(crate::specs::Items::split_front))]
@@ -60,14 +60,14 @@ fn words_front(body: &[u8]) -> Option<(u32, &[u8], &[u8])>
     ensures { MatchOption result (words_front body.now ≡ None)
         (λ r. words_front body.now ≡ Some (r.0, r.1.now, r.2.now)) }
 {
-    let (word, behind) = word_front(body)?;
+    let (word, beyond) = word_front(body)?;
     let type_name = word % 0x100;
-    let number = number_told(word);
+    let number = stated_number(word);
     if word != descriptor(type_name, WORD_BITS, number) {
         return None;
     }
-    let (content, behind) = split_front(behind, 4 * number as usize)?;
-    Some((type_name, content, behind))
+    let (content, beyond) = split_front(beyond, 4 * number as usize)?;
+    Some((type_name, content, beyond))
 }
 
 #[tactic(auto, unfolding(crate::specs::Items::bytes_front))]
@@ -75,16 +75,16 @@ fn words_front(body: &[u8]) -> Option<(u32, &[u8], &[u8])>
 fn bytes_front(body: &[u8]) -> Option<(&[u8], &[u8])>
     ensures { MatchOption result (bytes_front body.now ≡ None) (λ r. bytes_front body.now ≡ Some (r.0.now, r.1.now)) }
 {
-    let (word, behind) = word_front(body)?;
-    let number = number_told(word);
+    let (word, beyond) = word_front(body)?;
+    let number = stated_number(word);
     if word != descriptor(BYTE_TYPE, BYTE_BITS, number) {
         return None;
     }
-    let (bytes, behind) = split_front(behind, number as usize)?;
+    let (bytes, beyond) = split_front(beyond, number as usize)?;
     let zeros = zeros(number as usize);
-    let (tail, behind) = split_front(behind, zeros.len())?;
+    let (tail, beyond) = split_front(beyond, zeros.len())?;
     if tail == zeros {
-        Some((bytes, behind))
+        Some((bytes, beyond))
     } else {
         None
     }
@@ -96,9 +96,9 @@ fn push_numbers(line: &mut Vec<u8>, kind: Kind, bytes: &[u8]) -> Result<(), Allo
     ensures { OnOk result (line.new.items ≡ line.old.items ++ spaced (map (value_word kind) (numbers_in bytes.now))) }
 {
     let mut rest = bytes;
-    while let Some((number, behind)) = take_word(rest) {
+    while let Some((number, beyond)) = take_word(rest) {
         push_value(line, kind, number)?;
-        rest = behind;
+        rest = beyond;
     }
     Ok(())
 }
@@ -127,16 +127,17 @@ fn push_bytes_item(line: &mut Vec<u8>, bytes: &[u8]) -> Result<(), AllocError>
 #[tactic(auto, unfolding(crate::specs::Items::item_front))]
 /// Adds the item that a body begins with, if it has a written form, and returns the bytes after it.
 fn push_item<'a>(line: &mut Vec<u8>, body: &'a [u8]) -> Result<Option<&'a [u8]>, AllocError>
-    ensures { IfOk result (λ told. AddsItem line.old.items line.new.items (option_map (λ behind. behind.now) told)
+    ensures { IfOk result (λ reported. AddsItem line.old.items line.new.items
+        (option_map (λ beyond. beyond.now) reported)
         (item_front body.now)) }
 {
-    if let Some((type_name, bytes, behind)) = words_front(body) {
+    if let Some((type_name, bytes, beyond)) = words_front(body) {
         push_words_item(line, type_name, bytes)?;
-        return Ok(Some(behind));
+        return Ok(Some(beyond));
     }
-    if let Some((bytes, behind)) = bytes_front(body) {
+    if let Some((bytes, beyond)) = bytes_front(body) {
         push_bytes_item(line, bytes)?;
-        return Ok(Some(behind));
+        return Ok(Some(beyond));
     }
     Ok(None)
 }
@@ -148,10 +149,10 @@ pub(crate) fn push_body(line: &mut Vec<u8>, body: &[u8]) -> Result<(), AllocErro
     let mut rest = body;
     let mut left = body.len();
     while left > 0 {
-        let Some(behind) = push_item(line, rest)? else {
+        let Some(beyond) = push_item(line, rest)? else {
             return push_optional_bytes(line, b"data", rest);
         };
-        rest = behind;
+        rest = beyond;
         left -= 1;
     }
     push_optional_bytes(line, b"data", rest)

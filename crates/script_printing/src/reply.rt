@@ -80,13 +80,13 @@ fn push_names(line: &mut Vec<u8>, names: &[NamedType]) -> Result<(), AllocError>
     ensures { OnOk result (line.new.items ≡ line.old.items ++ spaced (names_words names.now)) }
 {
     let mut rest = names;
-    while let Some((named, behind)) = rest.split_first() {
+    while let Some((named, beyond)) = rest.split_first() {
         push_two(
             line,
             (Kind::Hexadecimal, named.name),
             (Kind::Hexadecimal, named.bits),
         )?;
-        rest = behind;
+        rest = beyond;
     }
     Ok(())
 }
@@ -97,9 +97,9 @@ fn push_members(line: &mut Vec<u8>, members: &[u32]) -> Result<(), AllocError>
     ensures { OnOk result (line.new.items ≡ line.old.items ++ spaced (members_words members.now)) }
 {
     let mut rest = members;
-    while let Some((member, behind)) = rest.split_first() {
+    while let Some((member, beyond)) = rest.split_first() {
         push_value(line, Kind::Hexadecimal, *member)?;
-        rest = behind;
+        rest = beyond;
     }
     Ok(())
 }

@@ -35,7 +35,10 @@ abbrev pub IsDirective : Directive → List ℕ → Type 0
 IsDirective directive.Nothing line = first_word line ≡ []
 IsDirective directive.Straight line = first_word line ≡ codes "straight"
 IsDirective directive.Connect line = first_word line ≡ codes "connect"
-IsDirective (directive.Slot length) line = (first_word line ≡ codes "slot") × (first_word (after_first line) ≡ codes "segment0")
-IsDirective (directive.Frame sent wanted) line = (first_word line ≡ codes "frame") × (after_first line ≡ sent.now ++ 61 ∷ wanted.now)
-IsDirective (directive.Repeat times asked) line = (first_word line ≡ codes "repeat") × (after_first (after_first line) ≡ asked.now)
+IsDirective (directive.Slot length) line =
+    (first_word line ≡ codes "slot") × (first_word (after_first line) ≡ codes "segment0")
+IsDirective (directive.Frame sent wanted) line =
+    (first_word line ≡ codes "frame") × (after_first line ≡ sent.now ++ 61 ∷ wanted.now)
+IsDirective (directive.Repeat times asked) line =
+    (first_word line ≡ codes "repeat") × (after_first (after_first line) ≡ asked.now)
 IsDirective directive.Call line = Unit {0}

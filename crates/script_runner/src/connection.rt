@@ -78,8 +78,8 @@ fn attach_frame(space: u32) -> [u8; 12] {
 fn attached_by(frame: &[u8]) -> Option<u32> {
     let (_, content) = take_word(frame)?;
     let (number, arguments) = take_word(content)?;
-    let (space, behind) = take_word(arguments)?;
-    if number == ATTACH && behind.is_empty() {
+    let (space, beyond) = take_word(arguments)?;
+    if number == ATTACH && beyond.is_empty() {
         Some(space)
     } else {
         None

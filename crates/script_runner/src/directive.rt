@@ -99,7 +99,7 @@ fn sides(text: &[u8]) -> Option<(&[u8], &[u8])>
     let count = text.iter().take_while(|byte| **byte != b'=').count();
     let (front, rest) = text.split_at(count);
     match rest {
-        [b'=', behind @ ..] => Some((front, behind)),
+        [b'=', beyond @ ..] => Some((front, beyond)),
         _ => None,
     }
 }

@@ -30,9 +30,9 @@ fn run_read(rt: &HostRuntime, name: &str, text: &[u8], script: &Script) -> io::R
             Ok(true)
         }
         Err(failure) => {
-            let told = tell_failure(rt, name, text, script, &failure);
+            let reported = tell_failure(rt, name, text, script, &failure);
             drop(failure);
-            told?;
+            reported?;
             Ok(false)
         }
     }

@@ -194,7 +194,8 @@ words_fit (c ∷ cs) =
           (cond b [] (cond (begins_word cs) (in_front c (words_of cs)) ((c ∷ []) ∷ words_of cs))) ≤ suc (length cs)) [
             | true ↦ omega arith
             | false ↦ elim (begins_word cs)
-                as (λ (b : Bool). length (cond b (in_front c (words_of cs)) ((c ∷ []) ∷ words_of cs)) ≤ suc (length cs)) [
+                as (λ (b : Bool). length (cond b (in_front c (words_of cs)) ((c ∷ []) ∷ words_of cs)) ≤ suc
+                (length cs)) [
                   | true ↦ in_front_fits c (words_of cs) (length cs) (words_fit cs)
                   | false ↦ omega (arith, words_fit cs)
                 ]

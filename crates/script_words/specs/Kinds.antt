@@ -9,16 +9,22 @@ use Rattle.script_words.specs.Numbers.{hexadecimal, signed, number_of_word}
 -- the word that stands for a number, if there is one
 abbrev pub name_of : Kind → ℕ → Option (List ℕ)
 name_of kind.Right n =
-    if n == 0 then Some (codes "send") else if n == 1 then Some (codes "receive") else if n == 2 then Some (codes "send_once")
+    if n == 0 then Some (codes "send") else if n == 1 then Some (codes "receive") else if n == 2 then Some
+    (codes "send_once")
     else if n == 3 then Some (codes "port_set") else if n == 4 then Some (codes "dead_name") else None
 name_of kind.Disposition n =
-    if n == 16 then Some (codes "move_receive") else if n == 17 then Some (codes "move_send") else if n == 18 then Some (codes "move_send_once")
-    else if n == 19 then Some (codes "copy_send") else if n == 20 then Some (codes "make_send") else if n == 21 then Some (codes "make_send_once") else None
+    if n == 16 then Some (codes "move_receive") else if n == 17 then Some
+    (codes "move_send") else if n == 18 then Some (codes "move_send_once")
+    else if n == 19 then Some (codes "copy_send") else if n == 20 then Some
+    (codes "make_send") else if n == 21 then Some (codes "make_send_once") else None
 name_of kind.Notification n =
-    if n == 69 then Some (codes "port_destroyed") else if n == 70 then Some (codes "no_senders") else if n == 72 then Some (codes "dead_name") else None
+    if n == 69 then Some (codes "port_destroyed") else if n == 70 then Some
+    (codes "no_senders") else if n == 72 then Some (codes "dead_name") else None
 name_of kind.Element n =
-    if n == 2 then Some (codes "words") else if n == 16 then Some (codes "move_receive") else if n == 17 then Some (codes "move_send")
-    else if n == 18 then Some (codes "move_send_once") else if n == 19 then Some (codes "copy_send") else if n == 20 then Some (codes "make_send")
+    if n == 2 then Some (codes "words") else if n == 16 then Some (codes "move_receive") else if n == 17 then Some
+    (codes "move_send")
+    else if n == 18 then Some (codes "move_send_once") else if n == 19 then Some
+    (codes "copy_send") else if n == 20 then Some (codes "make_send")
     else if n == 21 then Some (codes "make_send_once") else None
 name_of k n = None
 

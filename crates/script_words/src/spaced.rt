@@ -48,9 +48,9 @@ pub fn count_words(text: &[u8]) -> usize
 {
     let mut count = 0;
     let mut rest = text;
-    while let Some((_, behind)) = take_word(rest) {
+    while let Some((_, beyond)) = take_word(rest) {
         count += 1;
-        rest = behind;
+        rest = beyond;
     }
     count
 }
@@ -61,8 +61,8 @@ fn word_end(text: &[u8]) -> usize
     ensures within { result ≤ length text.now }
 {
     let spaces = count_spaces(text);
-    let (_, behind) = text.split_at(spaces);
-    spaces + count_word_bytes(behind)
+    let (_, beyond) = text.split_at(spaces);
+    spaces + count_word_bytes(beyond)
 }
 
 /// How many bytes of a line come before what follows the first `words` words, including its spaces.
@@ -74,9 +74,9 @@ pub fn column_of(line: &[u8], words: usize) -> usize
     let mut left = words;
     while left > 0 {
         let end = word_end(rest);
-        let (_, behind) = rest.split_at(end);
+        let (_, beyond) = rest.split_at(end);
         column += end;
-        rest = behind;
+        rest = beyond;
         left -= 1;
     }
     column + count_spaces(rest)

@@ -13,12 +13,12 @@ use Rattle.ipc_model.specs.messages.Messages.{UsedParts}
 use Rattle.ipc_model.specs.messages.Sending.{TakenHeader, TakenRights, Ready, ready_message, is_full, tests_of_queue, take_items}
 use Rattle.ipc_model.specs.state.Placed.{same_kind}
 use Rattle.ipc_model.specs.state.State.{State}
-use Rattle.sending.specs.Gave.{Gave}
+use Rattle.sending.specs.Agrees.{Agrees}
 use Rattle.sending.specs.Sends.{ReadyIs}
 use Rattle.sending.specs.SoFar.{so_far}
 use Rattle.sending.specs.declared.fault.SendFault.{SendFault}
 use Rattle.sending.specs.declared.header.HeaderRights.{HeaderRights}
-use Rattle.sending.proofs.Steps.{gave_then, gave_failed}
+use Rattle.sending.proofs.Steps.{agrees_then, agrees_failed}
 
 -- what was taken of a header
 abbrev pub HeaderIs : State → List Effect → List Effect → TakenHeader → HeaderRights → Type 0
@@ -85,32 +85,34 @@ module _ (space : ℕ) (parts : UsedParts) (items : List Item) (found : HeaderRi
   }
 
   by_test : (b : Bool) (m message : Message) (ready : Ready) → ready.message ≡ m
-      → Gave (unless_failing ((b, SendTimedOut) ∷ []) (Ok m)) (λ x y. y ≡ x) (sent_one message)
+      → Agrees (unless_failing ((b, SendTimedOut) ∷ []) (Ok m)) (λ x y. y ≡ x) (sent_one message)
       → ready.port ≡ found.port → new ≡ ready.state → after ≡ waiting ++ ready.notices
-      → Gave (unless_failing ((b, SendTimedOut) ∷ []) (Ok ready)) (ReadyIs new waiting after) (Ok (message, found.port))
+      → Agrees (unless_failing ((b, SendTimedOut) ∷ []) (Ok ready)) (ReadyIs new waiting after)
+      (Ok (message, found.port))
   by_test true m message ready is made_is port state notices = absurd made_is
   by_test false m message ready is made_is port state notices = (made_is ∙ sym is, sym port, state, notices)
 
   by_test_failed : (b : Bool) (m : Message) (ready : Ready) (fault : SendFault)
-      → Gave (unless_failing ((b, SendTimedOut) ∷ []) (Ok m)) (λ (x y : Message). y ≡ x) (Err fault)
-      → Gave (unless_failing ((b, SendTimedOut) ∷ []) (Ok ready)) (ReadyIs new waiting after) (Err fault)
+      → Agrees (unless_failing ((b, SendTimedOut) ∷ []) (Ok m)) (λ (x y : Message). y ≡ x) (Err fault)
+      → Agrees (unless_failing ((b, SendTimedOut) ∷ []) (Ok ready)) (ReadyIs new waiting after) (Err fault)
   by_test_failed true m ready fault is = is
   by_test_failed false m ready fault is = is
 
   pub all_taken : {Y : Type 0} (list : Y → List CarriedRight) (header : Result TakenHeader KernReturn) (rights : Y)
-      (message : Message) → Gave header (HeaderIs mid waiting between) (Ok found)
-      → Gave (or_refused SendInvalidRight (take_items space items (so_far [] mid [])))
+      (message : Message) → Agrees header (HeaderIs mid waiting between) (Ok found)
+      → Agrees (or_refused SendInvalidRight (take_items space items (so_far [] mid [])))
       (RightsAre list new between after) (Ok rights)
-      → Gave (made parts items found new (list rights)) (λ x y. y ≡ x) (Ok message)
-      → Gave (and_then header (next_rights space parts items)) (ReadyIs new waiting after) (Ok (message, found.port))
+      → Agrees (made parts items found new (list rights)) (λ x y. y ≡ x) (Ok message)
+      → Agrees (and_then header (next_rights space parts items)) (ReadyIs new waiting after) (Ok (message, found.port))
   all_taken list header rights message first second third =
-      gave_then header (next_rights space parts items) (HeaderIs mid waiting between) (ReadyIs new waiting after) found
+      agrees_then header (next_rights space parts items) (HeaderIs mid waiting between)
+      (ReadyIs new waiting after) found
       (Ok (message, found.port)) first (λ head is.
-      gave_then (or_refused SendInvalidRight (take_items space items (so_far [] head.state []))) _
+      agrees_then (or_refused SendInvalidRight (take_items space items (so_far [] head.state []))) _
       (RightsAre list new between after) (ReadyIs new waiting after) rights (Ok (message, found.port))
-      (subst (λ (s : State). Gave (or_refused SendInvalidRight (take_items space items (so_far [] s [])))
+      (subst (λ (s : State). Agrees (or_refused SendInvalidRight (take_items space items (so_far [] s [])))
       (RightsAre list new between after) (Ok rights)) is.1 second) (λ taken are.
-      subst (λ (ready : Ready). Gave (unless_failing (tests_of_queue ready) (Ok ready)) (ReadyIs new waiting after)
+      subst (λ (ready : Ready). Agrees (unless_failing (tests_of_queue ready) (Ok ready)) (ReadyIs new waiting after)
       (Ok (message, found.port)))
       (sym (ready_is head taken (list rights) is are.0 are.1))
       (by_test (is_full new found.port && not (same_kind found.kind kind.SendOnce))
@@ -124,19 +126,20 @@ module _ (space : ℕ) (parts : UsedParts) (items : List Item) (found : HeaderRi
       (are.2 ∙ ap (λ (l : List Effect). l ++ taken.notices) is.2 ∙ append_assoc waiting head.notices taken.notices))))
 
   pub third_failed : {Y : Type 0} (list : Y → List CarriedRight) (header : Result TakenHeader KernReturn) (rights : Y)
-      (fault : SendFault) → Gave header (HeaderIs mid waiting between) (Ok found)
-      → Gave (or_refused SendInvalidRight (take_items space items (so_far [] mid [])))
+      (fault : SendFault) → Agrees header (HeaderIs mid waiting between) (Ok found)
+      → Agrees (or_refused SendInvalidRight (take_items space items (so_far [] mid [])))
       (RightsAre list new between after) (Ok rights)
-      → Gave (made parts items found new (list rights)) (λ (x y : Message). y ≡ x) (Err fault)
-      → Gave (and_then header (next_rights space parts items)) (ReadyIs new waiting after) (Err fault)
+      → Agrees (made parts items found new (list rights)) (λ (x y : Message). y ≡ x) (Err fault)
+      → Agrees (and_then header (next_rights space parts items)) (ReadyIs new waiting after) (Err fault)
   third_failed list header rights fault first second third =
-      gave_then header (next_rights space parts items) (HeaderIs mid waiting between) (ReadyIs new waiting after) found
+      agrees_then header (next_rights space parts items) (HeaderIs mid waiting between)
+      (ReadyIs new waiting after) found
       (Err fault) first (λ head is.
-      gave_then (or_refused SendInvalidRight (take_items space items (so_far [] head.state []))) _
+      agrees_then (or_refused SendInvalidRight (take_items space items (so_far [] head.state []))) _
       (RightsAre list new between after) (ReadyIs new waiting after) rights (Err fault)
-      (subst (λ (s : State). Gave (or_refused SendInvalidRight (take_items space items (so_far [] s [])))
+      (subst (λ (s : State). Agrees (or_refused SendInvalidRight (take_items space items (so_far [] s [])))
       (RightsAre list new between after) (Ok rights)) is.1 second) (λ taken are.
-      subst (λ (ready : Ready). Gave (unless_failing (tests_of_queue ready) (Ok ready)) (ReadyIs new waiting after)
+      subst (λ (ready : Ready). Agrees (unless_failing (tests_of_queue ready) (Ok ready)) (ReadyIs new waiting after)
       (Err fault))
       (sym (ready_is head taken (list rights) is are.0 are.1))
       (by_test_failed (is_full new found.port && not (same_kind found.kind kind.SendOnce))
@@ -149,14 +152,15 @@ module _ (space : ℕ) (parts : UsedParts) (items : List Item) (found : HeaderRi
       }) fault third)))
 
   pub second_failed : {Y : Type 0} (list : Y → List CarriedRight) (header : Result TakenHeader KernReturn)
-      (fault : SendFault) → Gave header (HeaderIs mid waiting between) (Ok found)
-      → Gave (or_refused SendInvalidRight (take_items space items (so_far [] mid [])))
+      (fault : SendFault) → Agrees header (HeaderIs mid waiting between) (Ok found)
+      → Agrees (or_refused SendInvalidRight (take_items space items (so_far [] mid [])))
       (RightsAre list new between after) (Err fault)
-      → Gave (and_then header (next_rights space parts items)) (ReadyIs new waiting after) (Err fault)
+      → Agrees (and_then header (next_rights space parts items)) (ReadyIs new waiting after) (Err fault)
   second_failed list header fault first second =
-      gave_then header (next_rights space parts items) (HeaderIs mid waiting between) (ReadyIs new waiting after) found
+      agrees_then header (next_rights space parts items) (HeaderIs mid waiting between)
+      (ReadyIs new waiting after) found
       (Err fault) first (λ head is.
-      gave_failed (or_refused SendInvalidRight (take_items space items (so_far [] head.state []))) _
+      agrees_failed (or_refused SendInvalidRight (take_items space items (so_far [] head.state []))) _
       (RightsAre list new between after) (ReadyIs new waiting after) fault
-      (subst (λ (s : State). Gave (or_refused SendInvalidRight (take_items space items (so_far [] s [])))
+      (subst (λ (s : State). Agrees (or_refused SendInvalidRight (take_items space items (so_far [] s [])))
       (RightsAre list new between after) (Err fault)) is.1 second))

@@ -7,12 +7,12 @@ use Rattle.ipc_model.specs.rights.CopyIn.{Taken, copy_in}
 use Rattle.ipc_model.specs.rights.Dispositions.{Disposition, disposition_of, received_kind}
 use Rattle.ipc_model.specs.state.State.{is_null_or_dead}
 
-abbrev pub behind : List Effect → TakenRights → TakenRights
-behind waiting taken = record taken { notices = waiting ++ taken.notices }
+abbrev pub beyond : List Effect → TakenRights → TakenRights
+beyond waiting taken = record taken { notices = waiting ++ taken.notices }
 
 one : (space name : ℕ) (disposition : Disposition) (waiting : List Effect) (taken : TakenRights)
-    → take_right space name disposition (behind waiting taken)
-    ≡ option_map (behind waiting) (take_right space name disposition taken)
+    → take_right space name disposition (beyond waiting taken)
+    ≡ option_map (beyond waiting) (take_right space name disposition taken)
 one space name disposition waiting taken = by_name (is_null_or_dead name)
   where
     by_copy : (o : Option Taken)
@@ -22,7 +22,7 @@ one space name disposition waiting taken = by_name (is_null_or_dead name)
           state = next.state;
           notices = (waiting ++ taken.notices) ++ next.notices;
         }) o
-        ≡ option_map (behind waiting) (option_map
+        ≡ option_map (beyond waiting) (option_map
         (λ (next : Taken). record {
           rights = taken.rights ++ next.right ∷ [];
           state = next.state;
@@ -45,7 +45,7 @@ one space name disposition waiting taken = by_name (is_null_or_dead name)
           state = next.state;
           notices = (waiting ++ taken.notices) ++ next.notices;
         }) (copy_in taken.state space name disposition))
-        ≡ option_map (behind waiting)
+        ≡ option_map (beyond waiting)
         (if b then Some (record taken {
           rights = taken.rights
               ++ (record { kind = received_kind disposition; port = passed name }) ∷ [];
@@ -63,15 +63,15 @@ abbrev go_on : (TakenRights → Option TakenRights) → Option TakenRights → O
 go_on next o = elim o as (λ _. Option TakenRights) [ None ↦ None | Some taken ↦ next taken ]
 
 after : (next : TakenRights → Option TakenRights) (waiting : List Effect)
-    → ((taken : TakenRights) → next (behind waiting taken) ≡ option_map (behind waiting) (next taken))
+    → ((taken : TakenRights) → next (beyond waiting taken) ≡ option_map (beyond waiting) (next taken))
     → (o : Option TakenRights)
-    → go_on next (option_map (behind waiting) o) ≡ option_map (behind waiting) (go_on next o)
+    → go_on next (option_map (beyond waiting) o) ≡ option_map (beyond waiting) (go_on next o)
 after next waiting same None = refl
 after next waiting same (Some taken) = same taken
 
 all : (space : ℕ) (disposition : Disposition) (names : List ℕ) (waiting : List Effect) (taken : TakenRights)
-    → take_rights space disposition names (behind waiting taken)
-    ≡ option_map (behind waiting) (take_rights space disposition names taken)
+    → take_rights space disposition names (beyond waiting taken)
+    ≡ option_map (beyond waiting) (take_rights space disposition names taken)
 all space disposition [] waiting taken = refl
 all space disposition (name ∷ names) waiting taken =
     ap (go_on (take_rights space disposition names)) (one space name disposition waiting taken)
@@ -79,12 +79,12 @@ all space disposition (name ∷ names) waiting taken =
     (take_right space name disposition taken)
 
 in_item : (space : ℕ) (item : Item) (by : Option Disposition) (waiting : List Effect) (taken : TakenRights)
-    → take_item space item by (behind waiting taken) ≡ option_map (behind waiting) (take_item space item by taken)
+    → take_item space item by (beyond waiting taken) ≡ option_map (beyond waiting) (take_item space item by taken)
 in_item space item None waiting taken = refl
 in_item space item (Some disposition) waiting taken = all space disposition (names_of_item item) waiting taken
 
 pub in_items : (space : ℕ) (items : List Item) (waiting : List Effect) (taken : TakenRights)
-    → take_items space items (behind waiting taken) ≡ option_map (behind waiting) (take_items space items taken)
+    → take_items space items (beyond waiting taken) ≡ option_map (beyond waiting) (take_items space items taken)
 in_items space [] waiting taken = refl
 in_items space (item ∷ items) waiting taken =
     ap (go_on (take_items space items)) (in_item space item (disposition_of item.type_name) waiting taken)

@@ -8,7 +8,7 @@ use Rattle.ipc_model.specs.rights.CopyIn.{Taken}
 use Rattle.ipc_model.specs.state.State.{State}
 use Rattle.ipc_laws.specs.ListLaws.{some_same}
 use Rattle.rights.specs.Taking.{Takes}
-use Rattle.sending.specs.Gave.{Gave}
+use Rattle.sending.specs.Agrees.{Agrees}
 use Rattle.sending.specs.declared.fault.SendFault.{SendFault}
 use Rattle.sending.specs.declared.fault.SendFault.TheVariants.{Refused}
 
@@ -18,7 +18,7 @@ outcome_of code (Some right) = Ok right
 
 pub taken_gave : (o : Option Taken) (code : KernReturn) (old new : State) (waiting after : List Effect)
     (found : Option CarriedRight) → Takes o old waiting found new after
-    → Gave (or_refused code o) (λ taken right. (right ≡ taken.right) × (new ≡ taken.state)
+    → Agrees (or_refused code o) (λ taken right. (right ≡ taken.right) × (new ≡ taken.state)
     × (after ≡ waiting ++ taken.notices)) (outcome_of code found)
 taken_gave None code old new waiting after None takes = refl
 taken_gave None code old new waiting after (Some right) takes = absurd (cc takes.0)

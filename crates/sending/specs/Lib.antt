@@ -1,3 +1,3 @@
-pub mod Gave
+pub mod Agrees
 pub mod Sends
 pub mod SoFar

@@ -2,7 +2,7 @@
 ghost use Rattle.std.specs.Prelude.{◌≡◌, ◌++◌, Some, true, false};
 ghost use Rattle.ipc_model.specs.messages.Sending as sending;
 ghost use Rattle.ipc_model.specs.state.State.{is_null_or_dead};
-ghost use Rattle.sending.specs.Gave.{Gave};
+ghost use Rattle.sending.specs.Agrees.{Agrees};
 
 use crate::SendFault;
 use crate::take::{live_port, passed, received_kind, take};
@@ -37,7 +37,7 @@ fn take_destination(
     disposition: Disposition,
     effects: &mut Effects,
 ) -> Result<(RightKind, u64), SendFault>
-    ensures taken { Gave (sending.take_destination state.old.current space name disposition)
+    ensures taken { Agrees (sending.take_destination state.old.current space name disposition)
         (λ destination found. (found.0 ≡ destination.taken.right.kind) × (found.1 ≡ destination.port)
         × (state.new.current ≡ destination.taken.state)
         × (effects.new ≡ effects.old ++ destination.taken.notices)) result }
@@ -63,7 +63,7 @@ fn take_reply(
     disposition: Option<Disposition>,
     effects: &mut Effects,
 ) -> Result<Option<CarriedRight>, SendFault>
-    ensures taken { Gave (sending.take_reply state.old.current space name disposition)
+    ensures taken { Agrees (sending.take_reply state.old.current space name disposition)
         (λ taken found. (found ≡ taken.reply) × (state.new.current ≡ taken.state)
         × (effects.new ≡ effects.old ++ taken.notices)) result }
     ensures before { state.new.before ≡ state.old.before }
@@ -87,7 +87,7 @@ fn take_named_reply(
     effects: &mut Effects,
 ) -> Result<Option<CarriedRight>, SendFault>
     requires { is_null_or_dead name ≡ false }
-    ensures taken { Gave (sending.take_reply state.old.current space name (Some disposition))
+    ensures taken { Agrees (sending.take_reply state.old.current space name (Some disposition))
         (λ taken found. (found ≡ taken.reply) × (state.new.current ≡ taken.state)
         × (effects.new ≡ effects.old ++ taken.notices)) result }
     ensures before { state.new.before ≡ state.old.before }
@@ -130,7 +130,7 @@ pub(crate) fn take_header(
     named: Named,
     effects: &mut Effects,
 ) -> Result<HeaderRights, SendFault>
-    ensures taken { Gave (sending.take_header state.old.current space named.remote named.destination named.local
+    ensures taken { Agrees (sending.take_header state.old.current space named.remote named.destination named.local
         named.reply)
         (λ header found. (found ≡ record { kind = header.kind; port = header.port; reply = header.reply })
         × (state.new.current ≡ header.state) × (effects.new ≡ effects.old ++ header.notices)) result }
@@ -150,7 +150,7 @@ fn take_reply_first(
     effects: &mut Effects,
 ) -> Result<HeaderRights, SendFault>
     requires { sending.reply_goes_first named.destination named.reply ≡ true }
-    ensures taken { Gave (sending.take_header state.old.current space named.remote named.destination named.local
+    ensures taken { Agrees (sending.take_header state.old.current space named.remote named.destination named.local
         named.reply)
         (λ header found. (found ≡ record { kind = header.kind; port = header.port; reply = header.reply })
         × (state.new.current ≡ header.state) × (effects.new ≡ effects.old ++ header.notices)) result }
@@ -168,7 +168,7 @@ fn take_destination_first(
     effects: &mut Effects,
 ) -> Result<HeaderRights, SendFault>
     requires { sending.reply_goes_first named.destination named.reply ≡ false }
-    ensures taken { Gave (sending.take_header state.old.current space named.remote named.destination named.local
+    ensures taken { Agrees (sending.take_header state.old.current space named.remote named.destination named.local
         named.reply)
         (λ header found. (found ≡ record { kind = header.kind; port = header.port; reply = header.reply })
         × (state.new.current ≡ header.state) × (effects.new ≡ effects.old ++ header.notices)) result }

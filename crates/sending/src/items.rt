@@ -5,7 +5,7 @@ ghost use Rattle.ipc_model.specs.messages.Items.{names_of_item};
 ghost use Rattle.ipc_model.specs.messages.Sending as sending;
 ghost use Rattle.ipc_model.specs.rights.Dispositions.{disposition_of};
 ghost use Rattle.ipc_model.specs.state.State.{is_null_or_dead};
-ghost use Rattle.sending.specs.Gave.{Gave};
+ghost use Rattle.sending.specs.Agrees.{Agrees};
 ghost use Rattle.sending.specs.SoFar.{so_far};
 ghost use Rattle.type_desc.specs.Values.{item_value};
 
@@ -27,7 +27,7 @@ fn take_one(
     rights: &mut Vec<CarriedRight>,
     effects: &mut Effects,
 ) -> Result<(), SendFault>
-    ensures taken { Gave (or_refused KernReturn.SendInvalidRight
+    ensures taken { Agrees (or_refused KernReturn.SendInvalidRight
         (sending.take_right space name disposition (so_far rights.old.items state.old.current effects.old)))
         (λ taken _. so_far rights.new.items state.new.current effects.new ≡ taken) result }
     ensures before { state.new.before ≡ state.old.before }
@@ -51,7 +51,7 @@ fn take_named(
     effects: &mut Effects,
 ) -> Result<(), SendFault>
     requires { is_null_or_dead name ≡ false }
-    ensures taken { Gave (or_refused KernReturn.SendInvalidRight
+    ensures taken { Agrees (or_refused KernReturn.SendInvalidRight
         (sending.take_right space name disposition (so_far rights.old.items state.old.current effects.old)))
         (λ taken _. so_far rights.new.items state.new.current effects.new ≡ taken) result }
     ensures before { state.new.before ≡ state.old.before }
@@ -78,7 +78,7 @@ fn take_names(
     rights: &mut Vec<CarriedRight>,
     effects: &mut Effects,
 ) -> Result<(), SendFault>
-    ensures taken { Gave (or_refused KernReturn.SendInvalidRight
+    ensures taken { Agrees (or_refused KernReturn.SendInvalidRight
         (sending.take_rights space disposition (names_of_item (item_value item.now))
         (so_far rights.old.items state.old.current effects.old)))
         (λ taken _. so_far rights.new.items state.new.current effects.new ≡ taken) result }
@@ -98,7 +98,7 @@ fn take_item(
     rights: &mut Vec<CarriedRight>,
     effects: &mut Effects,
 ) -> Result<(), SendFault>
-    ensures taken { Gave (or_refused KernReturn.SendInvalidRight
+    ensures taken { Agrees (or_refused KernReturn.SendInvalidRight
         (sending.take_item space (item_value item.now) (disposition_of item.now.type_name)
         (so_far rights.old.items state.old.current effects.old)))
         (λ taken _. so_far rights.new.items state.new.current effects.new ≡ taken) result }
@@ -118,7 +118,7 @@ fn take_items(
     rights: &mut Vec<CarriedRight>,
     effects: &mut Effects,
 ) -> Result<(), SendFault>
-    ensures taken { Gave (or_refused KernReturn.SendInvalidRight
+    ensures taken { Agrees (or_refused KernReturn.SendInvalidRight
         (sending.take_items space (map item_value items.now) (so_far rights.old.items state.old.current effects.old)))
         (λ taken _. so_far rights.new.items state.new.current effects.new ≡ taken) result }
     ensures before { state.new.before ≡ state.old.before }
@@ -146,7 +146,7 @@ pub(crate) fn take_body(
     items: &[Item<'_>],
     effects: &mut Effects,
 ) -> Result<Vec<CarriedRight>, SendFault>
-    ensures taken { Gave (or_refused KernReturn.SendInvalidRight
+    ensures taken { Agrees (or_refused KernReturn.SendInvalidRight
         (sending.take_items space (map item_value items.now) (so_far [] state.old.current [])))
         (λ taken rights. (rights.items ≡ taken.rights) × (state.new.current ≡ taken.state)
         × (effects.new ≡ effects.old ++ taken.notices)) result }

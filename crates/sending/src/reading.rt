@@ -4,7 +4,7 @@ ghost use Rattle.ipc_model.specs.calls.Tests.{or_refused, unless_failing};
 ghost use Rattle.ipc_model.specs.messages.Messages.{used_parts};
 ghost use Rattle.ipc_model.specs.messages.Sending as sending;
 ghost use Rattle.msg_header.specs.Headers.{parts_by};
-ghost use Rattle.sending.specs.Gave.{Gave};
+ghost use Rattle.sending.specs.Agrees.{Agrees};
 ghost use Rattle.type_desc.specs.Values.{item_value};
 
 use crate::SendFault;
@@ -15,7 +15,7 @@ use type_desc::{Item, ItemFault, items};
 
 /// The header and the body of a message whose size is one that messages may have.
 pub(crate) fn read_message(message: &[u8]) -> Result<(Header, &[u8]), SendFault>
-    ensures { Gave (unless_failing (sending.tests_of_size (length message.now)) (Ok (used_parts message.now)))
+    ensures { Agrees (unless_failing (sending.tests_of_size (length message.now)) (Ok (used_parts message.now)))
         (λ parts found. parts ≡ parts_by found.0 found.1.now) result }
 {
     let Ok(header) = parse(message) else {
@@ -33,7 +33,7 @@ pub(crate) fn read_message(message: &[u8]) -> Result<(Header, &[u8]), SendFault>
 
 /// How the destination right is handed over: by a disposition that names a send or send-once right.
 pub(crate) fn destination_disposition(number: u8) -> Result<Disposition, SendFault>
-    ensures { Gave (or_refused KernReturn.SendInvalidHeader (sending.header_disposition number))
+    ensures { Agrees (or_refused KernReturn.SendInvalidHeader (sending.header_disposition number))
         (λ disposition found. found ≡ disposition) result }
 {
     match Disposition::from_number(u32::from(number)) {
@@ -46,7 +46,7 @@ pub(crate) fn destination_disposition(number: u8) -> Result<Disposition, SendFau
 
 /// How the reply right is handed over; `None` if there is no reply.
 pub(crate) fn reply_disposition(number: u8, name: u32) -> Result<Option<Disposition>, SendFault>
-    ensures { Gave (sending.reply_disposition number name) (λ disposition found. found ≡ disposition) result }
+    ensures { Agrees (sending.reply_disposition number name) (λ disposition found. found ≡ disposition) result }
 {
     if number == 0 && name == MACH_PORT_NULL {
         return Ok(None);
@@ -61,7 +61,7 @@ pub(crate) fn read_items(
     complex: bool,
     body: &[u8],
 ) -> Result<Vec<Item<'_>>, SendFault>
-    ensures { Gave (sending.items_if_complex complex body.now)
+    ensures { Agrees (sending.items_if_complex complex body.now)
         (λ items found. items ≡ map item_value found.items) result }
 {
     if !complex {

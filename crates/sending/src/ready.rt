@@ -8,7 +8,7 @@ ghost use Rattle.ipc_model.specs.messages.Sending as sending;
 ghost use Rattle.ipc_model.specs.messages.Sending.{Ready, ready_to_send};
 ghost use Rattle.ipc_model.specs.state.Placed.{same_kind};
 ghost use Rattle.msg_header.specs.Headers.{parts_by};
-ghost use Rattle.sending.specs.Gave.{Gave, IsToldBy};
+ghost use Rattle.sending.specs.Agrees.{Agrees, ReportsRefusal};
 ghost use Rattle.sending.specs.Sends.{ReadyIs, of_dispositions};
 ghost use Rattle.type_desc.specs.Values.{item_value};
 
@@ -73,7 +73,7 @@ fn message_of(
     taken: HeaderRights,
     rights: Vec<CarriedRight>,
 ) -> Result<Message, SendFault>
-    ensures { Gave (unless_failing
+    ensures { Agrees (unless_failing
         ((
           sending.is_full state.now.current taken.port && not (same_kind taken.kind right_kind.SendOnce),
           KernReturn.SendTimedOut,
@@ -109,10 +109,12 @@ fn take_all(
     named: Named,
     effects: &mut Effects,
 ) -> Result<(Message, u64), SendFault>
-    ensures ready { Gave (and_then
+    ensures ready { Agrees (and_then
         (sending.take_header state.old.current space named.remote named.destination named.local named.reply)
         (λ (taken : sending.TakenHeader).
-        and_then (or_refused KernReturn.SendInvalidRight (sending.take_items space (map item_value read.entry.items.now) (record { rights = []; state = taken.state; notices = [] }))) (λ (rights : sending.TakenRights).
+        and_then (or_refused KernReturn.SendInvalidRight (sending.take_items space
+        (map item_value read.entry.items.now) (record { rights = []; state = taken.state; notices = [] })))
+        (λ (rights : sending.TakenRights).
         let ready : Ready = sending.ready_message (parts_by read.entry.header read.entry.body.now) (map item_value read.entry.items.now) taken rights in
         unless_failing (sending.tests_of_queue ready) (Ok ready))))
         (ReadyIs state.new.current effects.old effects.new) result }
@@ -134,7 +136,7 @@ fn ready_of_items(
     reply: Option<Disposition>,
     effects: &mut Effects,
 ) -> Result<(Message, u64), SendFault>
-    ensures ready { Gave (sending.ready_of_items state.old.current space
+    ensures ready { Agrees (sending.ready_of_items state.old.current space
         (parts_by read.entry.header read.entry.body.now) destination reply (map item_value read.entry.items.now))
         (ReadyIs state.new.current effects.old effects.new) result }
     ensures before { state.new.before ≡ state.old.before }
@@ -163,7 +165,7 @@ fn ready_by_header(
     body: &[u8],
     effects: &mut Effects,
 ) -> Result<(Message, u64), SendFault>
-    ensures ready { Gave (of_dispositions state.old.current space (parts_by header body.now))
+    ensures ready { Agrees (of_dispositions state.old.current space (parts_by header body.now))
         (ReadyIs state.new.current effects.old effects.new) result }
     ensures before { state.new.before ≡ state.old.before }
 {
@@ -190,7 +192,7 @@ pub(crate) fn ready(
     requires none { effects.old ≡ [] }
     ensures ready { IfOk result (λ found. ready_to_send state.old.current space message.now
         ≡ Ok (record { message = found.0; port = found.1; state = state.new.current; notices = effects.new })) }
-    ensures refused { IfErr result (λ fault. IsToldBy (ready_to_send state.old.current space message.now) fault) }
+    ensures refused { IfErr result (λ fault. ReportsRefusal (ready_to_send state.old.current space message.now) fault) }
     ensures before { state.new.before ≡ state.old.before }
 {
     let (header, body) = read_message(message)?;

@@ -3,7 +3,7 @@ ghost use Rattle.std.specs.FinMap as map;
 ghost use Rattle.ipc_model.specs.messages.Sending.{ready_to_send};
 ghost use Rattle.ipc_model.specs.state.Circular.{Acyclic};
 ghost use Rattle.ipc_model.specs.state.Lawful.{Lawful};
-ghost use Rattle.sending.specs.Gave.{IsToldBy};
+ghost use Rattle.sending.specs.Agrees.{ReportsRefusal};
 ghost use Rattle.sending.specs.Sends.{WasSent};
 
 use crate::SendFault;
@@ -36,7 +36,7 @@ pub fn send(
     requires acyclic { Acyclic state.old.current }
     ensures sent { OnOk result (WasSent
         (ready_to_send state.old.current space message.now) state.new.current effects.new) }
-    ensures refused { IfErr result (λ fault. IsToldBy (ready_to_send state.old.current space message.now) fault) }
+    ensures refused { IfErr result (λ fault. ReportsRefusal (ready_to_send state.old.current space message.now) fault) }
     ensures before { state.new.before ≡ state.old.before }
 {
     let (ready, queue) = ready(alloc, state, space, message, effects)?;

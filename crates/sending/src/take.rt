@@ -5,7 +5,7 @@ ghost use Rattle.ipc_model.specs.messages.Sending.{live_port, passed};
 ghost use Rattle.ipc_model.specs.rights.CopyIn.{copy_in};
 ghost use Rattle.ipc_model.specs.rights.Dispositions.{received_kind};
 ghost use Rattle.ipc_model.specs.state.State.{is_null_or_dead};
-ghost use Rattle.sending.specs.Gave.{Gave};
+ghost use Rattle.sending.specs.Agrees.{Agrees};
 
 use crate::SendFault;
 use codes::{Disposition, KernReturn, MACH_PORT_DEAD, MACH_PORT_NULL};
@@ -23,7 +23,7 @@ pub(crate) fn take(
     code: KernReturn,
     effects: &mut Effects,
 ) -> Result<CarriedRight, SendFault>
-    ensures taken { Gave (or_refused code (copy_in state.old.current space name disposition))
+    ensures taken { Agrees (or_refused code (copy_in state.old.current space name disposition))
         (λ taken right. (right ≡ taken.right) × (state.new.current ≡ taken.state)
         × (effects.new ≡ effects.old ++ taken.notices)) result }
     ensures before { state.new.before ≡ state.old.before }
@@ -36,7 +36,7 @@ pub(crate) fn take(
 
 /// The port of a right that is to be a destination; `MACH_PORT_NULL` and a dead name are refused.
 pub(crate) fn live_port(port: PortInMessage) -> Result<u64, SendFault>
-    ensures { Gave (or_refused KernReturn.SendInvalidDest (live_port port)) (λ serial found. found ≡ serial) result }
+    ensures { Agrees (or_refused KernReturn.SendInvalidDest (live_port port)) (λ serial found. found ≡ serial) result }
 {
     match port {
         PortInMessage::Live(serial) => Ok(serial),

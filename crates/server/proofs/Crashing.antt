@@ -47,9 +47,9 @@ in_front old records more c w = record {
   stands = w.stands;
 }
 
-behind : (old mid : State) (records more : List Record) (c : Slots) → Run old records mid → StandsWithin mid more c
+beyond : (old mid : State) (records more : List Record) (c : Slots) → Run old records mid → StandsWithin mid more c
     → StandsWithin old (records ++ more) c
-behind old mid records more c run w = record {
+beyond old mid records more c run w = record {
   first = length records + w.first;
   within = omega (arith, w.within, length-append records more);
   state = w.state;
@@ -116,7 +116,7 @@ module _ {D : Type 0} (honest : Type 0) (view : D → View) where
     run = run_append old.kernel mid.kernel new.kernel records more first.run second.run;
     time =
         passes_join (view old.store.disk) (view mid.store.disk) (view new.store.disk) _ _ _ first.time second.time
-        (in_front old.kernel records more) (λ c. behind old.kernel mid.kernel records more c first.run);
+        (in_front old.kernel records more) (λ c. beyond old.kernel mid.kernel records more c first.run);
   }
 
   same_reach : (old new : AloneValue D) → IsHeld (view old.store.disk) old.kernel → new ≡ old → Reach view old [] new
@@ -144,7 +144,14 @@ module _ {D : Type 0} (honest : Type 0) (view : D → View) where
                 passes_so (view old.store.disk) (view new.store.disk) _ _ (answered.passes is_honest)
                 (λ s stands. elim stands [
                   | inl before ↦ at_first old.kernel _ s before
-                  | inr after ↦ record { first = 1; within = omega arith; state = new.kernel; run = run; stands = after.3 }
+                  | inr after ↦ record {
+                    first = 1;
+                    within = omega arith;
+                    state = new.kernel;
+                    run = run;
+                    stands =
+                        after.3;
+                  }
                 ]);
           }
       by false unrecorded =
@@ -369,7 +376,7 @@ module _ {D : Type 0} (honest : Type 0) (view : D → View) where
         made ++ stood.0,
         all_both (send ∷ receive ∷ []) made stood.0 among
             (any_later send receive stood.0 stood.1),
-        behind old.kernel mid.kernel made stood.0 s reach.run stood.2,
+        beyond old.kernel mid.kernel made stood.0 s reach.run stood.2,
       ))
 
   request_failed : (asks : Request) (old : AloneValue D) (fault : StoreFault) (new : AloneValue D) → honest

@@ -55,7 +55,13 @@ impl<D: Disk> Model for Alone<D> {
 
     ghost coded = { alone_code D.code };
 
-    ghost view = { λ a. record { kernel = a.system.core.kernel; store = a.system.store; space = a.space; failed = a.failed } };
+    ghost view = { λ a. record {
+      kernel = a.system.core.kernel;
+      store = a.system.store;
+      space = a.space;
+      failed =
+          a.failed;
+    } };
 
     // Until a call fails, nothing waits between calls, and the store holds what the kernel holds.
     ghost invariant = { λ a. a.failed ≡ false → IsResting a.system
@@ -153,7 +159,8 @@ impl<D: Disk> Caller for Alone<D> {
     fn rest(&mut self) -> Result<bool, StoreFault>
         ensures rests { OnOk result (RestsKept D.honest D.view self.old self.new) }
         ensures goes { IfOk result (λ is_done. MatchBool is_done
-            (GoesOn D.honest D.view CHECKPOINT_RECORDS self.old.kernel self.old.store.checkpoint self.old.store self.new.store) (IsShortOf self.old self.new)) }
+            (GoesOn D.honest D.view CHECKPOINT_RECORDS self.old.kernel self.old.store.checkpoint self.old.store
+            self.new.store) (IsShortOf self.old self.new)) }
         ensures breaks { IfErr result (λ fault. BreaksKept D.honest D.view self.old fault self.new) }
         ensures failures { D.failed_calls self.new.store.disk ≡ counted result (D.failed_calls self.old.store.disk) }
         // A crash at any moment from the beginning of that time to its end leaves the state as it was, also if it

@@ -73,8 +73,10 @@ impl LoneEnd {
 
 /// Writes the program's name, followed by these words.
 fn write_line<E: Write>(errors: &mut E, words: &str) -> Result<(), WireFault>
-    ensures ok { OnOk result (Appends (E.contents errors.old) (E.contents errors.new) (codes "machipcd: " ++ words.now)) }
-    ensures part { OnErr result (AppendsPart (E.contents errors.old) (E.contents errors.new) (codes "machipcd: " ++ words.now)) }
+    ensures ok { OnOk result (Appends (E.contents errors.old) (E.contents errors.new)
+        (codes "machipcd: " ++ words.now)) }
+    ensures part { OnErr result (AppendsPart (E.contents errors.old) (E.contents errors.new)
+        (codes "machipcd: " ++ words.now)) }
     ensures err { IfErr result (λ fault. fault ≡ WireFault.Device) }
 {
     write_bytes(errors, b"machipcd: ")?;
@@ -100,8 +102,10 @@ where
     // The status and the line of errors are those of how the run ended. A writer of errors that fails has a part of the
     // line.
     ensures ended { IfSome (I.remaining input.old) (λ bytes. IfSome (O.contents output.old) (λ before.
-        (end : LoneEnd) × (result ≡ status_of end) × AppendsPart (E.contents errors.old) (E.contents errors.new) (line_of end)
-        × EndsAlone ⟦<FileDisk<HostFolder<&'a F>> as Disk>⟧.honest ⟦<FileDisk<HostFolder<&'a F>> as Disk>⟧.view bytes before
+        (end : LoneEnd) × (result ≡ status_of end) × AppendsPart (E.contents errors.old) (E.contents errors.new)
+        (line_of end)
+        × EndsAlone ⟦<FileDisk<HostFolder<&'a F>> as Disk>⟧.honest ⟦<FileDisk<HostFolder<&'a F>> as Disk>⟧.view bytes
+        before
         (I.remaining input.new) (O.contents output.new)
         (option_map (λ encodings. length encodings.now) words.entry) end)) }
 {
@@ -121,7 +125,8 @@ pub fn run_alone<'a, F: Files, I: Read, O: Write>(
 where
     F::File: LockFile,
     ensures ended { IfSome (I.remaining input.old) (λ bytes. IfSome (O.contents output.old) (λ before.
-        EndsAlone ⟦<FileDisk<HostFolder<&'a F>> as Disk>⟧.honest ⟦<FileDisk<HostFolder<&'a F>> as Disk>⟧.view bytes before (I.remaining input.new) (O.contents output.new) (option_map (λ encodings. length encodings.now) words.entry) result)) }
+        EndsAlone ⟦<FileDisk<HostFolder<&'a F>> as Disk>⟧.honest ⟦<FileDisk<HostFolder<&'a F>> as Disk>⟧.view bytes
+        before (I.remaining input.new) (O.contents output.new) (option_map (λ encodings. length encodings.now) words.entry) result)) }
 {
     let Some([store]) = words else {
         return LoneEnd::CommandLine;
@@ -145,7 +150,8 @@ fn serve_locked<'a, F: Files, I: Read, O: Write>(
     output: &mut O,
 ) -> LoneEnd
     ensures ended { IfSome (I.remaining input.old) (λ bytes. IfSome (O.contents output.old) (λ before.
-        EndsAlone ⟦<FileDisk<HostFolder<&'a F>> as Disk>⟧.honest ⟦<FileDisk<HostFolder<&'a F>> as Disk>⟧.view bytes before (I.remaining input.new) (O.contents output.new) (Some 1) result)) }
+        EndsAlone ⟦<FileDisk<HostFolder<&'a F>> as Disk>⟧.honest ⟦<FileDisk<HostFolder<&'a F>> as Disk>⟧.view bytes
+        before (I.remaining input.new) (O.contents output.new) (Some 1) result)) }
 {
     match serve_folder(alloc, files, folder, input, output) {
         Ok(()) => LoneEnd::Served,
@@ -162,7 +168,8 @@ fn serve_folder<'a, F: Files, I: Read, O: Write>(
     output: &mut O,
 ) -> Result<(), ServeFault>
     ensures run { IfSome (I.remaining input.old) (λ bytes. IfSome (O.contents output.old) (λ before.
-        IsRun ⟦<FileDisk<HostFolder<&'a F>> as Disk>⟧.honest ⟦<FileDisk<HostFolder<&'a F>> as Disk>⟧.view bytes before (I.remaining input.new) (O.contents output.new) result)) }
+        IsRun ⟦<FileDisk<HostFolder<&'a F>> as Disk>⟧.honest ⟦<FileDisk<HostFolder<&'a F>> as Disk>⟧.view bytes before
+        (I.remaining input.new) (O.contents output.new) result)) }
 {
     let Ok(disk) = FileDisk::at(alloc, files, folder) else {
         return Err(ServeFault::Store(StoreFault::Device));

@@ -186,7 +186,7 @@ fn letters_by(alloc: Global, seed: u64) -> Option<Vec<u8>> {
 
 /// How many records a list of events acknowledged by its answers, and how many were applied, by means of how many each
 /// ticket saw. The answer that a batch is stored acknowledges its records, and so does a reply that saw them.
-fn count_told(
+fn count_acknowledged(
     seen: &mut Vec<u64>,
     letters: &[u8],
     answers: &[u8],
@@ -212,7 +212,7 @@ fn count_told(
 /// How many records a list of events acknowledged by its answers, and how many were applied.
 pub(crate) fn bounds(alloc: Global, letters: &[u8], answers: &[u8]) -> Option<(u64, u64)> {
     let mut seen = Vec::new(alloc);
-    count_told(&mut seen, letters, answers).ok()
+    count_acknowledged(&mut seen, letters, answers).ok()
 }
 
 /// How many records the call of a letter has.

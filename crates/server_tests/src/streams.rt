@@ -43,12 +43,12 @@ impl<'a> Read for Dripping<'a> {
         if self.seen.unflushed.get() != 0 {
             self.seen.early.set(self.seen.early.get().saturating_add(1));
         }
-        let (Some((first, behind)), Some(place)) = (self.rest.split_first(), buffer.first_mut())
+        let (Some((first, beyond)), Some(place)) = (self.rest.split_first(), buffer.first_mut())
         else {
             return Ok(0);
         };
         *place = *first;
-        self.rest = behind;
+        self.rest = beyond;
         self.seen.read.set(self.seen.read.get().saturating_add(1));
         Ok(1)
     }

@@ -6,7 +6,7 @@ use std::sync::Wait;
 use system::Ticket;
 
 /// Waits for the reply of a call, if it was made.
-pub(crate) fn told<S: Service, R: Wait>(
+pub(crate) fn acknowledged<S: Service, R: Wait>(
     rt: &R,
     service: &S,
     session: S::Session,
@@ -26,7 +26,7 @@ pub(crate) fn asked<S: Service, R: Wait>(
     call: &Call,
 ) -> (S::Session, Option<Reply>) {
     let (session, ticket) = service.make(rt, session, call);
-    told(rt, service, session, ticket)
+    acknowledged(rt, service, session, ticket)
 }
 
 /// The name that a reply gives.

@@ -2,7 +2,7 @@
 ghost use Rattle.std.specs.Prelude.{◌≡◌};
 ghost use Rattle.std.specs.Arc.{arc_value};
 
-use crate::asking::{allocates_many, asked, name_in, told};
+use crate::asking::{acknowledged, allocates_many, asked, name_in};
 use crate::expect::same;
 use crate::flag::Flag;
 use crate::service::{Service, run_both_loops};
@@ -32,7 +32,7 @@ struct Seen {
     was_held: bool,
     /// How many calls filled the log, and whether the last of them was answered.
     count: u64,
-    is_told: bool,
+    is_acknowledged: bool,
     /// Whether the next call was answered while the checkpoint was held up.
     came_early: bool,
     /// The name that it gave.
@@ -128,12 +128,12 @@ fn fill<S: Service + Sync, R: Threads + Wait + Clock + Sync>(
     let has_come = stay.has_come.comes(rt);
     let (session, last, count) = make_many(rt, service, session, MAX_RECORDS);
     may_store.set();
-    let (session, last) = told(rt, service, session, last);
+    let (session, last) = acknowledged(rt, service, session, last);
     let (held, reply) = watched(rt, service, session, stay);
     Seen {
         was_held: has_come && held.0,
         count,
-        is_told: last.is_some(),
+        is_acknowledged: last.is_some(),
         came_early: held.1,
         name: name_in(reply),
     }
@@ -210,7 +210,7 @@ fn a_call_waits_for_the_next_epoch(rt: HostRuntime) {
     let wanted = Seen {
         was_held: true,
         count: MAX_RECORDS,
-        is_told: true,
+        is_acknowledged: true,
         came_early: false,
         name: Some(0x104),
     };

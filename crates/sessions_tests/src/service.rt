@@ -75,8 +75,8 @@ impl<L: Founding + Send + Sync, D: Disk + Drop, G: Gate> Service for Shared<L, D
         session: Session<L>,
         ticket: Ticket,
     ) -> (Session<L>, Option<Reply>) {
-        let (session, told) = self.redeem(rt, session, ticket);
-        (session, told.ok())
+        let (session, acknowledged) = self.redeem(rt, session, ticket);
+        (session, acknowledged.ok())
     }
 
     fn name_read(session: &mut Session<L>, at: usize) -> Option<u32> {

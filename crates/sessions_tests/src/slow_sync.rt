@@ -2,7 +2,7 @@
 ghost use Rattle.std.specs.Prelude.{◌≡◌};
 ghost use Rattle.std.specs.Arc.{arc_value};
 
-use crate::asking::{name_in, told};
+use crate::asking::{acknowledged, name_in};
 use crate::expect::same;
 use crate::flag::Flag;
 use crate::service::Service;
@@ -86,8 +86,8 @@ fn call_twice<S: Service, R: Wait + Clock>(
     let has_begun = stay.has_come.comes(rt);
     let (session, second) = service.make(rt, session, &call);
     stay.may_go.set();
-    let (session, first) = told(rt, service, session, first);
-    let (_, second) = told(rt, service, session, second);
+    let (session, first) = acknowledged(rt, service, session, first);
+    let (_, second) = acknowledged(rt, service, session, second);
     Seen {
         has_begun,
         was_late: stay.was_late.is_set(),

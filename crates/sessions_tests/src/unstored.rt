@@ -2,7 +2,7 @@
 ghost use Rattle.std.specs.Prelude.{◌≡◌};
 ghost use Rattle.std.specs.Arc.{arc_value};
 
-use crate::asking::{asked, bits_in, name_in, told};
+use crate::asking::{acknowledged, asked, bits_in, name_in};
 use crate::expect::same;
 use crate::flag::Flag;
 use crate::service::Service;
@@ -34,16 +34,16 @@ struct Seen {
 }
 
 /// Waits for a reply, and notes when it has come.
-fn told_and_noted<S: Service, R: Wait>(
+fn acknowledged_and_noted<S: Service, R: Wait>(
     rt: &R,
     service: &S,
     session: S::Session,
     ticket: Option<Ticket>,
     has_answered: &Flag,
 ) -> (S::Session, Option<Reply>) {
-    let told = told(rt, service, session, ticket);
+    let acknowledged = acknowledged(rt, service, session, ticket);
     has_answered.set();
-    told
+    acknowledged
 }
 
 /// Waits for a reply, while another thread watches for it.
@@ -59,7 +59,7 @@ fn watched<S: Service + Sync, R: Threads + Wait + Clock + Sync>(
     join(
         rt,
         || stay.watch(rt, flag),
-        move || told_and_noted(rt, service, session, ticket, flag),
+        move || acknowledged_and_noted(rt, service, session, ticket, flag),
     )
 }
 
@@ -75,7 +75,7 @@ fn call_in_both<S: Service + Sync, R: Threads + Wait + Clock + Sync>(
     let (one, first) = service.make(rt, one, &Call::Allocate { right: 1 });
     let (other, second) = service.make(rt, other, &Call::Type { name: 0x100 });
     let (held, (other, second)) = watched(rt, service, other, second, stay);
-    let (one, first) = told(rt, service, one, first);
+    let (one, first) = acknowledged(rt, service, one, first);
     let (other, _) = asked(rt, service, other, &Call::Allocate { right: 1 });
     let mut other = other;
     let read = [0, 1, 2].map(|at| S::name_read(&mut other, at));

@@ -44,7 +44,8 @@ own (reply.Done number) well = well
 own answer well = tt
 
 pub has_line : {E : Type 0} (r : Result (Option Reply) E) (number : ℕ) (content : List ℕ)
-    → IfOk r (λ found. IfSome found (Answers number content)) → IfOk r (λ found. IfSome found (IsReplyTo number content))
+    → IfOk r (λ found. IfSome found (Answers number content))
+    → IfOk r (λ found. IfSome found (IsReplyTo number content))
 has_line (Ok (Some answer)) number content found =
     record { answers = found; own = own answer found.well_formed }
 has_line (Ok None) number content found = tt

@@ -38,7 +38,8 @@ said_well (asked.Exchange x) answer = is_same_reply answer x.reply
 -- the one that is printed.
 abbrev pub Tells : ℕ → Call → Asked → List ℕ → List ℕ → Bool → Type 0
 Tells number c a content text well =
-    (((answer : Reply) → IsReplyTo (number_of_call c) content answer → ⊥) × (text ≡ strange_line number) × (well ≡ false))
+    (((answer : Reply) → IsReplyTo (number_of_call c) content answer → ⊥) × (text ≡ strange_line number)
+    × (well ≡ false))
     ⊎ ((answer : Reply) × IsReplyTo (number_of_call c) content answer × (text ≡ said_text number a answer)
     × (well ≡ said_well a answer))
 

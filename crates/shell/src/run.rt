@@ -16,8 +16,10 @@ use wire::WireFault;
 
 /// The socket of `--script SOCKET`, if these are the words.
 pub fn script_socket(words: Option<&[String]>) -> Option<&str>
-    ensures found { IfSome result (λ socket. option_map (λ texts. map string_bytes texts.now) words.entry ≡ Some (codes "--script" ∷ socket.now ∷ [])) }
-    ensures other { IfNone result ((socket : List ℕ) → option_map (λ texts. map string_bytes texts.now) words.entry ≢ Some (codes "--script" ∷ socket ∷ [])) }
+    ensures found { IfSome result (λ socket. option_map (λ texts. map string_bytes texts.now) words.entry
+        ≡ Some (codes "--script" ∷ socket.now ∷ [])) }
+    ensures other { IfNone result ((socket : List ℕ) → option_map
+        (λ texts. map string_bytes texts.now) words.entry ≢ Some (codes "--script" ∷ socket ∷ [])) }
 {
     let Some([option, socket]) = words else {
         return None;

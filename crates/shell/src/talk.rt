@@ -85,17 +85,18 @@ pub fn take_turn<O: Write + Drop, P: Read, S: Write + Drop>(
     ensures done { IfOk result
         (λ turn. Does place.number line.now
         (side (P.remaining replies.old) (writer_contents S.contents requests.old) (writer_buffer requests.old))
-        (side (P.remaining replies.new) (writer_contents S.contents requests.new) (writer_buffer requests.new)) (writer_contents O.contents output.old) (writer_contents O.contents output.new) turn.is_well) }
+        (side (P.remaining replies.new) (writer_contents S.contents requests.new) (writer_buffer requests.new))
+        (writer_contents O.contents output.old) (writer_contents O.contents output.new) turn.is_well) }
     ensures flushed { OnOk result (writer_buffer output.new ≡ []) }
     ensures part { OnErr result (DoesPart place.number
         (side (P.remaining replies.old) (writer_contents S.contents requests.old) (writer_buffer requests.old))
         (writer_contents O.contents output.old) (writer_contents O.contents output.new)) }
 {
-    let told = hear(alloc, place, line, replies, requests)?;
-    say(output, told.text.as_slice())?;
+    let printed = hear(alloc, place, line, replies, requests)?;
+    say(output, printed.text.as_slice())?;
     Ok(Turn {
-        is_well: told.is_well,
-        space: told.space,
+        is_well: printed.is_well,
+        space: printed.space,
     })
 }
 

@@ -12,10 +12,10 @@ ghost use Rattle.words.specs.Words.{frame_encoding};
 
 use crate::asked::{Asked, read_asked};
 use crate::attempt::push_attempt;
-use crate::reply::read_reply;
-use crate::told::{
+use crate::printed::{
     is_same_reply, push_answered, push_difference, push_long, push_strange, push_wrong,
 };
+use crate::reply::read_reply;
 use codes::{MAX_FRAME_CONTENT, MIN_FRAME_CONTENT};
 use ipc_model::{Call, Reply};
 use relay::{next_reply, send};
@@ -35,7 +35,7 @@ pub struct Place {
 
 /// What is printed for a line.
 #[derive(Drop)]
-pub struct Told {
+pub struct Printed {
     /// The text, with its ends of lines.
     pub text: Vec<u8>,
     /// Whether the line could be read, and its answer is the one that it gives, if it gives one.
@@ -130,15 +130,15 @@ fn tell_reply(
     call: &Call,
     asked: &Asked,
     reply: &Reply,
-) -> Result<Told, AllocError>
-    ensures text { IfOk result (λ told. told.text.items ≡ said_text place.number asked.now reply.now) }
-    ensures well { IfOk result (λ told. told.is_well ≡ said_well asked.now reply.now) }
-    ensures space { IfOk result (λ told. told.space
+) -> Result<Printed, AllocError>
+    ensures text { IfOk result (λ printed. printed.text.items ≡ said_text place.number asked.now reply.now) }
+    ensures well { IfOk result (λ printed. printed.is_well ≡ said_well asked.now reply.now) }
+    ensures space { IfOk result (λ printed. printed.space
         ≡ (if succeeded call.now reply.now then attached_by place.space call.now else place.space)) }
 {
     let mut text = Vec::new(alloc);
     let is_well = push_said(alloc, &mut text, place.number, asked, reply)?;
-    Ok(Told {
+    Ok(Printed {
         text,
         is_well,
         space: space_after(place.space, call, reply),
@@ -146,13 +146,13 @@ fn tell_reply(
 }
 
 /// What is printed for a line whose call got an answer that is no reply to it.
-fn tell_strange(alloc: Global, place: Place) -> Result<Told, AllocError>
-    ensures text { IfOk result (λ told. told.text.items ≡ strange_line place.number) }
-    ensures well { IfOk result (λ told. told.is_well ≡ false) }
+fn tell_strange(alloc: Global, place: Place) -> Result<Printed, AllocError>
+    ensures text { IfOk result (λ printed. printed.text.items ≡ strange_line place.number) }
+    ensures well { IfOk result (λ printed. printed.is_well ≡ false) }
 {
     let mut text = Vec::new(alloc);
     push_strange(&mut text, place.number)?;
-    Ok(Told {
+    Ok(Printed {
         text,
         is_well: false,
         space: place.space,
@@ -166,28 +166,29 @@ fn tell_content(
     call: &Call,
     asked: &Asked,
     content: &[u8],
-) -> Result<Told, AllocError>
-    ensures { IfOk result (λ told. Tells place.number call.now asked.now content.now told.text.items told.is_well) }
+) -> Result<Printed, AllocError>
+    ensures { IfOk result (λ printed. Tells place.number call.now asked.now content.now printed.text.items
+        printed.is_well) }
 {
     let found = read_reply(alloc, call.number(), content)?;
     match found {
         None => tell_strange(alloc, place),
         Some(reply) => {
-            let told = tell_reply(alloc, place, call, asked, &reply);
+            let printed = tell_reply(alloc, place, call, asked, &reply);
             drop(reply);
-            told
+            printed
         }
     }
 }
 
 /// What is printed for a line whose call is too long for a frame.
-fn tell_long(alloc: Global, place: Place) -> Result<Told, AllocError>
-    ensures text { IfOk result (λ told. told.text.items ≡ long_line place.number) }
-    ensures well { IfOk result (λ told. told.is_well ≡ false) }
+fn tell_long(alloc: Global, place: Place) -> Result<Printed, AllocError>
+    ensures text { IfOk result (λ printed. printed.text.items ≡ long_line place.number) }
+    ensures well { IfOk result (λ printed. printed.is_well ≡ false) }
 {
     let mut text = Vec::new(alloc);
     push_long(&mut text, place.number)?;
-    Ok(Told {
+    Ok(Printed {
         text,
         is_well: false,
         space: place.space,
@@ -200,13 +201,13 @@ fn tell_wrong(
     place: Place,
     column: usize,
     expected: Expected,
-) -> Result<Told, AllocError>
-    ensures text { IfOk result (λ told. told.text.items ≡ wrong_line place.number column expected) }
-    ensures well { IfOk result (λ told. told.is_well ≡ false) }
+) -> Result<Printed, AllocError>
+    ensures text { IfOk result (λ printed. printed.text.items ≡ wrong_line place.number column expected) }
+    ensures well { IfOk result (λ printed. printed.is_well ≡ false) }
 {
     let mut text = Vec::new(alloc);
     push_wrong(&mut text, place.number, column, expected)?;
-    Ok(Told {
+    Ok(Printed {
         text,
         is_well: false,
         space: place.space,
@@ -255,19 +256,20 @@ fn ask_call<P: Read, S: Write + Drop>(
     asked: &Asked,
     replies: &mut P,
     requests: &mut BufWriter<S>,
-) -> Result<Told, WireFault>
-    ensures { IfOk result (λ told. AsksCall place.number call.now asked.now
+) -> Result<Printed, WireFault>
+    ensures { IfOk result (λ printed. AsksCall place.number call.now asked.now
         (side (P.remaining replies.old) (writer_contents S.contents requests.old) (writer_buffer requests.old))
-        (side (P.remaining replies.new) (writer_contents S.contents requests.new) (writer_buffer requests.new)) told.text.items told.is_well) }
+        (side (P.remaining replies.new) (writer_contents S.contents requests.new) (writer_buffer requests.new))
+        printed.text.items printed.is_well) }
 {
     let content = content_of(alloc, call)?;
     if !is_content_length(content.len()) {
-        let told = tell_long(alloc, place)?;
-        return Ok(told);
+        let printed = tell_long(alloc, place)?;
+        return Ok(printed);
     }
     let reply = exchange(alloc, content.as_slice(), replies, requests)?;
-    let told = tell_content(alloc, place, call, asked, reply.content())?;
-    Ok(told)
+    let printed = tell_content(alloc, place, call, asked, reply.content())?;
+    Ok(printed)
 }
 
 /// Makes the call of what a line asks for, if it is one.
@@ -277,14 +279,15 @@ fn ask<P: Read, S: Write + Drop>(
     asked: &Asked,
     replies: &mut P,
     requests: &mut BufWriter<S>,
-) -> Result<Told, WireFault>
-    ensures { IfOk result (λ told. HearsAsked place.number asked.now (call_of asked.now)
+) -> Result<Printed, WireFault>
+    ensures { IfOk result (λ printed. HearsAsked place.number asked.now (call_of asked.now)
         (side (P.remaining replies.old) (writer_contents S.contents requests.old) (writer_buffer requests.old))
-        (side (P.remaining replies.new) (writer_contents S.contents requests.new) (writer_buffer requests.new)) told.text.items told.is_well) }
+        (side (P.remaining replies.new) (writer_contents S.contents requests.new) (writer_buffer requests.new))
+        printed.text.items printed.is_well) }
 {
     match call_of(asked) {
         Some(call) => ask_call(alloc, place, call, asked, replies, requests),
-        None => Ok(Told {
+        None => Ok(Printed {
             text: Vec::new(alloc),
             is_well: true,
             space: place.space,
@@ -302,21 +305,22 @@ pub fn hear<P: Read, S: Write + Drop>(
     line: &[u8],
     replies: &mut P,
     requests: &mut BufWriter<S>,
-) -> Result<Told, WireFault>
-    ensures { IfOk result (λ told. Hears place.number (asked_read line.now)
+) -> Result<Printed, WireFault>
+    ensures { IfOk result (λ printed. Hears place.number (asked_read line.now)
         (side (P.remaining replies.old) (writer_contents S.contents requests.old) (writer_buffer requests.old))
-        (side (P.remaining replies.new) (writer_contents S.contents requests.new) (writer_buffer requests.new)) told.text.items told.is_well) }
+        (side (P.remaining replies.new) (writer_contents S.contents requests.new) (writer_buffer requests.new))
+        printed.text.items printed.is_well) }
 {
     match read_asked(alloc, line) {
         Ok(asked) => {
-            let told = ask(alloc, place, &asked, replies, requests);
+            let printed = ask(alloc, place, &asked, replies, requests);
             drop(asked);
-            told
+            printed
         }
         Err(LineFault::NoMemory) => Err(WireFault::NoMemory),
         Err(LineFault::Unreadable { column, expected }) => {
-            let told = tell_wrong(alloc, place, column, expected)?;
-            Ok(told)
+            let printed = tell_wrong(alloc, place, column, expected)?;
+            Ok(printed)
         }
     }
 }

@@ -34,10 +34,10 @@ closed_not_open header slot shut is_open = no_open_gate slot shut is_open.1
 
 -- a gate that is written, or isn't
 pub torn_gate : (before after : List ℕ) → TornWrite 0 1 before after → HasSomeGate before after
-torn_gate before after torn = record { behind = torn.after; no_shorter = torn.no_shorter; no_longer = torn.no_longer }
+torn_gate before after torn = record { beyond = torn.after; no_shorter = torn.no_shorter; no_longer = torn.no_longer }
 
 pub same_gate : (slot : List ℕ) → HasSomeGate slot slot
-same_gate slot = record { behind = refl; no_shorter = omega arith; no_longer = omega arith }
+same_gate slot = record { beyond = refl; no_shorter = omega arith; no_longer = omega arith }
 
 -- a slot that is too short for its header, or open, and is being closed
 pub gate_closing : (header : ℕ) (before after : List ℕ) → 1 < header → (length before < header)
@@ -46,7 +46,7 @@ gate_closing header before after some needs gate = elim needs [
   | inl short ↦ inr (λ is_open. omega (arith, some, short, gate.no_longer, is_open.0))
   | inr is ↦ elim (closed_or_open after) [
     | inl shut ↦ inr (closed_not_open header after shut)
-    | inr whole ↦ inl (whole ∙ ap (λ (l : List ℕ). open_gate ∷ l) gate.behind ∙ sym (gate_apart before is))
+    | inr whole ↦ inl (whole ∙ ap (λ (l : List ℕ). open_gate ∷ l) gate.beyond ∙ sym (gate_apart before is))
   ]
 ]
 
@@ -56,11 +56,11 @@ after_first [] encoding some = absurd (omega (arith, some))
 after_first (gate ∷ rest) encoding some = refl
 
 -- a gate that is being opened: it isn't open, or all that stood after it stands there
-pub gate_opened : (behind shut after : List ℕ) → drop 1 shut ≡ behind → HasSomeGate shut after → IsClosed after
-    ⊎ (after ≡ open_gate ∷ behind)
-gate_opened behind shut after is gate = elim (closed_or_open after) [
+pub gate_opened : (beyond shut after : List ℕ) → drop 1 shut ≡ beyond → HasSomeGate shut after → IsClosed after
+    ⊎ (after ≡ open_gate ∷ beyond)
+gate_opened beyond shut after is gate = elim (closed_or_open after) [
   | inl still ↦ inl still
-  | inr whole ↦ inr (whole ∙ ap (λ (l : List ℕ). open_gate ∷ l) (gate.behind ∙ is))
+  | inr whole ↦ inr (whole ∙ ap (λ (l : List ℕ). open_gate ∷ l) (gate.beyond ∙ is))
 ]
 
 -- a slot is closed, and then written after its gate
@@ -74,20 +74,20 @@ closing_then slot old mid new header first second =
     (λ d between after left early late. inr (closed_not_open header after late))
 
 -- and then its gate is opened before what stands after it
-pub opening_then : (slot : Slot) (old mid new : View) (behind : List ℕ) → IsSynced mid slot
-    → drop 1 (slot_of mid.seen slot) ≡ behind → Passes old mid (Follows old slot IsStillClosed)
+pub opening_then : (slot : Slot) (old mid new : View) (beyond : List ℕ) → IsSynced mid slot
+    → drop 1 (slot_of mid.seen slot) ≡ beyond → Passes old mid (Follows old slot IsStillClosed)
     → Passes mid new (Follows mid slot HasSomeGate)
-    → Passes old new (Follows old slot (λ before after. IsClosed after ⊎ (after ≡ open_gate ∷ behind)))
-opening_then slot old mid new behind synced is first second =
+    → Passes old new (Follows old slot (λ before after. IsClosed after ⊎ (after ≡ open_gate ∷ beyond)))
+opening_then slot old mid new beyond synced is first second =
     let opening : Passes mid new (Follows mid slot
-    (λ (before after : List ℕ). IsClosed after ⊎ (after ≡ open_gate ∷ behind))) =
+    (λ (before after : List ℕ). IsClosed after ⊎ (after ≡ open_gate ∷ beyond))) =
     follows_as slot mid new HasSomeGate
-    (λ (before after : List ℕ). IsClosed after ⊎ (after ≡ open_gate ∷ behind)) second
-    (λ d after left gate. gate_opened behind (slot_of d slot) after
+    (λ (before after : List ℕ). IsClosed after ⊎ (after ≡ open_gate ∷ beyond)) second
+    (λ d after left gate. gate_opened beyond (slot_of d slot) after
     (ap (λ (l : List ℕ). drop 1 l) (synced d left) ∙ is) gate) in
     follows_then slot old mid new IsStillClosed
-    (λ (before after : List ℕ). IsClosed after ⊎ (after ≡ open_gate ∷ behind))
-    (λ (before after : List ℕ). IsClosed after ⊎ (after ≡ open_gate ∷ behind)) first opening
+    (λ (before after : List ℕ). IsClosed after ⊎ (after ≡ open_gate ∷ beyond))
+    (λ (before after : List ℕ). IsClosed after ⊎ (after ≡ open_gate ∷ beyond)) first opening
     (λ d after left shut. inl shut) (λ d after left opened. opened) (λ d between after left early late. late)
 
 -- a slot gets new content: it is closed, and then the content stands there or its gate isn't open

@@ -26,7 +26,7 @@ IsStillClosed before after = IsClosed after
 -- A slot's gate was written, and a crash interrupted that: any byte stands in its place, or none where the slot was
 -- empty. What stood after it still stands there.
 pub record HasSomeGate (before after : List ℕ) : Type 0 where
-  pub behind : drop 1 after ≡ drop 1 before
+  pub beyond : drop 1 after ≡ drop 1 before
   pub no_shorter : length before ≤ length after
   pub no_longer : length after ≤ max (length before) 1
 

@@ -65,7 +65,7 @@ pub fn write_after<D: Disk>(
     at: u64,
     bytes: &[u8],
 ) -> Result<(), DiskFault>
-    requires behind { 0 < at }
+    requires beyond { 0 < at }
     requires inside { D.honest → at ≤ length (slot_of (D.view disk.old).seen slot) }
     ensures written { D.honest → OnOk result ((D.view disk.new).seen
         ≡ with_slot (D.view disk.old).seen slot (written_at (slot_of (D.view disk.old).seen slot) at bytes.now)) }
@@ -79,7 +79,7 @@ pub fn write_after<D: Disk>(
 
 /// Truncates a slot after its gate.
 pub fn cut_after<D: Disk>(disk: &mut D, slot: Slot, len: u64) -> Result<(), DiskFault>
-    requires behind { 0 < len }
+    requires beyond { 0 < len }
     requires inside { D.honest → len ≤ length (slot_of (D.view disk.old).seen slot) }
     ensures cut { D.honest → OnOk result ((D.view disk.new).seen
         ≡ with_slot (D.view disk.old).seen slot (take len (slot_of (D.view disk.old).seen slot))) }

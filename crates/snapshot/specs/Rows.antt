@@ -32,7 +32,8 @@ greater k n less =
 
 is_less : (k n : ℕ) → T (is_lt (nat_cmp k n)) → k < n
 is_less k n less =
-    elim (nat_lt k n) as (λ (b : Bool). nat_lt k n ≡ b → T (is_lt (cond b Less (cond (k == n) Equal Greater))) → k < n) [
+    elim (nat_lt k n) as (λ (b : Bool). nat_lt k n ≡ b → T (is_lt (cond b Less (cond (k == n) Equal Greater)))
+    → k < n) [
       | true ↦ λ (is : _) (_ : _). ltb-true k n is
       | false ↦ λ (_ : _) (e : _). absurd (tie (k == n) e)
     ] refl less

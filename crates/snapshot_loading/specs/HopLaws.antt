@@ -45,7 +45,8 @@ module _ (state : State) (f : ℕ → Option ℕ) (only : OnlyLive state f) wher
             | false ↦ λ (more : _). elim (nat_lt q (serial + 1))
                 as (λ (b : Bool). nat_lt q (serial + 1) ≡ b → None ≡ cond b (f q) None) [
                   | true ↦ λ (under : _). sym (only q
-                      (ap is_some (is.2 q (ltb-false q at more) (strictly q serial apart (ltb-true q (serial + 1) under)))))
+                      (ap is_some (is.2 q (ltb-false q at more) (strictly q serial apart
+                      (ltb-true q (serial + 1) under)))))
                   | false ↦ λ (_ : _). refl
                 ] refl
           ] refl

@@ -25,32 +25,32 @@ kinds_is : (item : Item) → is_port_item item ≡ true
     → kinds_of_item item ≡ replicate item.number (kind_of_number item.type_name)
 kinds_is item port = ap (λ (b : Bool). if b then replicate item.number (kind_of_number item.type_name) else []) port
 
-pub kinds_front : (item : Item) (rights front behind : List CarriedRight) → is_port_item item ≡ true
-    → rights ≡ front ++ behind → length front ≡ item.number
+pub kinds_front : (item : Item) (rights front beyond : List CarriedRight) → is_port_item item ≡ true
+    → rights ≡ front ++ beyond → length front ≡ item.number
     → All (λ (right : CarriedRight). right.kind ≡ kind_of_number item.type_name) front
-    → map carried_kind rights ≡ kinds_of_item item ++ map carried_kind behind
-kinds_front item rights front behind port is long all =
-    ap (map carried_kind) is ∙ map-append carried_kind front behind
-    ∙ ap (λ (kinds : List RightKind). kinds ++ map carried_kind behind)
+    → map carried_kind rights ≡ kinds_of_item item ++ map carried_kind beyond
+kinds_front item rights front beyond port is long all =
+    ap (map carried_kind) is ∙ map-append carried_kind front beyond
+    ∙ ap (λ (kinds : List RightKind). kinds ++ map carried_kind beyond)
     (all_replicate (kind_of_number item.type_name) front all ∙ ap
     (λ (n : ℕ). replicate n (kind_of_number item.type_name)) long ∙ sym (kinds_is item port))
 
-front_all : (what : RightKind) (front behind : List CarriedRight) (more : List RightKind)
-    → map carried_kind (front ++ behind) ≡ replicate (length front) what ++ more
+front_all : (what : RightKind) (front beyond : List CarriedRight) (more : List RightKind)
+    → map carried_kind (front ++ beyond) ≡ replicate (length front) what ++ more
     → All (λ (right : CarriedRight). right.kind ≡ what) front
-front_all what [] behind more is = All-nil (λ (right : CarriedRight). right.kind ≡ what)
-front_all what (right ∷ front) behind more is =
+front_all what [] beyond more is = All-nil (λ (right : CarriedRight). right.kind ≡ what)
+front_all what (right ∷ front) beyond more is =
     All-cons (λ (right : CarriedRight). right.kind ≡ what) right front
-    (same_head right.kind what (map carried_kind (front ++ behind)) (replicate (length front) what ++ more) is)
-    (front_all what front behind more
-    (same_tail right.kind what (map carried_kind (front ++ behind)) (replicate (length front) what ++ more) is))
+    (same_head right.kind what (map carried_kind (front ++ beyond)) (replicate (length front) what ++ more) is)
+    (front_all what front beyond more
+    (same_tail right.kind what (map carried_kind (front ++ beyond)) (replicate (length front) what ++ more) is))
 
-pub kinds_all : (item : Item) (rights front behind : List CarriedRight) (more : List RightKind)
-    → is_port_item item ≡ true → rights ≡ front ++ behind → length front ≡ item.number
+pub kinds_all : (item : Item) (rights front beyond : List CarriedRight) (more : List RightKind)
+    → is_port_item item ≡ true → rights ≡ front ++ beyond → length front ≡ item.number
     → map carried_kind rights ≡ kinds_of_item item ++ more
     → All (λ (right : CarriedRight). right.kind ≡ kind_of_number item.type_name) front
-kinds_all item rights front behind more port is long same =
-    front_all (kind_of_number item.type_name) front behind more
+kinds_all item rights front beyond more port is long same =
+    front_all (kind_of_number item.type_name) front beyond more
     (ap (map carried_kind) (sym is) ∙ same ∙ ap
     (λ (kinds : List RightKind). kinds ++ more)
     (kinds_is item port ∙ ap (λ (n : ℕ). replicate n (kind_of_number item.type_name)) (sym long)))
@@ -61,11 +61,11 @@ pub read_cons : {A : Type 0} (xs : List A) (i : ℕ) (x : A) → i < length xs �
 read_cons xs i x less is = drop-cons xs i x less ∙ (λ t. sym is t ∷ drop (sym (add-one i) t) xs)
 
 -- the kinds of one more item
-pub kinds_step : {W : Type 0} (items others : List Item) (item : Item) (kinds behind : List RightKind)
-    → items ≡ item ∷ others → kinds ≡ kinds_of_item item ++ behind → W ↔ HasKinds items kinds
-    → W ↔ HasKinds others behind
-kinds_step items others item kinds behind is begin same = (
-  (λ w. append_cancel_left (kinds_of_item item) behind (flat_map kinds_of_item others)
+pub kinds_step : {W : Type 0} (items others : List Item) (item : Item) (kinds beyond : List RightKind)
+    → items ≡ item ∷ others → kinds ≡ kinds_of_item item ++ beyond → W ↔ HasKinds items kinds
+    → W ↔ HasKinds others beyond
+kinds_step items others item kinds beyond is begin same = (
+  (λ w. append_cancel_left (kinds_of_item item) beyond (flat_map kinds_of_item others)
       (sym begin ∙ same.0 w ∙ ap (flat_map kinds_of_item) is)),
   (λ has. same.1 (begin ∙ ap (λ (rest : List RightKind). kinds_of_item item ++ rest) has ∙ sym
       (ap (flat_map kinds_of_item) is))),

@@ -107,16 +107,16 @@ module _ (snapshot : Snapshot) (shape : IsShaped snapshot) where
   }
 
 -- the outcome of filling says whether the snapshot is lawful
-pub told : (answer : Result Bool AllocError) (outcome : Result (Unit {0}) SnapshotFault) (L : Type 0)
+pub reported : (answer : Result Bool AllocError) (outcome : Result (Unit {0}) SnapshotFault) (L : Type 0)
     → IfOk answer (λ yes. IsTrue yes → IsOk outcome) → IfOk answer (λ yes. yes ≡ false → IsErrOf outcome NotLawful)
     → (IsOk outcome → L) → (IsErrOf outcome NotLawful → L → ⊥) → IfOk answer (λ yes. IsTrue yes ↔ L)
-told (Ok true) outcome L first second is isnt = (λ _. is (first refl), λ _. refl)
-told (Ok false) outcome L first second is isnt = (λ e. absurd (cc e), λ lawful. absurd (isnt (second refl) lawful))
-told (Err e) outcome L first second is isnt = tt
+reported (Ok true) outcome L first second is isnt = (λ _. is (first refl), λ _. refl)
+reported (Ok false) outcome L first second is isnt = (λ e. absurd (cc e), λ lawful. absurd (isnt (second refl) lawful))
+reported (Err e) outcome L first second is isnt = tt
 
-pub all_told : (outcome : Result (Unit {0}) SnapshotFault) (snapshot : Snapshot) (state : State)
+pub all_reported : (outcome : Result (Unit {0}) SnapshotFault) (snapshot : Snapshot) (state : State)
     → OnOk outcome ((snapshot ≡ snapshot_of state) × Lawful state × Acyclic state × ShortQueues state) → IsOk outcome
     → IsLawfulSnapshot snapshot
-all_told (Ok done) snapshot state filled is =
+all_reported (Ok done) snapshot state filled is =
     record { state = state; same = filled.0; lawful = filled.1; acyclic = filled.2; short = filled.3 }
-all_told (Err e) snapshot state filled is = absurd (cc is)
+all_reported (Err e) snapshot state filled is = absurd (cc is)

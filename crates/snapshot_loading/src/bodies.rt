@@ -118,10 +118,10 @@ fn have_kinds(items: &[Item<'_>], rights: &[CarriedRight]) -> bool
 {
     let mut rest = rights;
     for item in items {
-        let Some(behind) = after_kinds(item, rest) else {
+        let Some(beyond) = after_kinds(item, rest) else {
             return false;
         };
-        rest = behind;
+        rest = beyond;
     }
     rest.is_empty()
 }
@@ -130,7 +130,7 @@ fn have_kinds(items: &[Item<'_>], rights: &[CarriedRight]) -> bool
 fn after_kinds<'a>(item: &Item<'_>, rights: &'a [CarriedRight]) -> Option<&'a [CarriedRight]>
     ensures { MatchOption result
         ((more : List Kind) → map carried_kind rights.now ≡ kinds_of_item (item_value item.now) ++ more → ⊥)
-        (λ behind. map carried_kind rights.now ≡ kinds_of_item (item_value item.now) ++ map carried_kind behind.now) }
+        (λ beyond. map carried_kind rights.now ≡ kinds_of_item (item_value item.now) ++ map carried_kind beyond.now) }
 {
     if !item.is_port() {
         return Some(rights);
@@ -139,9 +139,9 @@ fn after_kinds<'a>(item: &Item<'_>, rights: &'a [CarriedRight]) -> Option<&'a [C
     if rights.len() < count {
         return None;
     }
-    let (front, behind) = rights.split_at(count);
+    let (front, beyond) = rights.split_at(count);
     if are_all(front, kind_of(item.type_name)) {
-        Some(behind)
+        Some(beyond)
     } else {
         None
     }

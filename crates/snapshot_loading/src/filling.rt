@@ -19,9 +19,9 @@ pub(crate) fn open_ports(state: &mut IpcState, rows: &[LivePort]) -> Result<(), 
     ensures { OnOk result (state.new.current ≡ opened_all rows.now state.old.current) }
 {
     let mut rest = rows;
-    while let Some((row, behind)) = rest.split_first() {
+    while let Some((row, beyond)) = rest.split_first() {
         open_port(state, row)?;
-        rest = behind;
+        rest = beyond;
     }
     Ok(())
 }
@@ -58,9 +58,9 @@ pub(crate) fn fill_spaces(state: &mut IpcState, rows: &[Space]) -> Result<(), Al
     ensures { OnOk result (state.new.current ≡ spaced_all rows.now state.old.current) }
 {
     let mut rest = rows;
-    while let Some((row, behind)) = rest.split_first() {
+    while let Some((row, beyond)) = rest.split_first() {
         fill_space(state, row)?;
-        rest = behind;
+        rest = beyond;
     }
     Ok(())
 }
@@ -78,9 +78,9 @@ fn put_names(state: &mut IpcState, space: u32, rows: &[NamedEntry]) -> Result<()
     ensures { OnOk result (state.new.current ≡ named_all space rows.now state.old.current) }
 {
     let mut rest = rows;
-    while let Some((row, behind)) = rest.split_first() {
+    while let Some((row, beyond)) = rest.split_first() {
         state.put_name(space, row.name, row.entry)?;
-        rest = behind;
+        rest = beyond;
     }
     Ok(())
 }
@@ -95,9 +95,9 @@ pub(crate) fn fill_queues(
     ensures { OnOk result (state.new.current ≡ filled_all rows.now state.old.current) }
 {
     let mut rest = rows;
-    while let Some((row, behind)) = rest.split_first() {
+    while let Some((row, beyond)) = rest.split_first() {
         queue_messages(alloc, state, row.serial, row.state.messages.as_slice())?;
-        rest = behind;
+        rest = beyond;
     }
     Ok(())
 }
@@ -113,9 +113,9 @@ fn queue_messages(
     ensures { OnOk result (state.new.current ≡ queued_all serial messages.now state.old.current) }
 {
     let mut rest = messages;
-    while let Some((message, behind)) = rest.split_first() {
+    while let Some((message, beyond)) = rest.split_first() {
         state.queue_message(serial, copy_of(alloc, message)?)?;
-        rest = behind;
+        rest = beyond;
     }
     Ok(())
 }

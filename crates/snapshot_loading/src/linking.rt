@@ -22,11 +22,11 @@ fn are_linked_spaces(state: &IpcState, rows: &[Space]) -> bool
     ensures { result ≡ list_all (is_linked_space (looks_of state.now.current)) rows.now }
 {
     let mut rest = rows;
-    while let Some((row, behind)) = rest.split_first() {
+    while let Some((row, beyond)) = rest.split_first() {
         if !are_linked_names(state, row.number, row.names.as_slice()) {
             return false;
         }
-        rest = behind;
+        rest = beyond;
     }
     true
 }
@@ -35,11 +35,11 @@ fn are_linked_names(state: &IpcState, space: u32, rows: &[NamedEntry]) -> bool
     ensures { result ≡ list_all (is_linked_name (looks_of state.now.current) space) rows.now }
 {
     let mut rest = rows;
-    while let Some((row, behind)) = rest.split_first() {
+    while let Some((row, beyond)) = rest.split_first() {
         if !stands_well(state, space, row.name, row.entry) {
             return false;
         }
-        rest = behind;
+        rest = beyond;
     }
     true
 }
@@ -48,11 +48,11 @@ fn are_linked_ports(state: &IpcState, rows: &[LivePort]) -> bool
     ensures { result ≡ list_all (is_linked_row (looks_of state.now.current)) rows.now }
 {
     let mut rest = rows;
-    while let Some((row, behind)) = rest.split_first() {
+    while let Some((row, beyond)) = rest.split_first() {
         if !is_linked_port(state, row) {
             return false;
         }
-        rest = behind;
+        rest = beyond;
     }
     true
 }
@@ -134,11 +134,11 @@ fn are_linked_messages(state: &IpcState, messages: &[Message]) -> bool
     ensures { result ≡ list_all (is_linked_message (looks_of state.now.current)) messages.now }
 {
     let mut rest = messages;
-    while let Some((message, behind)) = rest.split_first() {
+    while let Some((message, beyond)) = rest.split_first() {
         if !is_linked_message(state, message) {
             return false;
         }
-        rest = behind;
+        rest = beyond;
     }
     true
 }
@@ -162,11 +162,11 @@ fn travel_well(state: &IpcState, rights: &[CarriedRight]) -> bool
     ensures { result ≡ list_all (travels_well (looks_of state.now.current)) rights.now }
 {
     let mut rest = rights;
-    while let Some((right, behind)) = rest.split_first() {
+    while let Some((right, beyond)) = rest.split_first() {
         if !travels_well(state, *right) {
             return false;
         }
-        rest = behind;
+        rest = beyond;
     }
     true
 }

@@ -24,7 +24,7 @@ fn are_serials(serials: &[u64], ports: &[LivePort]) -> bool
 {
     let mut left = ports;
     let mut rest = serials;
-    while let Some((serial, behind)) = rest.split_first() {
+    while let Some((serial, beyond)) = rest.split_first() {
         let Some((port, others)) = left.split_first() else {
             return false;
         };
@@ -32,7 +32,7 @@ fn are_serials(serials: &[u64], ports: &[LivePort]) -> bool
             return false;
         }
         left = others;
-        rest = behind;
+        rest = beyond;
     }
     left.is_empty()
 }
@@ -51,9 +51,9 @@ fn add_spaces(found: &mut Vec<u64>, rows: &[Space]) -> Result<(), AllocError>
     ensures { OnOk result (found.new.items ≡ found.old.items ++ flat_map received_in rows.now) }
 {
     let mut rest = rows;
-    while let Some((row, behind)) = rest.split_first() {
+    while let Some((row, beyond)) = rest.split_first() {
         add_names(found, row.names.as_slice())?;
-        rest = behind;
+        rest = beyond;
     }
     Ok(())
 }
@@ -62,9 +62,9 @@ fn add_names(found: &mut Vec<u64>, rows: &[NamedEntry]) -> Result<(), AllocError
     ensures { OnOk result (found.new.items ≡ found.old.items ++ flat_map received_under rows.now) }
 {
     let mut rest = rows;
-    while let Some((row, behind)) = rest.split_first() {
+    while let Some((row, beyond)) = rest.split_first() {
         add_entry(found, row)?;
-        rest = behind;
+        rest = beyond;
     }
     Ok(())
 }
@@ -82,9 +82,9 @@ fn add_ports(found: &mut Vec<u64>, rows: &[LivePort]) -> Result<(), AllocError>
     ensures { OnOk result (found.new.items ≡ found.old.items ++ flat_map received_at rows.now) }
 {
     let mut rest = rows;
-    while let Some((row, behind)) = rest.split_first() {
+    while let Some((row, beyond)) = rest.split_first() {
         add_messages(found, row.state.messages.as_slice())?;
-        rest = behind;
+        rest = beyond;
     }
     Ok(())
 }
@@ -93,9 +93,9 @@ fn add_messages(found: &mut Vec<u64>, messages: &[Message]) -> Result<(), AllocE
     ensures { OnOk result (found.new.items ≡ found.old.items ++ flat_map received_with messages.now) }
 {
     let mut rest = messages;
-    while let Some((message, behind)) = rest.split_first() {
+    while let Some((message, beyond)) = rest.split_first() {
         add_rights(found, message.rights.as_slice())?;
-        rest = behind;
+        rest = beyond;
     }
     Ok(())
 }
@@ -104,9 +104,9 @@ fn add_rights(found: &mut Vec<u64>, rights: &[CarriedRight]) -> Result<(), Alloc
     ensures { OnOk result (found.new.items ≡ found.old.items ++ flat_map received_by rights.now) }
 {
     let mut rest = rights;
-    while let Some((right, behind)) = rest.split_first() {
+    while let Some((right, beyond)) = rest.split_first() {
         add_right(found, *right)?;
-        rest = behind;
+        rest = beyond;
     }
     Ok(())
 }

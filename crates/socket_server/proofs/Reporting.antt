@@ -6,9 +6,9 @@ use Rattle.store_fault.specs.declared.fault.StoreFault.TheVariants.{NoMemory}
 use Rattle.server.specs.declared.ending.SocketEnd.{SocketEnd}
 use Rattle.server.specs.declared.ending.SocketEnd.TheVariants.{Socket, Store}
 
-pub nothing_told : (known : Option (List ℕ)) (end : SocketEnd) → (end ≡ Socket) ⊎ (end ≡ Store NoMemory)
+pub nothing_reported : (known : Option (List ℕ)) (end : SocketEnd) → (end ≡ Socket) ⊎ (end ≡ Store NoMemory)
     → HasReported known known end
-nothing_told known end (inl is) =
+nothing_reported known end (inl is) =
     subst (λ (e : SocketEnd). HasReported known known e) (sym is) ([], ready_line, refl, Appends-nil known)
-nothing_told known end (inr is) =
+nothing_reported known end (inr is) =
     subst (λ (e : SocketEnd). HasReported known known e) (sym is) (inr (refl, Keeps-refl known))

@@ -39,13 +39,7 @@ pub fn serve_connection<
     C: Connection,
     I: Ahead,
     W: Write,
->(
-    rt: &R,
-    shared: &Shared<L, D, G>,
-    connection: &C,
-    reader: &mut I,
-    writer: &mut W,
-) -> ConnectionEnd
+>(rt: &R, shared: &Shared<L, D, G>, connection: &C, reader: &mut I, writer: &mut W) -> ConnectionEnd
     ensures served { IfSome (I.remaining reader.old) (λ input. IfSome (W.contents writer.old)
         (λ before. EndsConnection L.base input before (I.remaining reader.new) (W.contents writer.new) result)) }
 {

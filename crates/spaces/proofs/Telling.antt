@@ -19,11 +19,11 @@ module _ (port : ℕ) (before spaces : SpaceMap) (at : ℕ) (buried : Buried por
       ap (λ (o : Option Entry). is_number (option_and_then port_named o) port) (sym (as_before q le)) ∙ apart.0
 
   -- the notice of one place, and those of the places after it
-  pub one_told : (number next : ℕ) (effects added whole : List Effect) → AreSmall before → next ≡ number + 1
+  pub one_notified : (number next : ℕ) (effects added whole : List Effect) → AreSmall before → next ≡ number + 1
       → at ≤ number → number < 2 ^ 64 → ((q : ℕ) → at ≤ q → q < number → StandsApart port spaces q)
       → added ≡ effects ++ notice_of port spaces number → effects ++ notices_from port before at ≡ whole
       → added ++ notices_from port before next ≡ whole
-  one_told number next effects added whole small after le fits apart is had =
+  one_notified number next effects added whole small after le fits apart is had =
       ap (λ (xs : List Effect). xs ++ notices_from port before next) is
       ∙ append_assoc effects (notice_of port spaces number) (notices_from port before next)
       ∙ ap (λ (n : ℕ). effects ++ (notice_of port spaces number ++ notices_from port before n)) after
@@ -37,18 +37,18 @@ module _ (port : ℕ) (before spaces : SpaceMap) (at : ℕ) (buried : Buried por
       ∙ had
 
   -- none is left
-  pub all_told : (old effects : List Effect) → AreSmall before
+  pub all_notified : (old effects : List Effect) → AreSmall before
       → ((q : ℕ) → at ≤ q → q < 2 ^ 64 → StandsApart port spaces q)
       → effects ++ notices_from port before at ≡ old ++ notices_from port before 0
       → effects ≡ old ++ notices_from port before 0
-  all_told old effects small apart had =
+  all_notified old effects small apart had =
       sym (append-nil effects) ∙ ap (λ (xs : List Effect). effects ++ xs)
       (sym (notices_end port before small at (λ q from below. apart_before q from (apart q from below)))) ∙ had
 
 -- no place is left
-pub last_told : (port : ℕ) (before : SpaceMap) (old effects : List Effect) → AreSmall before
+pub last_notified : (port : ℕ) (before : SpaceMap) (old effects : List Effect) → AreSmall before
     → effects ++ notices_from port before (2 ^ 64) ≡ old ++ notices_from port before 0
     → effects ≡ old ++ notices_from port before 0
-last_told port before old effects small had =
+last_notified port before old effects small had =
     sym (append-nil effects) ∙ ap (λ (xs : List Effect). effects ++ xs)
     (sym (notices_end port before small (2 ^ 64) (λ q from below. absurd (omega (arith, from, below))))) ∙ had

@@ -40,7 +40,8 @@ impl Model for Spaces {
     ghost view = { λ s. s.table };
 
     ghost invariant = { λ s.
-        AreIndexed s.table.before s.indexes.sharers.before s.indexes.requesters.before s.indexes.receivers.before s.indexes.counts.before
+        AreIndexed s.table.before s.indexes.sharers.before s.indexes.requesters.before s.indexes.receivers.before
+        s.indexes.counts.before
         × AreIndexed s.table.current s.indexes.sharers.current s.indexes.requesters.current s.indexes.receivers.current
         s.indexes.counts.current
         × AreNoted s.table.before s.table.current s.indexes.changed.items };

@@ -45,7 +45,8 @@ impl Model for SpaceTable {
     ghost view = { λ t. record { before = picked was t.slots; current = picked is t.slots } };
 
     ghost invariant = { λ t.
-        AreTouched was is t.slots t.touched.items × (t.count ≡ map.len (picked is t.slots)) × (t.count_before ≡ map.len (picked was t.slots))
+        AreTouched was is t.slots t.touched.items × (t.count ≡ map.len (picked is t.slots))
+        × (t.count_before ≡ map.len (picked was t.slots))
         × AreTaken t.numbers (picked is t.slots) × AreTaken t.numbers_before (picked was t.slots) };
 }
 

@@ -175,9 +175,9 @@ module _ {D : Type 0} (honest : Type 0) (view : D → View) (base : State) where
         (fit_take keeper.stored (records_of keeper.entries) is.recorded.fit) is.recorded.lawful is.recorded.acyclic
         rest.1 kept.before
 
-    behind : (after : State) × Run kept.state records after
+    beyond : (after : State) × Run kept.state records after
         × Run after (drop load.batch.count (drop keeper.stored (records_of keeper.entries))) is.recorded.end
-    behind =
+    beyond =
         run_split kept.state is.recorded.end records
         (drop load.batch.count (drop keeper.stored (records_of keeper.entries)))
         (subst (λ (l : List Record). Run kept.state l is.recorded.end)
@@ -185,9 +185,9 @@ module _ {D : Type 0} (honest : Type 0) (view : D → View) (base : State) where
         (subst (λ (s : State). Run s (drop keeper.stored (records_of keeper.entries)) is.recorded.end) here
         rest.2))
 
-    ready : IsReadyBatch kept.state behind.0 keeper.store.segment.records records load.batch
+    ready : IsReadyBatch kept.state beyond.0 keeper.store.segment.records records load.batch
     ready = record {
-      run = behind.1;
+      run = beyond.1;
       fit =
           fit_take load.batch.count (drop keeper.stored (records_of keeper.entries))
           (fit_drop keeper.stored (records_of keeper.entries) is.recorded.fit);
@@ -201,12 +201,12 @@ module _ {D : Type 0} (honest : Type 0) (view : D → View) (base : State) where
           number is_load.holds);
     }
 
-    run_after : Run base (take (keeper.stored + load.batch.count) (records_of keeper.entries)) behind.0
+    run_after : Run base (take (keeper.stored + load.batch.count) (records_of keeper.entries)) beyond.0
     run_after =
-        subst (λ (l : List Record). Run base l behind.0)
+        subst (λ (l : List Record). Run base l beyond.0)
         (sym (take_sum keeper.stored load.batch.count (records_of keeper.entries) is.within))
-        (run_join base kept.state behind.0
-        (take keeper.stored (records_of keeper.entries)) records kept.before behind.1)
+        (run_join base kept.state beyond.0
+        (take keeper.stored (records_of keeper.entries)) records kept.before beyond.1)
 
     -- a crash while it is stored leaves the stored records, or these and all of the batch's
     pub during_append : (c : Slots)
@@ -215,9 +215,9 @@ module _ {D : Type 0} (honest : Type 0) (view : D → View) (base : State) where
         → StandsFor base keeper.stored (records_of keeper.entries) c
     during_append c mid =
         elim (append_mid (view keeper.store.disk) keeper.store.segment keeper.store.checkpoint kept.mid kept.state
-        behind.0 records load.batch kept.kept ready c mid) [
+        beyond.0 records load.batch kept.kept ready c mid) [
           | inl before ↦ kept_stands keeper is kept c before
-          | inr after ↦ (keeper.stored + load.batch.count, omega arith, enough, (behind.0, run_after, after))
+          | inr after ↦ (keeper.stored + load.batch.count, omega arith, enough, (beyond.0, run_after, after))
         ]
 
     -- and then it is kept with them
@@ -227,15 +227,15 @@ module _ {D : Type 0} (honest : Type 0) (view : D → View) (base : State) where
         → KeptAt view (record keeper.store { disk = new; segment = with_more keeper.store.segment load.batch.count })
         base (keeper.stored + load.batch.count) keeper.earlier (records_of keeper.entries)
     kept_after new written synced time = record {
-      state = behind.0;
+      state = beyond.0;
       before = run_after;
       mid = kept.mid;
       cut = kept.cut;
       kept =
           subst (λ (n : ℕ). Keeps (view new)
-          (with_more keeper.store.segment n) keeper.store.checkpoint kept.mid behind.0) long
+          (with_more keeper.store.segment n) keeper.store.checkpoint kept.mid beyond.0) long
           (append_keeps (view keeper.store.disk)
-          (view new) keeper.store.segment keeper.store.checkpoint kept.mid kept.state behind.0 records load.batch
+          (view new) keeper.store.segment keeper.store.checkpoint kept.mid kept.state beyond.0 records load.batch
           kept.kept ready written synced time);
     }
 

@@ -41,12 +41,12 @@ before_gate e old records used =
     omega (arith, ap length is, length-append front used.encoded.rest, used.ended) in
     (λ i. take (begins i) (is i)) ∙ take_at front used.encoded.rest (length front) refl
 
-other_gate : (e : ℕ) (old new : List ℕ) (records : List Record) (used : IsInUse e old records) (behind : List ℕ)
-    → new ≡ take (length old - 1) old ++ behind
-    → new ≡ segment_header open_gate e ++ (batches_encoding 0 used.encoded.batches ++ behind)
-other_gate e old new records used behind is =
-    is ∙ ap (λ l. l ++ behind) (before_gate e old records used)
-    ∙ append_assoc (segment_header open_gate e) (batches_encoding 0 used.encoded.batches) behind
+other_gate : (e : ℕ) (old new : List ℕ) (records : List Record) (used : IsInUse e old records) (beyond : List ℕ)
+    → new ≡ take (length old - 1) old ++ beyond
+    → new ≡ segment_header open_gate e ++ (batches_encoding 0 used.encoded.batches ++ beyond)
+other_gate e old new records used beyond is =
+    is ∙ ap (λ l. l ++ beyond) (before_gate e old records used)
+    ∙ append_assoc (segment_header open_gate e) (batches_encoding 0 used.encoded.batches) beyond
 
 closed_on : (rest tail : List ℕ) → length rest ≡ 1 → IsClosed rest → IsClosed (rest ++ tail)
 closed_on [] tail one closed = absurd (omega arith)
@@ -69,12 +69,12 @@ tail_encodes e old new records used tail is =
     }
 
 closed_encodes : (e : ℕ) (old new : List ℕ) (records : List Record) → IsInUse e old records
-    → (gate : ℕ) (behind : List ℕ) → gate ≢ open_gate → new ≡ take (length old - 1) old ++ (gate ∷ behind)
+    → (gate : ℕ) (beyond : List ℕ) → gate ≢ open_gate → new ≡ take (length old - 1) old ++ (gate ∷ beyond)
     → EncodesSegment e new records
-closed_encodes e old new records used gate behind closed is = record {
-  content = batches_encoding 0 used.encoded.batches ++ (gate ∷ behind);
-  encoding = other_gate e old new records used (gate ∷ behind) is;
-  encoded = other_end used.content records used.encoded (gate ∷ behind) closed;
+closed_encodes e old new records used gate beyond closed is = record {
+  content = batches_encoding 0 used.encoded.batches ++ (gate ∷ beyond);
+  encoding = other_gate e old new records used (gate ∷ beyond) is;
+  encoded = other_end used.content records used.encoded (gate ∷ beyond) closed;
 }
 
 pub in_use_with : (e : ℕ) (old : List ℕ) (records batch : List Record) → IsInUse e old records → AreRecords batch
@@ -83,10 +83,10 @@ pub in_use_with : (e : ℕ) (old : List ℕ) (records batch : List Record) → I
 unfolding batch_more
 in_use_with e old records batch used are some room =
     let encoding : List ℕ = batch_encoding (length records) batch in
-    let behind : List ℕ = open_gate ∷ (encoding ++ closed_gate ∷ []) in
+    let beyond : List ℕ = open_gate ∷ (encoding ++ closed_gate ∷ []) in
     record {
-      content = batches_encoding 0 used.encoded.batches ++ behind;
-      encoding = other_gate e old (with_batch old encoding) records used behind refl;
+      content = batches_encoding 0 used.encoded.batches ++ beyond;
+      encoding = other_gate e old (with_batch old encoding) records used beyond refl;
       encoded = batch_more used.content records used.encoded batch (closed_gate ∷ []) are some room (omega arith);
       ended = refl;
     }

@@ -72,9 +72,11 @@ module _ (s : Slots) (e : ℕ) (base : State) (first : List Record) (fits : e < 
       elim (one_of_two e number small)
       as (λ _. IsOpen image_header ((as_written s).image number)
       → IsOfEpoch number other ((as_written s).image number) → other ≤ e) [
-        | inl own ↦ subst (λ n. IsOpen image_header ((as_written s).image n) → IsOfEpoch n other ((as_written s).image n)
+        | inl own ↦ subst (λ n. IsOpen image_header ((as_written s).image n)
+            → IsOfEpoch n other ((as_written s).image n)
             → other ≤ e) (sym own) (λ (_ : _) is. latest_of_own other is)
-        | inr next ↦ subst (λ n. IsOpen image_header ((as_written s).image n) → IsOfEpoch n other ((as_written s).image n)
+        | inr next ↦ subst (λ n. IsOpen image_header ((as_written s).image n)
+            → IsOfEpoch n other ((as_written s).image n)
             → other ≤ e) (sym next) (latest_of_other other)
       ]
 
@@ -87,9 +89,11 @@ module _ (s : Slots) (e : ℕ) (base : State) (first : List Record) (fits : e < 
       as (λ _. HasHeader image_header number ((as_written s).image number)
       × HasHeader segment_header_length number ((as_written s).segment number)) [
         | inl own ↦ subst (λ n. HasHeader image_header n ((as_written s).image n)
-            × HasHeader segment_header_length n ((as_written s).segment n)) (sym own) (own_image_header, own_segment_header)
+            × HasHeader segment_header_length n ((as_written s).segment n)) (sym own)
+            (own_image_header, own_segment_header)
         | inr next ↦ subst (λ n. HasHeader image_header n ((as_written s).image n)
-            × HasHeader segment_header_length n ((as_written s).segment n)) (sym next) (other_image_header, other_segment)
+            × HasHeader segment_header_length n ((as_written s).segment n)) (sym next)
+            (other_image_header, other_segment)
       ]
 
   pub encoded_with : (next : List Record)

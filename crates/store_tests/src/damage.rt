@@ -81,13 +81,13 @@ static PASSED_OVER: [Row; 14] = [
         FIVE,
     ),
     (
-        "the newest image has bytes behind its text",
+        "the newest image has bytes beyond its text",
         BOTH,
         &[(Slot::Image1, Bend::Length(200))],
         FIVE,
     ),
     (
-        "the newest segment has bytes behind its last gate",
+        "the newest segment has bytes beyond its last gate",
         BOTH,
         &[(Slot::Segment1, Bend::Length(200))],
         FIVE,
@@ -470,7 +470,7 @@ static HEADERS: [Row; 20] = [
         VERSION,
     ),
     (
-        "a version is 2, and a byte behind it isn't zero",
+        "a version is 2, and a byte beyond it isn't zero",
         BOTH,
         &[
             (Slot::Segment1, Bend::Byte(1, 2)),

@@ -46,16 +46,16 @@ fn half_done<S: Store + Drop>(alloc: Global) -> Option<S> {
 }
 
 // An epoch, and how many records are reported for it.
-type Told = Result<(u64, u64), StoreFault>;
+type Reported = Result<(u64, u64), StoreFault>;
 
 // What a look reports of a store: the epoch of its image, and its records.
-fn look_at<D: Disk>(alloc: Global, disk: &mut D) -> Told {
+fn look_at<D: Disk>(alloc: Global, disk: &mut D) -> Reported {
     let (epoch, records, _, _) = looked(alloc, disk)?;
     Ok((epoch, records))
 }
 
 // What is reported of a store whose checkpoint was half done: by a look, by its opening, and by a look after that.
-fn told_of_half_done<S: Store + Drop>(alloc: Global) -> Option<(Told, Found, Told)> {
+fn reported_of_half_done<S: Store + Drop>(alloc: Global) -> Option<(Reported, Found, Reported)> {
     let mut disk = half_done::<S>(alloc)?;
     let first = look_at(alloc, &mut disk);
     let (found, mut disk) = reopened(alloc, disk);
@@ -66,9 +66,9 @@ fn told_of_half_done<S: Store + Drop>(alloc: Global) -> Option<(Told, Found, Tol
 // then.
 #[test]
 fn checkpoints_are_finished(rt: HostRuntime) {
-    let told = told_of_half_done::<MemDisk>(rt.alloc());
+    let reported = reported_of_half_done::<MemDisk>(rt.alloc());
     let found = Ok((1, 1, [true, true, false, false]));
-    same(&rt, told, Some((Ok((0, 2)), found, Ok((1, 1)))));
+    same(&rt, reported, Some((Ok((0, 2)), found, Ok((1, 1)))));
 }
 
 // The slots of an epoch and of the next one, each whole: the image of the first has no name, its segment allocates

@@ -176,9 +176,9 @@ fn pieces_of_any_size(rt: HostRuntime) {
 }
 
 // Whether a fault is reported in these words.
-fn is_told(alloc: Global, fault: StoreFault, words: &str) -> Option<bool> {
-    let told = format!(in alloc; "{fault}").ok()?;
-    Some(told.as_str() == words)
+fn is_reported(alloc: Global, fault: StoreFault, words: &str) -> Option<bool> {
+    let reported = format!(in alloc; "{fault}").ok()?;
+    Some(reported.as_str() == words)
 }
 
 static FAULTS: [(StoreFault, u8, &'static str); 6] = [
@@ -193,11 +193,11 @@ static FAULTS: [(StoreFault, u8, &'static str); 6] = [
 #[test]
 fn names_of_faults(rt: HostRuntime) {
     for (fault, number, words) in &FAULTS {
-        let is_told = is_told(rt.alloc(), *fault, words);
+        let is_reported = is_reported(rt.alloc(), *fault, words);
         same_in_row(
             &rt,
             *words,
-            (fault.number(), is_told),
+            (fault.number(), is_reported),
             (*number, Some(true)),
         );
     }

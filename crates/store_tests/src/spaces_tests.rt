@@ -97,7 +97,7 @@ fn next_notice(effects: &mut Effects) -> NoticeSeen {
 }
 
 /// The dead-name notices for port 7 when it dies, in their order.
-fn told(spaces: &mut Spaces, effects: &mut Effects) -> Option<[NoticeSeen; 4]> {
+fn reported(spaces: &mut Spaces, effects: &mut Effects) -> Option<[NoticeSeen; 4]> {
     spaces.bury(7, effects).ok()?;
     Some([
         next_notice(effects),
@@ -110,7 +110,7 @@ fn told(spaces: &mut Spaces, effects: &mut Effects) -> Option<[NoticeSeen; 4]> {
 fn notices(alloc: Global, spaces: &mut Spaces) -> ([Option<()>; 5], Option<[NoticeSeen; 4]>) {
     let filled = fill(spaces);
     let mut effects = Effects::new(alloc);
-    let seen = told(spaces, &mut effects);
+    let seen = reported(spaces, &mut effects);
     drop(effects);
     (filled, seen)
 }

@@ -26,7 +26,7 @@ use Rattle.system.specs.Halves.{TakenValue}
 use Rattle.system.proofs.Between.{batch_is_out, none_to_append, one_more_receipt, some_is}
 use Rattle.system.proofs.Lists.{drop_long, drop_sum, take_long, take_sum}
 use Rattle.system.proofs.Logs.{are_drop, are_take, fit_drop, fit_take}
-use Rattle.system.proofs.Simulation.{Shows, from_stored, from_told, shows_device, stored_within, unfailed_first, unmoved}
+use Rattle.system.proofs.Simulation.{Shows, from_stored, from_acknowledged, shows_device, stored_within, unfailed_first, unmoved}
 
 -- which segment is in use, by cases
 pub used : (epoch opened earlier stored older : ℕ) (segment : Segment) (checkpoint : Option CheckpointValue)
@@ -316,7 +316,7 @@ module _ {D : Type 0} (honest : Type 0) (view : D → View) (base : State) where
             let kept = stands.kept is_honest unfailed in
             passes_as (view old.store.disk) (view new.store.disk) _ (StandsFrom base (acknowledged w) w2)
             (stores.passes is_honest (synced w old kept))
-            (λ c mid. from_told honest view base w old stands c (during w old taken stands is kept c mid));
+            (λ c mid. from_acknowledged honest view base w old stands c (during w old taken stands is kept c mid));
       }
 
   pub shows_append_fails : (w : World) (old new : SystemValue D) → StandsFor honest view base w old

@@ -27,7 +27,7 @@ use Rattle.system.specs.Halves.{CanCut, Cuts, KernelValue, next_log}
 use Rattle.system.proofs.Between.{between_with, handed_within, one_finished_more, some_is}
 use Rattle.system.proofs.Lists.{take_end, take_long}
 use Rattle.system.proofs.Logs.{drop_past, fit_take, holds_as, holds_none}
-use Rattle.system.proofs.Simulation.{Shows, and_false, from_stored, from_told, shows_device, shows_failed, shown, unfailed_first, unmoved}
+use Rattle.system.proofs.Simulation.{Shows, and_false, from_stored, from_acknowledged, shows_device, shows_failed, shown, unfailed_first, unmoved}
 
 -- The abstract specification's checkpoint, and the store's.
 
@@ -160,7 +160,7 @@ module _ {D : Type 0} (honest : Type 0) (view : D → View) (base : State) where
         (StandsFrom base (acknowledged w) (record w { checkpoint = Some written }))) (sym rest)
         (passes_as (view old.store.disk) (view store.disk)
         (λ c. Recovered (as_written c) kept.state) (StandsFrom base (acknowledged w) w) (passes kept is_honest)
-        (λ c recovered. from_told honest view base w old stands c
+        (λ c recovered. from_acknowledged honest view base w old stands c
         (from_stored honest view base w old stands kept c recovered)));
   }
 
@@ -520,7 +520,7 @@ module _ {D : Type 0} (honest : Type 0) (view : D → View) (base : State) where
             passes_as (view old.store.disk) (view new.store.disk)
             (λ c. Recovered (as_written c) kept.state) (StandsFrom base (acknowledged w) w2)
             (finish_passes honest view is_honest old.store new.store kept.mid kept.state kept.kept done)
-            (λ c recovered. from_told honest view base w old stands c
+            (λ c recovered. from_acknowledged honest view base w old stands c
             (from_stored honest view base w old stands kept c recovered));
       }
 

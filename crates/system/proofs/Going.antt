@@ -159,7 +159,11 @@ module _ {D : Type 0} (honest : Type 0) (view : D → View) where
       ⊎ ((fault ≡ NoMemory) × (new ≡ old))) [
         | inl known ↦
             let now = device old new fault (FailsToCloseImage honest view old new) unfailed known in
-            inl (now.0, λ mid state is_honest kept. image_close_fails honest view is_honest old new mid state kept now.1)
+            inl (
+              now.0,
+              λ mid state is_honest kept. image_close_fails honest view is_honest old new mid state kept
+                  now.1,
+            )
         | inr short ↦ inr (short.0, short.3)
       ]
 

@@ -57,8 +57,9 @@ unanswered_is t true ticket fresh is = absurd (cc is)
 unanswered_is t false ticket fresh is = (t, refl, fresh, sym (some_is _ ticket (some_is _ (Some ticket) is)))
 
 module _ {D : Type 0} (honest : Type 0) (view : D → View) (base : State) where
-  told_least : (w : World) (system : SystemValue D) → StandsFor honest view base w system → acknowledged w ≤ w.stored
-  told_least w system stands =
+  acknowledged_least : (w : World) (system : SystemValue D) → StandsFor honest view base w system
+      → acknowledged w ≤ w.stored
+  acknowledged_least w system stands =
       less_equal w.stored (greatest_seen w.tickets) w.stored (omega arith)
       (omega (
         arith,
@@ -87,9 +88,10 @@ module _ {D : Type 0} (honest : Type 0) (view : D → View) (base : State) where
       → StandsFrom base less w c
   from_less w least less c le from = (from.0, omega (arith, le, from.1), from.2, from.3)
 
-  pub from_told : (w : World) (system : SystemValue D) → StandsFor honest view base w system → (c : Slots)
+  pub from_acknowledged : (w : World) (system : SystemValue D) → StandsFor honest view base w system → (c : Slots)
       → StandsFrom base w.stored w c → StandsFrom base (acknowledged w) w c
-  from_told w system stands c from = from_less w w.stored (acknowledged w) c (told_least w system stands) from
+  from_acknowledged w system stands c from =
+      from_less w w.stored (acknowledged w) c (acknowledged_least w system stands) from
 
   -- a crash while nothing happens leaves no fewer records than were acknowledged
   pub left_stored : (w : World) (system : SystemValue D) → StandsFor honest view base w system → honest → (c : Slots)
@@ -104,9 +106,11 @@ module _ {D : Type 0} (honest : Type 0) (view : D → View) (base : State) where
             kept.kept c may)
       ] refl
 
-  pub left_told : (w : World) (system : SystemValue D) → StandsFor honest view base w system → honest → (c : Slots)
+  pub left_acknowledged : (w : World) (system : SystemValue D) → StandsFor honest view base w system → honest
+      → (c : Slots)
       → MayLeave (view system.store.disk) c → StandsFrom base (acknowledged w) w c
-  left_told w system stands is_honest c may = from_told w system stands c (left_stored w system stands is_honest c may)
+  left_acknowledged w system stands is_honest c may =
+      from_acknowledged w system stands c (left_stored w system stands is_honest c may)
 
   -- What an event is shown to have done.
   pub record Shows (w : World) (event : world.Event) (outcome : world.Outcome) (old new : SystemValue D) : Type 0 where
@@ -364,10 +368,10 @@ module _ {D : Type 0} (honest : Type 0) (view : D → View) (base : State) where
       let counted : taken.batch.count ≡ size =
       ap (λ (b : BatchValue). b.count) batch ∙ stands.waits.before_is.counted
       ∙ drop_long w.taken (take w.earlier w.applied) ∙ ap (λ (n : ℕ). n - w.taken) front in
-      let behind : w.taken < w.earlier = omega (arith, some, counted) in
-      let sum : w.taken + size ≡ w.earlier = omega (arith, behind) in
+      let beyond : w.taken < w.earlier = omega (arith, some, counted) in
+      let sum : w.taken + size ≡ w.earlier = omega (arith, beyond) in
       let number : taken.epoch ≡ w.epoch - 1 = omega (arith, epoch, stands.epoch) in
-      let is_after_now : nat_lt w.taken w.earlier ≡ true = lt-ltb w.taken w.earlier behind in
+      let is_after_now : nat_lt w.taken w.earlier ≡ true = lt-ltb w.taken w.earlier beyond in
       let next : after_take w ≡ with_out w taken.epoch size =
       ap (λ (b : Bool). let batch : world.Batch = (if b
       then record { epoch = w.epoch - 1; size = size; appended = false }
@@ -379,12 +383,12 @@ module _ {D : Type 0} (honest : Type 0) (view : D → View) (base : State) where
       (λ (n : ℕ). take size (drop n w.applied)) nothing.0.taken_is in
       let none_left : drop (w.taken + size) (take w.earlier w.applied) ≡ [] =
       drop_at_end (w.taken + size) (take w.earlier w.applied) (sum ∙ sym front) in
-      let most : max (w.taken + size) w.earlier ≡ max w.taken w.earlier = omega (arith, sum, behind) in
+      let most : max (w.taken + size) w.earlier ≡ max w.taken w.earlier = omega (arith, sum, beyond) in
       shown w (with_out w taken.epoch size) world.take_batch world.done old new
       (record old { core = new.core; out = Some taken })
-      (and_false w.failed, (omega (arith, behind, stands.counts.earlier_within), nothing.0.batch_is), sym next) rest
+      (and_false w.failed, (omega (arith, beyond, stands.counts.earlier_within), nothing.0.batch_is), sym next) rest
       refl
-      (taken_stands w old taken new.core size stands nothing.0 nothing.2 (omega (arith, behind))
+      (taken_stands w old taken new.core size stands nothing.0 nothing.2 (omega (arith, beyond))
       (core ∙ ap (λ (k : KernelValue). record old.core
       { older = k.older; log = record old.core.log { waiting = k.log.waiting }; is_out = true }) (sym core))
       (omega (arith, sum, stands.counts.earlier_within))
@@ -718,7 +722,7 @@ module _ {D : Type 0} (honest : Type 0) (view : D → View) (base : State) where
     });
     passes =
         λ is_honest. passes_as (view old.store.disk) (view new.store.disk) (StandsFrom base w.stored w)
-        (StandsFrom base (acknowledged w) w) (time is_honest) (λ c from. from_told w old stands c from);
+        (StandsFrom base (acknowledged w) w) (time is_honest) (λ c from. from_acknowledged w old stands c from);
   }
 
   -- the device failed in an earlier event, and the event answers that
@@ -738,5 +742,5 @@ module _ {D : Type 0} (honest : Type 0) (view : D → View) (base : State) where
     after = shows.after;
     stands = shows.stands;
     passes = shows.passes;
-    left = left_told shows.next new shows.stands;
+    left = left_acknowledged shows.next new shows.stands;
   }

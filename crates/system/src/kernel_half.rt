@@ -94,7 +94,8 @@ impl Model for KernelHalf {
     } };
 
     // If records of the previous epoch wait, this epoch isn't the first.
-    ghost invariant = { λ k. (k.handed ≤ k.log.made) × (k.log.made < 2 ^ 64) × IfSome k.spare (λ batch. batch ≡ empty_batch)
+    ghost invariant = { λ k. (k.handed ≤ k.log.made) × (k.log.made < 2 ^ 64)
+        × IfSome k.spare (λ batch. batch ≡ empty_batch)
         × (0 < k.older.count → 0 < k.epoch) };
 }
 

@@ -328,7 +328,8 @@ impl<D: Disk> System<D> {
     /// Whether there is a ticket with this number, and all that it saw is stored.
     fn is_due(&self, number: u64) -> bool
         ensures { MatchBool result
-            ((ticket : TicketValue) × (map.get self.now.tickets.kept number ≡ Some (Some ticket)) × (ticket.seen ≤ self.now.core.handed))
+            ((ticket : TicketValue) × (map.get self.now.tickets.kept number ≡ Some (Some ticket))
+            × (ticket.seen ≤ self.now.core.handed))
             (IsNotDue self.now number) }
     {
         let Some(ticket) = self.tickets.get(number) else {

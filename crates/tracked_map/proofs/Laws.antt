@@ -415,7 +415,7 @@ module _ {X : Type 0} where
   passed_more slots from at next passed none key le below =
       elim (nat_lt key at) as (λ (b : Bool). nat_lt key at ≡ b → get (shown slots) key ≡ None) [
         | true ↦ λ (before : _). passed key le (ltb-true key at before)
-        | false ↦ λ (behind : _). unseen_where slots key (none key (ltb-false key at behind) below)
+        | false ↦ λ (beyond : _). unseen_where slots key (none key (ltb-false key at beyond) below)
       ] refl
 
   -- a slot without a value is passed over
@@ -425,8 +425,8 @@ module _ {X : Type 0} where
   passed_mark slots from at slot is none passed key le below =
       elim (nat_lt key at) as (λ (b : Bool). nat_lt key at ≡ b → get (shown slots) key ≡ None) [
         | true ↦ λ (before : _). passed key le (ltb-true key at before)
-        | false ↦ λ (behind : _).
-            let same : key ≡ at = omega (arith, ltb-false key at behind, below) in
+        | false ↦ λ (beyond : _).
+            let same : key ≡ at = omega (arith, ltb-false key at beyond, below) in
             ap (get (shown slots)) same ∙ get_shown slots at ∙ ap option_flatten is ∙ no_value slot none
       ] refl
     where

@@ -42,11 +42,11 @@ pub one_filled : (all : Result (List ℕ) KernReturn) (bytes rest encoding added
     → first_failing (tests_of_item bytes) ≡ None
     → item ≡ front_item bytes → rest ≡ following_item bytes → added ≡ encoding ++ item_encoding (filled_item item names)
     → left ≡ names_after item names → all ≡ with_filled added (items_of rest) left
-one_filled all bytes rest encoding added names left item before some passes is behind adds leaves =
+one_filled all bytes rest encoding added names left item before some passes is beyond adds leaves =
     before ∙ ap (λ (r : Result (List Item) KernReturn). with_filled encoding r names)
     (one_item bytes (some_left bytes some) passes)
     ∙ filled_more encoding (front_item bytes) (items_of (following_item bytes)) names
-    ∙ (λ i. with_filled (encoding ++ item_encoding (filled_item (sym is i) names)) (items_of (sym behind i))
+    ∙ (λ i. with_filled (encoding ++ item_encoding (filled_item (sym is i) names)) (items_of (sym beyond i))
     (names_after (sym is i) names))
     ∙ (λ i. with_filled (sym adds i) (items_of rest) (sym leaves i))
 

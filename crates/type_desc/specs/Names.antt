@@ -31,7 +31,8 @@ name_at item i less =
     elim (is_port_item item) as (λ (b : Bool). i < length (if b then words_of item.number item.content else [])
     → slice_index (if b then words_of item.number item.content else []) i
     ≡ little_number 4 (drop (4 * i) item.content)) [
-      | true ↦ λ (l : _). word_at item.number i item.content (omega (arith, l, length-words_of item.number item.content))
+      | true ↦ λ (l : _). word_at item.number i item.content
+          (omega (arith, l, length-words_of item.number item.content))
       | false ↦ λ (l : _). absurd (omega (arith, l))
     ] less
 

@@ -76,8 +76,8 @@ unfolding items_of
 one_item [] some passes = absurd (omega (arith, some))
 one_item (b ∷ bytes) some passes =
     let encoding : List ℕ = b ∷ bytes in
-    let behind : List ℕ = following_item encoding in
-    let shorter : length behind < length encoding =
+    let beyond : List ℕ = following_item encoding in
+    let shorter : length beyond < length encoding =
     omega (
       arith,
       length-drop (descriptor_length (form_of encoding) + data_length encoding (form_of encoding))
@@ -85,9 +85,9 @@ one_item (b ∷ bytes) some passes =
       at_least_four (form_of encoding),
     ) in
     passes_on (tests_of_item encoding)
-    (and_then (items_within (length bytes) behind) (λ items. Ok (front_item encoding ∷ items))) passes
+    (and_then (items_within (length bytes) beyond) (λ items. Ok (front_item encoding ∷ items))) passes
     ∙ ap (λ (r : Result (List Item) KernReturn). and_then r (λ items. Ok (front_item encoding ∷ items)))
-    (same_within (length bytes) (length behind) behind (omega (arith, shorter)) (omega arith))
+    (same_within (length bytes) (length beyond) beyond (omega (arith, shorter)) (omega arith))
 
 -- If it fails one, there are none.
 pub no_item : (bytes : List ℕ) (code : KernReturn) → 0 < length bytes → first_failing (tests_of_item bytes) ≡ Some code
@@ -124,10 +124,10 @@ pub one_more : (body bytes rest : List ℕ) (front : List Item) (item : Item)
     → first_failing (tests_of_item bytes) ≡ None
     → item ≡ front_item bytes → rest ≡ following_item bytes
     → items_of body ≡ with_front (front ++ item ∷ []) (items_of rest)
-one_more body bytes rest front item before left passes is behind =
+one_more body bytes rest front item before left passes is beyond =
     before ∙ ap (with_front front) (one_item bytes (some_left bytes left) passes)
     ∙ front_more front (front_item bytes) (items_of (following_item bytes)) ∙
-    (λ i. with_front (front ++ sym is i ∷ []) (items_of (sym behind i)))
+    (λ i. with_front (front ++ sym is i ∷ []) (items_of (sym beyond i)))
 
 -- Nothing is left.
 pub all_read : (body bytes : List ℕ) (front : List Item) → items_of body ≡ with_front front (items_of bytes)

@@ -28,9 +28,9 @@ pub(crate) fn add_words(out: &mut Vec<u8>, numbers: &[u32]) -> Result<(), AllocE
     ensures part { OnErr result (Keeps out.old.items out.new.items) }
 {
     let mut rest = numbers;
-    while let Some((number, behind)) = rest.split_first() {
+    while let Some((number, beyond)) = rest.split_first() {
         push_word(out, *number)?;
-        rest = behind;
+        rest = beyond;
     }
     Ok(())
 }

@@ -77,12 +77,12 @@ fn add_filled_items(body: &[u8], names: &[u32], out: &mut Vec<u8>) -> Result<boo
     let mut rest = body;
     let mut left = names;
     while !rest.is_empty() {
-        let Ok((item, behind)) = first_item(rest) else {
+        let Ok((item, beyond)) = first_item(rest) else {
             return Ok(false);
         };
         item.push_filled(left, out)?;
         left = item.following_names(left);
-        rest = behind;
+        rest = beyond;
     }
     Ok(true)
 }

@@ -27,12 +27,12 @@ fn take_item(body: &[u8], is_long: bool, fields: Fields) -> Result<(Item<'_>, &[
     ensures short { OnErr result (nat_lt (length body.now) (descriptor_length is_long + data_length body.now is_long)
         ≡ true) }
 {
-    let (_, behind) = body.split_at(descriptor_length(is_long));
+    let (_, beyond) = body.split_at(descriptor_length(is_long));
     let length = data_length(fields);
-    if behind.len() < length {
+    if beyond.len() < length {
         return Err(KernReturn::SendMsgTooSmall);
     }
-    let (content, rest) = behind.split_at(length);
+    let (content, rest) = beyond.split_at(length);
     let item = Item {
         type_name: fields.type_name,
         bits: fields.bits,

@@ -18,9 +18,9 @@ pub fn items(alloc: Global, body: &[u8]) -> Result<Vec<Item<'_>>, ItemFault>
     let mut items = Vec::new(alloc);
     let mut rest = body;
     while !rest.is_empty() {
-        let (item, behind) = first_item(rest)?;
+        let (item, beyond) = first_item(rest)?;
         items.push(item)?;
-        rest = behind;
+        rest = beyond;
     }
     Ok(items)
 }

@@ -81,16 +81,16 @@ abbrev pub redemption : Session → ℕ → Operation
 redemption session seen = if has_ticket session seen then redeemed seen else redeemed_for_another seen
 
 -- this many records, or more before, are then acknowledged to the session, and it has seen them
-abbrev pub IsTold : Session → ℕ → Session → Type 0
-IsTold old seen new =
+abbrev pub IsAcknowledgedUpTo : Session → ℕ → Session → Type 0
+IsAcknowledgedUpTo old seen new =
     (seen ≤ new.seen) × (new ≡ record old { seen = new.seen; acknowledged = max old.acknowledged seen })
 
 -- what an operation makes of a session; no reply is redeemed that saw more than the session has then seen
 abbrev pub Leads : State → List Record → Session → Operation → Session → Type 0
 Leads base history old (called c answer) new =
     HasPlace history old c answer new ⊎ IsAnswered base history old c answer new
-Leads base history old (redeemed seen) new = (has_ticket old seen ≡ true) × IsTold old seen new
-Leads base history old (redeemed_for_another seen) new = IsTold old seen new
+Leads base history old (redeemed seen) new = (has_ticket old seen ≡ true) × IsAcknowledgedUpTo old seen new
+Leads base history old (redeemed_for_another seen) new = IsAcknowledgedUpTo old seen new
 Leads base history old looked new = new ≡ record old { seen = new.seen }
 
 -- A session after one more operation: it forgets nothing that it saw, and sees no more than there is.

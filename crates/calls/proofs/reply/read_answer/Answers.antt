@@ -4,7 +4,7 @@ use Rattle.codes.specs.declared.kern_return.KernReturn.{KernReturn}
 use Rattle.codes.specs.declared.kern_return.KernReturn.TheVariants.{Success}
 use Rattle.words.specs.Words.{word}
 use Rattle.calls.specs.Replies.{Answers}
-use Rattle.calls.proofs.Replies.{done_told}
+use Rattle.calls.proofs.Replies.{done_reported}
 use Rattle.calls.proofs.reply.read_answer.Goals as goal
 
 pub returns-then-eq-clause-only : goal.returns-then-eq-clause-only
@@ -12,8 +12,9 @@ returns-then-eq-clause-only c = λ answer is.
     let success : c.args.code ≡ Success = search rules in
     let done : Answers c.args.number (word c.args.number ++ (word 0 ++ c.args.results.now)) answer =
     subst
-    (λ (k : KernReturn). Answers c.args.number (word c.args.number ++ (word (number_of k) ++ c.args.results.now)) answer)
+    (λ (k : KernReturn). Answers c.args.number (word c.args.number ++ (word (number_of k) ++ c.args.results.now))
+    answer)
     success is in
     c.read_results.ensures.only answer
-    (done_told c.args.number c.args.results.now answer c.ranges.number.fits c.if-number-eq-MACH_MSG.false done)
+    (done_reported c.args.number c.args.results.now answer c.ranges.number.fits c.if-number-eq-MACH_MSG.false done)
     is.well_formed

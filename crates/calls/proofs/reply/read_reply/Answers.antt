@@ -1,7 +1,7 @@
 use Rattle.std.proofs.Common.{◌≡◌, ◌++◌, List, ℕ, length, ap, subst, ◌∙◌, arith}
 use Rattle.words.specs.Words.{word}
 use Rattle.calls.specs.Replies.{Answers}
-use Rattle.calls.proofs.Replies.{code_told, long_reply_to, number_told}
+use Rattle.calls.proofs.Replies.{code_reported, long_reply_to, stated_number}
 use Rattle.calls.proofs.reply.read_reply.Goals as goal
 
 pub returns-in_default-clause-only : goal.returns-in_default-clause-only
@@ -24,7 +24,7 @@ returns-then-front-number-clause-only c = λ answer is.
     let content : c.args.content.now ≡ word front ++ (word second.code ++ second.results.now) =
     c.in-Some.ensures.found ∙ ap (λ (l : List ℕ). word front ++ l) second.ensures.found in
     absurd (c.if-front-number.true
-    (number_told c.args.number front second.code second.results.now answer c.in-Some.ensures.fits
+    (stated_number c.args.number front second.code second.results.now answer c.in-Some.ensures.fits
     second.ensures.fits c.ranges.number.fits
     (subst (λ (l : List ℕ). Answers c.args.number l answer) content is)))
 
@@ -35,6 +35,6 @@ returns-in-None-clause-only c = λ answer is.
     let content : c.args.content.now ≡ word front ++ (word second.code ++ second.results.now) =
     c.in-Some.ensures.found ∙ ap (λ (l : List ℕ). word front ++ l) second.ensures.found in
     let known =
-    code_told c.args.number front second.code second.results.now answer c.in-Some.ensures.fits second.ensures.fits
+    code_reported c.args.number front second.code second.results.now answer c.in-Some.ensures.fits second.ensures.fits
     c.ranges.number.fits (subst (λ (l : List ℕ). Answers c.args.number l answer) content is) in
     absurd (cc (c.in-None.ensures.only known.0 known.1))

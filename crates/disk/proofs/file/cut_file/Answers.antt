@@ -22,8 +22,8 @@ returns-clause-time g c = λ honest.
     let new = g.F.Folder.view c.cut.new.self in
     let step : List ℕ → List ℕ → Type 0 = TornCut c.args.len in
     let time : FilesPass mid new (FilesFollow mid (file_name c.args.slot) step) =
-        subst (λ (n : List ℕ). FilesPass mid new (FilesFollow mid n step)) c.file_name.ensures
-        (c.cut.ensures.time honest) in
+    subst (λ (n : List ℕ). FilesPass mid new (FilesFollow mid n step)) c.file_name.ensures
+    (c.cut.ensures.time honest) in
     follows_after c.args.slot (disk_of old) (disk_of mid) (disk_of new) step (cut_lost c.args.len)
     (c.make_file.ensures.time honest)
     (disk_passes mid new (FilesFollow mid (file_name c.args.slot) step) (Follows (disk_of mid) c.args.slot step) time

@@ -9,10 +9,10 @@ returns-then-are_names_synced-clause-synced g c = λ honest.
     let old = g.F.Folder.view c.args.folder.now in
     let new = g.F.Folder.view c.sync.new.self in
     let file : IsFileSynced new (file_name c.args.slot) =
-        subst (IsFileSynced new) c.file_name.ensures (c.in_ok-sync.ensures.synced honest (c.requires.kept honest)) in
+    subst (IsFileSynced new) c.file_name.ensures (c.in_ok-sync.ensures.synced honest (c.requires.kept honest)) in
     let names : AreNamesSynced new =
-        names_stay old new (c.sync.ensures.time honest) (c.sync.ensures.seen honest)
-        (c.requires.names c.if-are_names_synced.true honest) in
+    names_stay old new (c.sync.ensures.time honest) (c.sync.ensures.seen honest)
+    (c.requires.names c.if-are_names_synced.true honest) in
     slot_synced c.args.slot new file names
     (ap is_some (c.sync.ensures.seen honest (file_name c.args.slot)) ∙ c.requires.there honest)
 
@@ -22,12 +22,12 @@ returns-clause-synced g c = λ honest.
     let mid = g.F.Folder.view c.sync.new.self in
     let new = g.F.Folder.view c.sync_names.new.self in
     let file : IsFileSynced mid (file_name c.args.slot) =
-        subst (IsFileSynced mid) c.file_name.ensures (c.in_ok-sync.ensures.synced honest (c.requires.kept honest)) in
+    subst (IsFileSynced mid) c.file_name.ensures (c.in_ok-sync.ensures.synced honest (c.requires.kept honest)) in
     on_ok c.sync_names.result
     (λ (names : AreNamesSynced new). slot_synced c.args.slot new
-      (file_stays_synced (file_name c.args.slot) mid new (c.sync_names.ensures.time honest)
-      (c.sync_names.ensures.seen honest) file)
-      names
-      (ap is_some (c.sync_names.ensures.seen honest (file_name c.args.slot)
-      ∙ c.sync.ensures.seen honest (file_name c.args.slot)) ∙ c.requires.there honest))
+    (file_stays_synced (file_name c.args.slot) mid new (c.sync_names.ensures.time honest)
+    (c.sync_names.ensures.seen honest) file)
+    names
+    (ap is_some (c.sync_names.ensures.seen honest (file_name c.args.slot)
+    ∙ c.sync.ensures.seen honest (file_name c.args.slot)) ∙ c.requires.there honest))
     (c.sync_names.ensures.synced honest (c.in_ok-sync.ensures.has_lost honest ∙ c.requires.kept honest))

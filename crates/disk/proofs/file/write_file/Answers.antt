@@ -22,9 +22,10 @@ returns-clause-time g c = λ honest.
     let new = g.F.Folder.view c.write_at.new.self in
     let step : List ℕ → List ℕ → Type 0 = TornWrite c.args.at (length c.args.bytes.now) in
     let time : FilesPass mid new (FilesFollow mid (file_name c.args.slot) step) =
-        subst (λ (n : List ℕ). FilesPass mid new (FilesFollow mid n step)) c.file_name.ensures
-        (c.write_at.ensures.time honest) in
-    follows_after c.args.slot (disk_of old) (disk_of mid) (disk_of new) step (write_lost c.args.at (length c.args.bytes.now))
+    subst (λ (n : List ℕ). FilesPass mid new (FilesFollow mid n step)) c.file_name.ensures
+    (c.write_at.ensures.time honest) in
+    follows_after c.args.slot (disk_of old) (disk_of mid) (disk_of new) step
+    (write_lost c.args.at (length c.args.bytes.now))
     (c.make_file.ensures.time honest)
     (disk_passes mid new (FilesFollow mid (file_name c.args.slot) step) (Follows (disk_of mid) c.args.slot step) time
     (files_follow c.args.slot mid step (write_lost c.args.at (length c.args.bytes.now) [])))

@@ -1,6 +1,6 @@
 use Rattle.std.proofs.Common.{Err, ap, ◌∙◌}
 use Rattle.std.proofs.lemmas.Result.{err_from_is_err_and}
-use Rattle.frame_service.proofs.Told.{one_unflushed, one_untold, one_unwritten, one_told_whole}
+use Rattle.frame_service.proofs.Acknowledged.{one_unflushed, one_unacknowledged, one_unwritten, one_acknowledged_whole}
 use Rattle.frame_service.proofs.rounds.acknowledge_one.Goals as goal
 
 pub returns-in-Err-clause-acknowledged : goal.returns-in-Err-clause-acknowledged
@@ -11,7 +11,8 @@ returns-in-Err-clause-acknowledged g c =
 pub returns-in_err-answer-clause-acknowledged : goal.returns-in_err-answer-clause-acknowledged
 returns-in_err-answer-clause-acknowledged g c =
     let p = err_from_is_err_and c.from_residual.result c.from_residual.ensures.1 in
-    one_untold g.A.Asker.answer g.A.Asker.makes g.A.Asker.lacks g.A.Asker.acknowledges g.A.Asker.fails c.args.asker.now
+    one_unacknowledged g.A.Asker.answer g.A.Asker.makes g.A.Asker.lacks g.A.Asker.acknowledges g.A.Asker.fails
+    c.args.asker.now
     c.args.pending _ _ c.flush_before.ensures.bytes c.tell.new.asker _ c.from_residual.result
     c.in_err-answer.ensures.unacknowledged (p.1 ∙ ap Err p.2)
 
@@ -27,7 +28,7 @@ returns-in_err-write_frame-clause-acknowledged g c =
 
 pub returns-clause-acknowledged : goal.returns-clause-acknowledged
 returns-clause-acknowledged g c =
-    one_told_whole g.A.Asker.answer g.A.Asker.makes g.A.Asker.lacks g.A.Asker.acknowledges g.A.Asker.fails
+    one_acknowledged_whole g.A.Asker.answer g.A.Asker.makes g.A.Asker.lacks g.A.Asker.acknowledges g.A.Asker.fails
     c.args.asker.now c.args.pending _ _ c.flush_before.ensures.bytes c.tell.new.asker _ c.in_ok-answer.answer
     c.reply_frame.new.frame.content _
     c.in_ok-answer.ensures.acknowledged c.reply_frame.ensures.content c.in_ok-write_frame.ensures.ok

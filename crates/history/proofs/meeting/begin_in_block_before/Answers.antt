@@ -1,6 +1,6 @@
 use Rattle.std.proofs.Common.{◌-◌, ◌≤◌, length, map, take, ap, ◌∙◌, arith}
 use Rattle.std.proofs.lemmas.List.{length-map}
-use Rattle.history.proofs.Knowing.{behind, front_cells}
+use Rattle.history.proofs.Knowing.{beyond, front_cells}
 use Rattle.history.proofs.meeting.begin_in_block_before.Goals as goal
 
 pub compare_last-requires-clause-within : goal.compare_last-requires-clause-within
@@ -10,7 +10,7 @@ compare_last-requires-clause-within g c =
     let starts = rw (c.agree.ensures.same.0, c.agree.ensures.same.1) at c.in-Some.ensures.start in
     let less : length mine ≤ length theirs = omega (arith, c.requires.blocks) in
     let left =
-    behind g.L.FirstBlock.first mine theirs _ _ _ _ c.in-Some.start c.requires.notes c.requires.more
+    beyond g.L.FirstBlock.first mine theirs _ _ _ _ c.in-Some.start c.requires.notes c.requires.more
     c.requires.leads (c.agree.ensures.begins less) starts in (
       omega (arith, c.args.notes.now.ok),
       omega (arith, left.0, c.args.notes.now.ok, length-map c.args.more.now.items (λ n. n.cell)),
@@ -23,25 +23,25 @@ compare_last-requires-clause-cell g c = λ some.
     let starts = rw (c.agree.ensures.same.0, c.agree.ensures.same.1) at c.in-Some.ensures.start in
     let less : length mine ≤ length theirs = omega (arith, c.requires.blocks) in
     let left =
-    behind g.L.FirstBlock.first mine theirs _ _ _ _ c.in-Some.start c.requires.notes c.requires.more
+    beyond g.L.FirstBlock.first mine theirs _ _ _ _ c.in-Some.start c.requires.notes c.requires.more
     c.requires.leads (c.agree.ensures.begins less) starts in
     left.1 (c.len-long.result - 1)
     (omega (arith, some, c.args.notes.now.ok, length-map c.args.notes.now.items (λ n. n.cell)))
     (omega (arith, some))
 
 pub returns-clause-less : goal.returns-clause-less
-returns-clause-less g c = λ told.
+returns-clause-less g c = λ answered.
     let mine = c.args.place.now.links in
     let theirs = c.args.later.now.links in
     let starts = rw (c.agree.ensures.same.0, c.agree.ensures.same.1) at c.in-Some.ensures.start in
     let less : length mine ≤ length theirs = omega (arith, c.requires.blocks) in
     let left =
-    behind g.L.FirstBlock.first mine theirs _ _ _ _ c.in-Some.start c.requires.notes c.requires.more
+    beyond g.L.FirstBlock.first mine theirs _ _ _ _ c.in-Some.start c.requires.notes c.requires.more
     c.requires.leads (c.agree.ensures.begins less) starts in
     omega (arith, left.0, c.args.notes.now.ok, length-map c.args.more.now.items (λ n. n.cell))
 
 pub returns-clause-cells : goal.returns-clause-cells
-returns-clause-cells g c = λ told.
+returns-clause-cells g c = λ answered.
     let mine = c.args.place.now.links in
     let theirs = c.args.later.now.links in
     let starts = rw (c.agree.ensures.same.0, c.agree.ensures.same.1) at c.in-Some.ensures.start in

@@ -17,9 +17,9 @@ returns-in_default-clause-only g c = λ rows rest fit long is.
 pub loop-preserved : goal.loop-preserved
 loop-preserved g c =
     one_more_so_far g.T.Encoded.encoding g.T.Encoded.fits c.args.bytes.now c.args.count c.loop.rows.items
-    c.push.new.self.items c.loop.rest.now c.in-Some.row c.in-Some.behind.now c.loop.counter
+    c.push.new.self.items c.loop.rest.now c.in-Some.row c.in-Some.beyond.now c.loop.counter
     c.loop-test.true c.in_ok-push.ensures.items c.loop.invariant
-    (leads_some g.T.Encoded.encoding g.T.Encoded.fits c.loop.rest.now c.in_ok-row.field-0 c.in-Some.row c.in-Some.behind
+    (leads_some g.T.Encoded.encoding g.T.Encoded.fits c.loop.rest.now c.in_ok-row.field-0 c.in-Some.row c.in-Some.beyond
     c.in-Some.is (c.in_ok-row.ensures.found, c.in_ok-row.ensures.only))
 
 pub returns-clause-found : goal.returns-clause-found

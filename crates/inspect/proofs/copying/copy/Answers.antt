@@ -2,7 +2,7 @@ use Rattle.std.proofs.lemmas.Result.{err_from_is_err_and}
 use Rattle.std.proofs.Common.{Err, ap}
 use Rattle.store_fault.specs.declared.fault.StoreFault.TheVariants.{Damaged}
 use Rattle.inspect.specs.declared.fault.ListFault.{ListFault}
-use Rattle.inspect.proofs.Copied.{is_copy, told_of_list}
+use Rattle.inspect.proofs.Copied.{is_copy, reported_of_list}
 use Rattle.inspect.proofs.copying.copy.Goals as goal
 
 pub returns-in_ok-write_store-in-Ok-clause-copied : goal.returns-in_ok-write_store-in-Ok-clause-copied
@@ -16,4 +16,4 @@ returns-in_err-look-clause-damaged g c = λ honest is.
     let p = err_from_is_err_and c.from_residual.result c.from_residual.ensures.1 in
     c.in_err-look.ensures.damaged honest
     (ap (λ (f : ListFault). Err f)
-    (told_of_list c.in_err-look.field-0.0 Damaged p.0 c.from_residual.result p.1 p.2 is))
+    (reported_of_list c.in_err-look.field-0.0 Damaged p.0 c.from_residual.result p.1 p.2 is))

@@ -3,7 +3,7 @@ use Rattle.ipc_model.specs.calls.PortCalls.{names_in}
 use Rattle.ipc_model.specs.calls.Step.{ActsIn}
 use Rattle.ipc_model.specs.declared.call.Call.{Call}
 use Rattle.ipc_model.specs.declared.call.Call.TheVariants as call
-use Rattle.kernel.specs.Choosing.{Prefers, prefers_told, prefers_receive}
+use Rattle.kernel.specs.Choosing.{Prefers, prefers_closed, prefers_receive}
 use Rattle.kernel.proofs.dispatch.exchange.Goals as goal
 
 pub returns-in_ok-reply-in-Send-clause-shown : goal.returns-in_ok-reply-in-Send-clause-shown
@@ -17,7 +17,7 @@ returns-in_ok-reply-in-Send-clause-shown c =
     subst (λ (message : List ℕ). ActsIn old space (names_in old space) (call.Send message) reply new effects)
     c.as_slice.ensures c.in_ok-reply-in-Send.ensures.acts in
     subst (λ (made : Call). Prefers old space made c.args.shown.now reply) (sym c.in-Send.is)
-    (prefers_told old space (call.Send c.in-Send.message) c.args.shown.now reply new effects refl acts)
+    (prefers_closed old space (call.Send c.in-Send.message) c.args.shown.now reply new effects refl acts)
 
 pub returns-in_ok-reply-in-Receive-clause-acts : goal.returns-in_ok-reply-in-Receive-clause-acts
 returns-in_ok-reply-in-Receive-clause-acts c =

@@ -1,11 +1,12 @@
 use Rattle.std.proofs.Common.{refl, sym, subst}
 use Rattle.ipc_model.specs.declared.call.Call.{Call}
 use Rattle.ipc_model.specs.declared.call.Call.TheVariants as call
-use Rattle.kernel.specs.Choosing.{Prefers, prefers_told, prefers_request, prefers_extract, prefers_create}
+use Rattle.kernel.specs.Choosing.{Prefers, prefers_closed, prefers_request, prefers_extract, prefers_create}
 use Rattle.kernel.specs.Trials.{acted}
 use Rattle.kernel.proofs.dispatch.hand_over.Goals as goal
 
-pub returns-in_ok-reply-in-RequestNotification-clause-shown : goal.returns-in_ok-reply-in-RequestNotification-clause-shown
+pub returns-in_ok-reply-in-RequestNotification-clause-shown :
+    goal.returns-in_ok-reply-in-RequestNotification-clause-shown
 returns-in_ok-reply-in-RequestNotification-clause-shown c =
     let did =
     acted c.args.state.now.current c.args.space
@@ -29,7 +30,7 @@ returns-in_ok-reply-in-InsertRight-clause-shown c =
     c.in_ok-reply-in-InsertRight.ensures.tries in
     subst (λ (made : Call). Prefers c.args.state.now.current c.args.space made c.args.shown.now
     c.in_ok-reply-in-InsertRight.reply) (sym c.in-InsertRight.is)
-    (prefers_told c.args.state.now.current c.args.space
+    (prefers_closed c.args.state.now.current c.args.space
     (call.InsertRight c.in-InsertRight.name c.in-InsertRight.right_name c.in-InsertRight.disposition)
     c.args.shown.now c.in_ok-reply-in-InsertRight.reply did.0 did.1 refl did.2)
 

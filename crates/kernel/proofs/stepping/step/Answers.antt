@@ -1,7 +1,7 @@
 use Rattle.std.proofs.Common.{sym, ap, ◌∙◌}
 use Rattle.codes.specs.declared.kern_return.KernReturn.TheVariants.{InvalidTask}
 use Rattle.ipc_model.specs.calls.Refusals.{refused_of}
-use Rattle.kernel.specs.Choosing.{prefers_told, reading_told}
+use Rattle.kernel.specs.Choosing.{prefers_closed, reads_closed}
 use Rattle.kernel.specs.Stepping.{of_some, refused_by_number, step_gone, prefers_gone, step_alone, prefers_step}
 use Rattle.kernel.proofs.stepping.step.Goals as goal
 
@@ -31,8 +31,8 @@ returns-in-Some-clause-shown c =
     let acts = of_some _ c.in_ok-reply.field-0 c.in-Some.reply c.in-Some.is c.in_ok-reply.ensures.acts in
     prefers_step c.args.state.now.current c.args.space c.args.call.now c.args.shown.now c.in-Some.reply
     (sym c.has_space.ensures ∙ c.if-not-has_space.false)
-    (prefers_told c.args.state.now.current c.args.space c.args.call.now c.args.shown.now c.in-Some.reply
-    c.args.state.now.current _ (reading_told c.args.call.now reads) acts)
+    (prefers_closed c.args.state.now.current c.args.space c.args.call.now c.args.shown.now c.in-Some.reply
+    c.args.state.now.current _ (reads_closed c.args.call.now reads) acts)
 
 pub returns-in-Some-2-clause-step : goal.returns-in-Some-2-clause-step
 returns-in-Some-2-clause-step c =

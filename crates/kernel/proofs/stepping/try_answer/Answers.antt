@@ -20,7 +20,8 @@ returns-clause-answered c =
     let same =
     unrecorded_step old c.args.space c.args.call.now c.in_ok-reply.reply c.step.new.state.current
     c.in_ok-reply.ensures.step none in (
-      subst (λ (s : State). Step old c.args.space c.args.call.now c.in_ok-reply.reply s) same c.in_ok-reply.ensures.step,
+      subst (λ (s : State). Step old c.args.space c.args.call.now c.in_ok-reply.reply s) same
+          c.in_ok-reply.ensures.step,
       none,
     )
 

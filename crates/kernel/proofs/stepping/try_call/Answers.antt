@@ -1,5 +1,5 @@
 use Rattle.std.proofs.Common.{rules}
-use Rattle.kernel.specs.Choosing.{prefers_told, giving_told}
+use Rattle.kernel.specs.Choosing.{prefers_closed, gives_up_closed}
 use Rattle.kernel.specs.Stepping.{of_some}
 use Rattle.kernel.specs.Trials.{acted}
 use Rattle.kernel.proofs.stepping.try_call.Goals as goal
@@ -11,8 +11,8 @@ returns-in-Some-clause-shown c =
     let did =
     acted c.args.state.now.current c.args.space c.args.call.now c.in-Some.reply c.give_rights_up.new.state.current
     c.give_rights_up.new.effects tries in
-    prefers_told c.args.state.now.current c.args.space c.args.call.now c.args.shown.now c.in-Some.reply did.0 did.1
-    (giving_told c.args.call.now gives) did.2
+    prefers_closed c.args.state.now.current c.args.space c.args.call.now c.args.shown.now c.in-Some.reply did.0 did.1
+    (gives_up_closed c.args.call.now gives) did.2
 
 pub returns-clause-tries : goal.returns-clause-tries
 returns-clause-tries c = search rules

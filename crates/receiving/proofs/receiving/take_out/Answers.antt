@@ -7,7 +7,7 @@ use Rattle.ipc_model.specs.declared.message.CarriedRight.{CarriedRight}
 use Rattle.ipc_model.specs.messages.Receiving.{arriving, message_size}
 use Rattle.ipc_model.specs.rights.CopyOut.{names_needed}
 use Rattle.receiving.specs.Shows.{arguments_of}
-use Rattle.receiving.specs.TakingLaws.{large_told, lacking_told, names_lawful, oldest_lawful, was_lacking, was_large, was_received, whole_told}
+use Rattle.receiving.specs.TakingLaws.{large_reported, lacking_reported, names_lawful, oldest_lawful, was_lacking, was_large, was_received, whole_reported}
 use Rattle.receiving.proofs.receiving.take_out.Goals as goal
 
 pub returns-then-outline-asked-clause-acts : goal.returns-then-outline-asked-clause-acts
@@ -27,7 +27,7 @@ returns-then-outline-asked-clause-shown c = λ port message later live first oth
     let large : nat_lt c.args.asked.limit (message_size message) ≡ true =
     lt-ltb c.args.asked.limit (message_size message)
     (subst (λ (n : ℕ). c.args.asked.limit < n) outline.0 c.if-outline-asked.true) in
-    large_told c.args.state.now.current c.args.space (names_in c.args.state.now.current c.args.space)
+    large_reported c.args.state.now.current c.args.space (names_in c.args.state.now.current c.args.space)
     (arguments_of c.args.asked) c.args.source.member c.args.source.port port message c.in_ok-reply.reply
     c.too_large.new.state.current c.too_large.new.effects other last others
     large (c.in_ok-reply.ensures.large port message later live first outline.0 outline.1) may
@@ -59,7 +59,7 @@ returns-then-lacks_room-clause-shown c = λ port message later live first other 
     let lacks =
     ap (λ (l : List CarriedRight). nat_lt MAX_NAMES (finmap.len names + names_needed names [] l)) (sym rights)
     ∙ sym c.lacks_room.ensures ∙ c.if-lacks_room.true in
-    lacking_told c.args.state.now.current c.args.space names
+    lacking_reported c.args.state.now.current c.args.space names
     (arguments_of c.args.asked) c.args.source.member c.args.source.port port message
     c.without_message-then-lacks_room.result other last others
     small lacks c.without_message-then-lacks_room.ensures may
@@ -96,7 +96,7 @@ returns-clause-shown c = λ port message later live first other last others show
     let fits =
     ap (λ (l : List CarriedRight). nat_lt MAX_NAMES (finmap.len names + names_needed names [] l)) (sym rights)
     ∙ sym c.lacks_room.ensures ∙ c.if-lacks_room.false in
-    whole_told old c.args.space names
+    whole_reported old c.args.space names
     (arguments_of c.args.asked) c.args.source.member c.args.source.port port message c.in_ok-reply-2.reply
     c.args.names.now other last others
     small fits (oldest_lawful old c.args.source.port port message later c.requires.lawful live first)

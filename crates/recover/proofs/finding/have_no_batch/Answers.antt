@@ -28,7 +28,7 @@ returns-then-branch-clause-reads_only g c = λ honest.
 
 pub returns-then-branch-clause-failures : goal.returns-then-branch-clause-failures
 returns-then-branch-clause-failures g c =
-    counts_same _ _ _ (λ told. cc told) c.in_ok-has_batch.ensures.failures.ok
+    counts_same _ _ _ (λ reported. cc reported) c.in_ok-has_batch.ensures.failures.ok
 
 pub returns-clause-reads_only : goal.returns-clause-reads_only
 returns-clause-reads_only g c = λ honest.

@@ -10,14 +10,14 @@ use Rattle.recover.proofs.Ways.{no_run, reads_one}
 use Rattle.recover.proofs.finding.read_epoch.Goals as goal
 
 pub returns-in_err-base-clause-damaged : goal.returns-in_err-base-clause-damaged
-returns-in_err-base-clause-damaged g c = λ honest told base state records image segment run.
+returns-in_err-base-clause-damaged g c = λ honest reported base state records image segment run.
     let p = err_from_is_err_and c.from_residual.result c.from_residual.ensures.1 in
-    c.in_err-base.ensures.damaged honest (cc (p.1, p.2, told)) c.args.epoch base
+    c.in_err-base.ensures.damaged honest (cc (p.1, p.2, reported)) c.args.epoch base
     (subst (λ slot. HoldsImage c.args.epoch (slot_of (g.D.Disk.view c.args.disk.now).seen slot) base)
     (sym c.image_slot.ensures) image)
 
 pub returns-clause-damaged : goal.returns-clause-damaged
-returns-clause-damaged g c = λ honest told base state records image segment run.
+returns-clause-damaged g c = λ honest reported base state records image segment run.
     let e = c.args.epoch in
     let first = (g.D.Disk.view c.args.disk.now).seen in
     let header =
@@ -27,7 +27,7 @@ returns-clause-damaged g c = λ honest told base state records image segment run
     (c.in_ok-base.ensures.image honest (e % 2) e header) in
     no_run e (slot_of first (image_slot e))
     (slot_of first (segment_slot e)) c.in_ok-base.base base state records own image segment run
-    (λ rs s encoded. c.replay_segment.ensures.damaged honest told rs s
+    (λ rs s encoded. c.replay_segment.ensures.damaged honest reported rs s
     (subst (λ slot. EncodesBatches (drop 16 (slot_of (g.D.Disk.view c.load_image.new.disk).seen slot)) rs)
     (sym c.segment_slot.ensures)
     (subst (λ (d : Slots). EncodesBatches (drop 16 (slot_of d (segment_slot e))) rs)

@@ -8,15 +8,15 @@ use Rattle.recover.proofs.Texts.{image_after, encoding_is_image, encoding_of_ima
 use Rattle.recover.proofs.loading.load_image.Goals as goal
 
 pub returns-in_err-encoding-clause-damaged : goal.returns-in_err-encoding-clause-damaged
-returns-in_err-encoding-clause-damaged g c = λ honest told epoch state image.
+returns-in_err-encoding-clause-damaged g c = λ honest reported epoch state image.
     let p = err_from_is_err_and c.from_residual.result c.from_residual.ensures.1 in
-    c.in_err-encoding.ensures.damaged honest (cc (p.1, p.2, told)) (image_encoding state)
+    c.in_err-encoding.ensures.damaged honest (cc (p.1, p.2, reported)) (image_encoding state)
     (image_after epoch (slot_of (g.D.Disk.view c.args.disk.now).seen c.args.slot) state image)
 
 pub returns-in_err-kernel-clause-damaged : goal.returns-in_err-kernel-clause-damaged
-returns-in_err-kernel-clause-damaged g c = λ honest told epoch state image.
+returns-in_err-kernel-clause-damaged g c = λ honest reported epoch state image.
     let p = err_from_is_err_and c.from_residual-in_err-kernel.result c.from_residual-in_err-kernel.ensures.1 in
-    c.in_err-kernel.ensures.damaged (cc (p.1, p.2, told)) state
+    c.in_err-kernel.ensures.damaged (cc (p.1, p.2, reported)) state
     (subst (λ (l : List ℕ). IsImageOf l state) (sym c.deref.ensures.value)
     (encoding_of_image epoch (slot_of (g.D.Disk.view c.args.disk.now).seen c.args.slot)
     c.in_ok-encoding.encoding.items state (c.in_ok-encoding.ensures.encoding honest) image))
@@ -43,9 +43,9 @@ pub returns-in_err-kernel-clause-failures : goal.returns-in_err-kernel-clause-fa
 returns-in_err-kernel-clause-failures g c =
     let p = err_from_is_err_and c.from_residual-in_err-kernel.result c.from_residual-in_err-kernel.ensures.1 in
     counts_other _ _ c.from_residual-in_err-kernel.result _ (p.1 ∙ ap Err p.2)
-    (λ told. elim c.in_err-kernel.ensures.faults [
-      | inl damaged ↦ cc (damaged, told)
-      | inr memory ↦ cc (memory, told)
+    (λ reported. elim c.in_err-kernel.ensures.faults [
+      | inl damaged ↦ cc (damaged, reported)
+      | inr memory ↦ cc (memory, reported)
     ])
     c.in_ok-encoding.ensures.failures.quiet
 

@@ -47,7 +47,7 @@ returns-then-room-size-clause-reads_only g c = λ honest.
 
 pub returns-then-room-size-clause-failures : goal.returns-then-room-size-clause-failures
 returns-then-room-size-clause-failures g c =
-    counts_same _ _ _ (λ told. cc told) c.in_ok-size.ensures.failures.ok
+    counts_same _ _ _ (λ reported. cc reported) c.in_ok-size.ensures.failures.ok
 
 pub returns-in_err-encoding-clause-reads_only : goal.returns-in_err-encoding-clause-reads_only
 returns-in_err-encoding-clause-reads_only g c = λ honest.

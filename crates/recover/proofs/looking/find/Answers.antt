@@ -11,14 +11,14 @@ use Rattle.recover.proofs.Faults.{none_at_error, none_in_error}
 use Rattle.recover.proofs.looking.find.Goals as goal
 
 pub returns-in_err-survey_store-clause-damaged : goal.returns-in_err-survey_store-clause-damaged
-returns-in_err-survey_store-clause-damaged g c = λ honest told.
+returns-in_err-survey_store-clause-damaged g c = λ honest reported.
     let p =
     err_from_is_err_and c.from_residual-in_err-survey_store.result c.from_residual-in_err-survey_store.ensures.1 in
     let seen = (g.D.Disk.view c.args.disk.now).seen in
     let said = c.in_ok-headers.ensures.said honest in (
-      c.in_err-survey_store.ensures.no_other seen said (cc (p.1, p.2, told)),
+      c.in_err-survey_store.ensures.no_other seen said (cc (p.1, p.2, reported)),
       λ state found. c.in_err-survey_store.ensures.damaged seen said
-          (cc (p.1, p.2, told)) found.base found.records found.encoded,
+          (cc (p.1, p.2, reported)) found.base found.records found.encoded,
     )
 
 pub look_new-requires-clause-unused : goal.look_new-requires-clause-unused
@@ -34,13 +34,13 @@ look_new-requires-clause-says g c = λ honest.
     (sym (c.in_ok-headers.ensures.seen honest)) (c.in_ok-headers.ensures.said honest).segment0
 
 pub returns-in_err-kernel-in-New-clause-damaged : goal.returns-in_err-kernel-in-New-clause-damaged
-returns-in_err-kernel-in-New-clause-damaged g c = λ honest told.
+returns-in_err-kernel-in-New-clause-damaged g c = λ honest reported.
     let p =
     err_from_is_err_and c.from_residual-in_err-kernel-in-New.result c.from_residual-in_err-kernel-in-New.ensures.1
     in
     let seen = (g.D.Disk.view c.args.disk.now).seen in (
       c.in_ok-survey_store.ensures.one_version seen (c.in_ok-headers.ensures.said honest),
-      λ state found. c.in_err-kernel-in-New.ensures.damaged honest (cc (p.1, p.2, told)) state
+      λ state found. c.in_err-kernel-in-New.ensures.damaged honest (cc (p.1, p.2, reported)) state
           (subst (λ (s : Slots). Recovered (as_written s) state) (sym (c.in_ok-headers.ensures.seen honest)) found),
     )
 
@@ -52,13 +52,13 @@ look_in_use-requires-clause-used g c = λ honest.
     (c.in_ok-survey_store.ensures.surveyed seen (c.in_ok-headers.ensures.said honest)))
 
 pub returns-in_err-kernel-in-InUse-clause-damaged : goal.returns-in_err-kernel-in-InUse-clause-damaged
-returns-in_err-kernel-in-InUse-clause-damaged g c = λ honest told.
+returns-in_err-kernel-in-InUse-clause-damaged g c = λ honest reported.
     let p =
     err_from_is_err_and c.from_residual-in_err-kernel-in-InUse.result
     c.from_residual-in_err-kernel-in-InUse.ensures.1 in
     let seen = (g.D.Disk.view c.args.disk.now).seen in (
       c.in_ok-survey_store.ensures.one_version seen (c.in_ok-headers.ensures.said honest),
-      λ state found. c.in_err-kernel-in-InUse.ensures.damaged honest (cc (p.1, p.2, told)) state
+      λ state found. c.in_err-kernel-in-InUse.ensures.damaged honest (cc (p.1, p.2, reported)) state
           (subst (λ (s : Slots). Recovered (as_written s) state) (sym (c.in_ok-headers.ensures.seen honest)) found),
     )
 
@@ -140,19 +140,19 @@ returns-in_ok-kernel-in-InUse-clause-seen g c =
     λ honest. (c.look_in_use.ensures.reads_only honest).seen ∙ c.in_ok-headers.ensures.seen honest
 
 pub returns-in_err-kernel-in-New-clause-device : goal.returns-in_err-kernel-in-New-clause-device
-returns-in_err-kernel-in-New-clause-device g c = λ told.
+returns-in_err-kernel-in-New-clause-device g c = λ reported.
     let p =
     err_from_is_err_and c.from_residual-in_err-kernel-in-New.result c.from_residual-in_err-kernel-in-New.ensures.1
     in
-    c.in_err-kernel-in-New.ensures.failures.device (cc (p.1, p.2, told))
+    c.in_err-kernel-in-New.ensures.failures.device (cc (p.1, p.2, reported))
     ∙ ap one_more c.in_ok-headers.ensures.failures.ok
 
 pub returns-in_err-kernel-in-InUse-clause-device : goal.returns-in_err-kernel-in-InUse-clause-device
-returns-in_err-kernel-in-InUse-clause-device g c = λ told.
+returns-in_err-kernel-in-InUse-clause-device g c = λ reported.
     let p =
     err_from_is_err_and c.from_residual-in_err-kernel-in-InUse.result
     c.from_residual-in_err-kernel-in-InUse.ensures.1 in
-    c.in_err-kernel-in-InUse.ensures.failures.device (cc (p.1, p.2, told))
+    c.in_err-kernel-in-InUse.ensures.failures.device (cc (p.1, p.2, reported))
     ∙ ap one_more c.in_ok-headers.ensures.failures.ok
 
 pub returns-in_ok-kernel-in-New-clause-quiet : goal.returns-in_ok-kernel-in-New-clause-quiet

@@ -11,10 +11,10 @@ use Rattle.recover.proofs.Faults.{counts_ok, counts_passed, counts_then, none_in
 use Rattle.recover.proofs.looking.look_in_use.Goals as goal
 
 pub returns-in_err-kernel-clause-damaged : goal.returns-in_err-kernel-clause-damaged
-returns-in_err-kernel-clause-damaged g c = λ honest told.
+returns-in_err-kernel-clause-damaged g c = λ honest reported.
     let p = err_from_is_err_and c.from_residual.result c.from_residual.ensures.1 in
     read_damaged (g.D.Disk.view c.args.disk.now).seen c.args.epoch c.args.follows (c.requires.used honest)
-    (c.in_err-kernel.ensures.damaged honest (cc (p.1, p.2, told)))
+    (c.in_err-kernel.ensures.damaged honest (cc (p.1, p.2, reported)))
 
 pub returns-then-not-follows-clause-reads : goal.returns-then-not-follows-clause-reads
 returns-then-not-follows-clause-reads g c = λ honest.
@@ -24,13 +24,13 @@ returns-then-not-follows-clause-reads g c = λ honest.
     (c.in_ok-kernel.ensures.read honest)
 
 pub returns-in_err-kernel-2-clause-damaged : goal.returns-in_err-kernel-2-clause-damaged
-returns-in_err-kernel-2-clause-damaged g c = λ honest told.
+returns-in_err-kernel-2-clause-damaged g c = λ honest reported.
     let p = err_from_is_err_and c.from_residual-in_err-kernel-2.result c.from_residual-in_err-kernel-2.ensures.1 in
     let e = c.args.epoch in
     let seen = (g.D.Disk.view c.args.disk.now).seen in
     next_damaged seen e c.in_ok-kernel.kernel c.in_ok-kernel.first c.in_ok-kernel.field-0-2
     (subst (Uses seen e) c.if-not-follows.false (c.requires.used honest)) (c.in_ok-kernel.ensures.read honest)
-    (λ rs s encoded. c.in_err-kernel-2.ensures.damaged honest (cc (p.1, p.2, told)) rs s
+    (λ rs s encoded. c.in_err-kernel-2.ensures.damaged honest (cc (p.1, p.2, reported)) rs s
     (subst (λ slot. EncodesBatches (drop 16 (slot_of (g.D.Disk.view c.read_epoch.new.disk).seen slot)) rs)
     (sym c.segment_slot.ensures)
     (subst (λ (d : Slots). EncodesBatches (drop 16 (slot_of d (segment_slot (e + 1)))) rs)

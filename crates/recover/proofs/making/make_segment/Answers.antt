@@ -17,16 +17,16 @@ returns-clause-any_moment g c = λ honest synced.
     let closed = g.D.Disk.view c.roll_close.new.disk in
     let headed = g.D.Disk.view c.roll_head.new.disk in
     let front : List ℕ = slot_of closed.seen slot in
-    let behind : List ℕ = epoch_encoding c.args.epoch ++ closed_gate ∷ [] in
+    let beyond : List ℕ = epoch_encoding c.args.epoch ++ closed_gate ∷ [] in
     let shut =
     synced_shut slot closed (c.in_ok-roll_close.ensures.synced honest) (c.in_ok-roll_close.ensures.closed honest) in
     let is =
     ap (λ (s : Slots). drop 1 (slot_of s slot)) (c.in_ok-roll_head.ensures.header honest) ∙ ap
-    (λ (l : List ℕ). drop 1 l) (own_bytes slot closed.seen (take 1 front ++ behind))
-    ∙ after_first front behind (c.in_ok-roll_close.ensures.begun honest) in
+    (λ (l : List ℕ). drop 1 l) (own_bytes slot closed.seen (take 1 front ++ beyond))
+    ∙ after_first front beyond (c.in_ok-roll_close.ensures.begun honest) in
     remade_then slot (g.D.Disk.view c.args.disk.now) closed (g.D.Disk.view c.roll_open.new.disk) 16
     (empty_segment c.args.epoch) (c.roll_close.ensures.any_moment honest synced)
-    (opening_then slot closed headed (g.D.Disk.view c.roll_open.new.disk) behind
+    (opening_then slot closed headed (g.D.Disk.view c.roll_open.new.disk) beyond
     (c.in_ok-roll_head.ensures.synced honest) is (c.roll_head.ensures.any_moment honest shut)
     (c.roll_open.ensures.any_moment honest))
 
@@ -44,14 +44,14 @@ returns-clause-made g c = λ honest.
     let closed = (g.D.Disk.view c.roll_close.new.disk).seen in
     let headed = (g.D.Disk.view c.roll_head.new.disk).seen in
     let front : List ℕ = slot_of closed slot in
-    let behind : List ℕ = epoch_encoding c.args.epoch ++ closed_gate ∷ [] in
+    let beyond : List ℕ = epoch_encoding c.args.epoch ++ closed_gate ∷ [] in
     let is =
     ap (λ (s : Slots). drop 1 (slot_of s slot)) (c.in_ok-roll_head.ensures.header honest) ∙ ap
-    (λ (l : List ℕ). drop 1 l) (own_bytes slot closed (take 1 front ++ behind))
-    ∙ after_first front behind (c.in_ok-roll_close.ensures.begun honest) in
+    (λ (l : List ℕ). drop 1 l) (own_bytes slot closed (take 1 front ++ beyond))
+    ∙ after_first front beyond (c.in_ok-roll_close.ensures.begun honest) in
     let encoding = ap (λ (l : List ℕ). with_slot headed slot (open_gate ∷ l)) is in
     subst (λ (s : Slots). OnOk c.roll_open.result ((g.D.Disk.view c.roll_open.new.disk).seen ≡ s))
-    (encoding ∙ made_last slot old closed headed front (take 1 front ++ behind) (open_gate ∷ behind)
+    (encoding ∙ made_last slot old closed headed front (take 1 front ++ beyond) (open_gate ∷ beyond)
     (c.in_ok-roll_close.ensures.others honest) (c.in_ok-roll_head.ensures.header honest))
     (c.roll_open.ensures.written honest)
 

@@ -49,9 +49,9 @@ returns-clause-any_moment g c = λ honest gates.
     (c.write_first.ensures.any_moment honest (subst HaveLastGates (sym same) gates))
 
 pub returns-in_err-kernel-clause-damaged : goal.returns-in_err-kernel-clause-damaged
-returns-in_err-kernel-clause-damaged g c = λ honest told.
+returns-in_err-kernel-clause-damaged g c = λ honest reported.
     let p = err_from_is_err_and c.from_residual-in_err-kernel.result c.from_residual-in_err-kernel.ensures.1 in
-    absurd (memory_no_damage c.from_residual-in_err-kernel.result (p.1 ∙ ap Err p.2) told)
+    absurd (memory_no_damage c.from_residual-in_err-kernel.result (p.1 ∙ ap Err p.2) reported)
 
 pub returns-in_err-kernel-clause-faults : goal.returns-in_err-kernel-clause-faults
 returns-in_err-kernel-clause-faults g c =
@@ -59,9 +59,9 @@ returns-in_err-kernel-clause-faults g c =
     of_memory c.from_residual-in_err-kernel.result (p.1 ∙ ap Err p.2)
 
 pub returns-in_err-kernel-2-clause-damaged : goal.returns-in_err-kernel-2-clause-damaged
-returns-in_err-kernel-2-clause-damaged g c = λ honest told.
+returns-in_err-kernel-2-clause-damaged g c = λ honest reported.
     let p = err_from_is_err_and c.from_residual-in_err-kernel-2.result c.from_residual-in_err-kernel-2.ensures.1 in
-    absurd (memory_no_damage c.from_residual-in_err-kernel-2.result (p.1 ∙ ap Err p.2) told)
+    absurd (memory_no_damage c.from_residual-in_err-kernel-2.result (p.1 ∙ ap Err p.2) reported)
 
 pub returns-in_err-kernel-2-clause-faults : goal.returns-in_err-kernel-2-clause-faults
 returns-in_err-kernel-2-clause-faults g c =
@@ -69,9 +69,9 @@ returns-in_err-kernel-2-clause-faults g c =
     of_memory c.from_residual-in_err-kernel-2.result (p.1 ∙ ap Err p.2)
 
 pub returns-in_err-kernel-3-clause-damaged : goal.returns-in_err-kernel-3-clause-damaged
-returns-in_err-kernel-3-clause-damaged g c = λ honest told.
+returns-in_err-kernel-3-clause-damaged g c = λ honest reported.
     let p = err_from_is_err_and c.from_residual-in_err-kernel-3.result c.from_residual-in_err-kernel-3.ensures.1 in
-    absurd (device_no_damage c.from_residual-in_err-kernel-3.result (p.1 ∙ ap Err p.2) told)
+    absurd (device_no_damage c.from_residual-in_err-kernel-3.result (p.1 ∙ ap Err p.2) reported)
 
 pub returns-in_err-kernel-3-clause-faults : goal.returns-in_err-kernel-3-clause-faults
 returns-in_err-kernel-3-clause-faults g c =

@@ -13,10 +13,10 @@ use Rattle.recover.proofs.Ways.{one_found, one_parts, read_damaged, still_same}
 use Rattle.recover.proofs.opening.go_on.Goals as goal
 
 pub returns-in_err-kernel-clause-damaged : goal.returns-in_err-kernel-clause-damaged
-returns-in_err-kernel-clause-damaged g c = λ honest told.
+returns-in_err-kernel-clause-damaged g c = λ honest reported.
     let p = err_from_is_err_and c.from_residual.result c.from_residual.ensures.1 in
     read_damaged (g.D.Disk.view c.args.disk.now).seen c.args.epoch _ (c.requires.used honest)
-    (c.in_err-kernel.ensures.damaged honest (cc (p.1, p.2, told)))
+    (c.in_err-kernel.ensures.damaged honest (cc (p.1, p.2, reported)))
 
 pub returns-in_err-kernel-clause-any_moment : goal.returns-in_err-kernel-clause-any_moment
 returns-in_err-kernel-clause-any_moment g c =
@@ -46,9 +46,9 @@ returns-clause-any_moment g c = λ honest gates.
     (read.ensures.read honest)) (c.end_after.ensures.any_moment honest)
 
 pub returns-in_err-kernel-2-clause-damaged : goal.returns-in_err-kernel-2-clause-damaged
-returns-in_err-kernel-2-clause-damaged g c = λ honest told.
+returns-in_err-kernel-2-clause-damaged g c = λ honest reported.
     let p = err_from_is_err_and c.from_residual-in_err-kernel-2.result c.from_residual-in_err-kernel-2.ensures.1 in
-    absurd (device_no_damage c.from_residual-in_err-kernel-2.result (p.1 ∙ ap Err p.2) told)
+    absurd (device_no_damage c.from_residual-in_err-kernel-2.result (p.1 ∙ ap Err p.2) reported)
 
 pub returns-in_err-kernel-2-clause-faults : goal.returns-in_err-kernel-2-clause-faults
 returns-in_err-kernel-2-clause-faults g c =

@@ -18,10 +18,10 @@ use Rattle.recover.proofs.Ways.{next_damaged, next_found, next_parts, read_damag
 use Rattle.recover.proofs.opening.go_on_next.Goals as goal
 
 pub returns-in_err-base-clause-damaged : goal.returns-in_err-base-clause-damaged
-returns-in_err-base-clause-damaged g c = λ honest told.
+returns-in_err-base-clause-damaged g c = λ honest reported.
     let p = err_from_is_err_and c.from_residual.result c.from_residual.ensures.1 in
     read_damaged (g.D.Disk.view c.args.disk.now).seen c.args.epoch _ (c.requires.used honest)
-    (c.in_err-base.ensures.damaged honest (cc (p.1, p.2, told)))
+    (c.in_err-base.ensures.damaged honest (cc (p.1, p.2, reported)))
 
 pub returns-in_err-base-clause-any_moment : goal.returns-in_err-base-clause-any_moment
 returns-in_err-base-clause-any_moment g c = λ honest gates.
@@ -34,13 +34,14 @@ returns-in_err-base-2-clause-any_moment g c = λ honest gates.
     (c.read_epoch.ensures.reads_only honest).time
 
 pub returns-in_err-kernel-clause-damaged : goal.returns-in_err-kernel-clause-damaged
-returns-in_err-kernel-clause-damaged g c = λ honest told.
+returns-in_err-kernel-clause-damaged g c = λ honest reported.
     let p = err_from_is_err_and c.from_residual-in_err-kernel.result c.from_residual-in_err-kernel.ensures.1 in
     let e = c.args.epoch in
     let seen = (g.D.Disk.view c.args.disk.now).seen in
     let read = c.in_ok-base in
     next_damaged seen e read.base read.field-0-1 read.field-0-2 (c.requires.used honest) (read.ensures.read honest)
-    (λ rs s encoded. (rw c.in_ok-base-2.ensures.base at c.in_err-kernel.ensures.damaged honest (cc (p.1, p.2, told))) rs
+    (λ rs s encoded. (rw c.in_ok-base-2.ensures.base at c.in_err-kernel.ensures.damaged honest
+    (cc (p.1, p.2, reported))) rs
     s
     (subst (λ slot. EncodesBatches (drop 16 (slot_of (g.D.Disk.view c.read_epoch.new.disk).seen slot)) rs)
     (sym c.segment_slot.ensures)
@@ -141,9 +142,9 @@ end_after-requires g c = λ honest.
     (c.in_ok-kernel.ensures.reads_only honest).seen (c.in_ok-kernel-2.ensures.made honest)
 
 pub returns-in_err-base-2-clause-damaged : goal.returns-in_err-base-2-clause-damaged
-returns-in_err-base-2-clause-damaged g c = λ honest told.
+returns-in_err-base-2-clause-damaged g c = λ honest reported.
     let p = err_from_is_err_and c.from_residual-in_err-base-2.result c.from_residual-in_err-base-2.ensures.1 in
-    absurd (memory_no_damage c.from_residual-in_err-base-2.result (p.1 ∙ ap Err p.2) told)
+    absurd (memory_no_damage c.from_residual-in_err-base-2.result (p.1 ∙ ap Err p.2) reported)
 
 pub returns-in_err-base-2-clause-faults : goal.returns-in_err-base-2-clause-faults
 returns-in_err-base-2-clause-faults g c =
@@ -151,9 +152,9 @@ returns-in_err-base-2-clause-faults g c =
     of_memory c.from_residual-in_err-base-2.result (p.1 ∙ ap Err p.2)
 
 pub returns-in_err-kernel-2-clause-damaged : goal.returns-in_err-kernel-2-clause-damaged
-returns-in_err-kernel-2-clause-damaged g c = λ honest told.
+returns-in_err-kernel-2-clause-damaged g c = λ honest reported.
     let p = err_from_is_err_and c.from_residual-in_err-kernel-2.result c.from_residual-in_err-kernel-2.ensures.1 in
-    absurd (device_no_damage c.from_residual-in_err-kernel-2.result (p.1 ∙ ap Err p.2) told)
+    absurd (device_no_damage c.from_residual-in_err-kernel-2.result (p.1 ∙ ap Err p.2) reported)
 
 pub returns-in_err-kernel-2-clause-faults : goal.returns-in_err-kernel-2-clause-faults
 returns-in_err-kernel-2-clause-faults g c =
@@ -161,9 +162,9 @@ returns-in_err-kernel-2-clause-faults g c =
     of_device c.from_residual-in_err-kernel-2.result (p.1 ∙ ap Err p.2)
 
 pub returns-in_err-kernel-3-clause-damaged : goal.returns-in_err-kernel-3-clause-damaged
-returns-in_err-kernel-3-clause-damaged g c = λ honest told.
+returns-in_err-kernel-3-clause-damaged g c = λ honest reported.
     let p = err_from_is_err_and c.from_residual-in_err-kernel-3.result c.from_residual-in_err-kernel-3.ensures.1 in
-    absurd (device_no_damage c.from_residual-in_err-kernel-3.result (p.1 ∙ ap Err p.2) told)
+    absurd (device_no_damage c.from_residual-in_err-kernel-3.result (p.1 ∙ ap Err p.2) reported)
 
 pub returns-in_err-kernel-3-clause-faults : goal.returns-in_err-kernel-3-clause-faults
 returns-in_err-kernel-3-clause-faults g c =

@@ -11,14 +11,14 @@ use Rattle.recover.proofs.Joined.{leaves_same}
 use Rattle.recover.proofs.opening.load.Goals as goal
 
 pub returns-in_err-survey_store-clause-damaged : goal.returns-in_err-survey_store-clause-damaged
-returns-in_err-survey_store-clause-damaged g c = λ honest told.
+returns-in_err-survey_store-clause-damaged g c = λ honest reported.
     let p =
     err_from_is_err_and c.from_residual-in_err-survey_store.result c.from_residual-in_err-survey_store.ensures.1 in
     let seen = (g.D.Disk.view c.args.disk.now).seen in
     let said = c.in_ok-headers.ensures.said honest in (
-      c.in_err-survey_store.ensures.no_other seen said (cc (p.1, p.2, told)),
+      c.in_err-survey_store.ensures.no_other seen said (cc (p.1, p.2, reported)),
       λ state found. c.in_err-survey_store.ensures.damaged seen said
-          (cc (p.1, p.2, told)) found.base found.records found.encoded,
+          (cc (p.1, p.2, reported)) found.base found.records found.encoded,
     )
 
 pub begin-requires-clause-unused : goal.begin-requires-clause-unused
@@ -52,10 +52,10 @@ go_on-requires-clause-used g c = λ honest.
     (c.in_ok-headers.ensures.said honest))))
 
 pub returns-in-New-clause-damaged : goal.returns-in-New-clause-damaged
-returns-in-New-clause-damaged g c = λ honest told.
+returns-in-New-clause-damaged g c = λ honest reported.
     let seen = (g.D.Disk.view c.args.disk.now).seen in (
       c.in_ok-survey_store.ensures.one_version seen (c.in_ok-headers.ensures.said honest),
-      λ state found. c.begin.ensures.damaged honest told state
+      λ state found. c.begin.ensures.damaged honest reported state
           (subst (λ (s : Slots). Recovered (as_written s) state) (sym (c.in_ok-headers.ensures.seen honest)) found),
     )
 
@@ -67,10 +67,10 @@ returns-in-New-clause-any_moment g c = λ honest gates.
     (c.begin.ensures.any_moment honest (subst HaveLastGates (sym same) gates))
 
 pub returns-in-InUse-default-true-clause-damaged : goal.returns-in-InUse-default-true-clause-damaged
-returns-in-InUse-default-true-clause-damaged g c = λ honest told.
+returns-in-InUse-default-true-clause-damaged g c = λ honest reported.
     let seen = (g.D.Disk.view c.args.disk.now).seen in (
       c.in_ok-survey_store.ensures.one_version seen (c.in_ok-headers.ensures.said honest),
-      λ state found. c.go_on_next.ensures.damaged honest told state
+      λ state found. c.go_on_next.ensures.damaged honest reported state
           (subst (λ (s : Slots). Recovered (as_written s) state) (sym (c.in_ok-headers.ensures.seen honest)) found),
     )
 
@@ -82,10 +82,10 @@ returns-in-InUse-default-true-clause-any_moment g c = λ honest gates.
     (c.go_on_next.ensures.any_moment honest (subst HaveLastGates (sym same) gates))
 
 pub returns-in-InUse-default-false-clause-damaged : goal.returns-in-InUse-default-false-clause-damaged
-returns-in-InUse-default-false-clause-damaged g c = λ honest told.
+returns-in-InUse-default-false-clause-damaged g c = λ honest reported.
     let seen = (g.D.Disk.view c.args.disk.now).seen in (
       c.in_ok-survey_store.ensures.one_version seen (c.in_ok-headers.ensures.said honest),
-      λ state found. c.go_on.ensures.damaged honest told state
+      λ state found. c.go_on.ensures.damaged honest reported state
           (subst (λ (s : Slots). Recovered (as_written s) state) (sym (c.in_ok-headers.ensures.seen honest)) found),
     )
 
@@ -97,29 +97,30 @@ returns-in-InUse-default-false-clause-any_moment g c = λ honest gates.
     (c.go_on.ensures.any_moment honest (subst HaveLastGates (sym same) gates))
 
 pub returns-in-New-clause-version : goal.returns-in-New-clause-version
-returns-in-New-clause-version g c = λ honest told. absurd (never_version c.begin.result c.begin.ensures.faults told)
+returns-in-New-clause-version g c =
+    λ honest reported. absurd (never_version c.begin.result c.begin.ensures.faults reported)
 
 pub returns-in-New-clause-faults : goal.returns-in-New-clause-faults
 returns-in-New-clause-faults g c = one_of_four c.begin.result c.begin.ensures.faults
 
 pub returns-in-InUse-default-true-clause-version : goal.returns-in-InUse-default-true-clause-version
 returns-in-InUse-default-true-clause-version g c =
-    λ honest told. absurd (never_version c.go_on_next.result c.go_on_next.ensures.faults told)
+    λ honest reported. absurd (never_version c.go_on_next.result c.go_on_next.ensures.faults reported)
 
 pub returns-in-InUse-default-true-clause-faults : goal.returns-in-InUse-default-true-clause-faults
 returns-in-InUse-default-true-clause-faults g c = one_of_four c.go_on_next.result c.go_on_next.ensures.faults
 
 pub returns-in-InUse-default-false-clause-version : goal.returns-in-InUse-default-false-clause-version
 returns-in-InUse-default-false-clause-version g c =
-    λ honest told. absurd (never_version c.go_on.result c.go_on.ensures.faults told)
+    λ honest reported. absurd (never_version c.go_on.result c.go_on.ensures.faults reported)
 
 pub returns-in-InUse-default-false-clause-faults : goal.returns-in-InUse-default-false-clause-faults
 returns-in-InUse-default-false-clause-faults g c = one_of_four c.go_on.result c.go_on.ensures.faults
 
 pub returns-in_err-headers-clause-damaged : goal.returns-in_err-headers-clause-damaged
 returns-in_err-headers-clause-damaged g c =
-    λ honest told. let p = err_from_is_err_and c.from_residual.result c.from_residual.ensures.1 in
-    absurd (device_no_damage c.from_residual.result (p.1 ∙ ap Err p.2) told)
+    λ honest reported. let p = err_from_is_err_and c.from_residual.result c.from_residual.ensures.1 in
+    absurd (device_no_damage c.from_residual.result (p.1 ∙ ap Err p.2) reported)
 
 pub returns-in-New-clause-opened : goal.returns-in-New-clause-opened
 returns-in-New-clause-opened g c = λ honest.
@@ -173,8 +174,8 @@ returns-in_err-survey_store-clause-failures g c =
     let p =
     err_from_is_err_and c.from_residual-in_err-survey_store.result c.from_residual-in_err-survey_store.ensures.1 in
     counts_other _ _ c.from_residual-in_err-survey_store.result _ (p.1 ∙ ap Err p.2)
-    (λ told. elim c.in_err-survey_store.ensures.faults [
-      | inl version ↦ cc (version, told)
-      | inr damaged ↦ cc (damaged, told)
+    (λ reported. elim c.in_err-survey_store.ensures.faults [
+      | inl version ↦ cc (version, reported)
+      | inr damaged ↦ cc (damaged, reported)
     ])
     c.in_ok-headers.ensures.failures.ok

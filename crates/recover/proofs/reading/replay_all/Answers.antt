@@ -14,7 +14,7 @@ use Rattle.recover.proofs.reading.replay_all.Goals as goal
 
 -- nothing is encoded from here on
 pub returns-in_err-now-clause-damaged : goal.returns-in_err-now-clause-damaged
-returns-in_err-now-clause-damaged g c = λ honest told.
+returns-in_err-now-clause-damaged g c = λ honest reported.
     let inv = c.loop-now.invariant in
     let p = err_from_is_err_and c.from_residual.result c.from_residual.ensures.1 in
     let segment = slot_of (g.D.Disk.view c.args.disk.now).seen c.args.slot in
@@ -23,7 +23,7 @@ returns-in_err-now-clause-damaged g c = λ honest told.
     unread segment (place_of c.args.reader.now) (place_of c.loop-now.reader) c.args.kernel c.loop-now.state
     (inv.left honest)
     (subst (λ l. IsNothing l (place_of c.loop-now.reader)) same
-    (c.next-next.ensures.damaged honest (cc (p.1, p.2, told, c.in_err-now.ensures.err))))
+    (c.next-next.ensures.damaged honest (cc (p.1, p.2, reported, c.in_err-now.ensures.err))))
 
 -- all was replayed
 pub returns-in_default-clause-state : goal.returns-in_default-clause-state
@@ -43,7 +43,7 @@ returns-in_default-clause-state g c = λ honest.
 
 -- the record isn't a step
 pub returns-in_err-state-clause-damaged : goal.returns-in_err-state-clause-damaged
-returns-in_err-state-clause-damaged g c = λ honest told.
+returns-in_err-state-clause-damaged g c = λ honest reported.
     let inv = c.loop-now.invariant in
     let p = err_from_is_err_and c.from_residual-in_err-state.result c.from_residual-in_err-state.ensures.1 in
     let first = place_of c.args.reader.now in
@@ -59,7 +59,7 @@ returns-in_err-state-clause-damaged g c = λ honest told.
     none_left segment first (place_of c.loop-now.reader)
     (place_of c.next-next.new.self) c.in-Some.entry c.args.kernel c.in_ok-now.now left
     (subst (λ l. Leads l (place_of c.loop-now.reader) c.in-Some.entry (place_of c.next-next.new.self)) same leads)
-    (c.in_err-state.ensures.damaged (cc (p.1, p.2, told)))
+    (c.in_err-state.ensures.damaged (cc (p.1, p.2, reported)))
 
 pub loop-now-preserved : goal.loop-now-preserved
 loop-now-preserved g c =
@@ -133,9 +133,9 @@ pub returns-in_err-state-clause-failures : goal.returns-in_err-state-clause-fail
 returns-in_err-state-clause-failures g c =
     let p = err_from_is_err_and c.from_residual-in_err-state.result c.from_residual-in_err-state.ensures.1 in
     counts_other _ _ c.from_residual-in_err-state.result _ (p.1 ∙ ap Err p.2)
-    (λ told. elim c.in_err-state.ensures.faults [
-      | inl damaged ↦ cc (damaged, told)
-      | inr memory ↦ cc (memory, told)
+    (λ reported. elim c.in_err-state.ensures.faults [
+      | inl damaged ↦ cc (damaged, reported)
+      | inr memory ↦ cc (memory, reported)
     ])
     ((rw c.in_ok-now.ensures.ok.1 at c.next-next.ensures.quiet) ∙ c.loop-now.invariant.quiet)
 

@@ -8,12 +8,12 @@ use Rattle.recover.proofs.Streams.{first_place, never_replayed, replayed_all}
 use Rattle.recover.proofs.reading.replay_segment.Goals as goal
 
 pub returns-in_err-kernel-clause-damaged : goal.returns-in_err-kernel-clause-damaged
-returns-in_err-kernel-clause-damaged g c = λ honest told.
+returns-in_err-kernel-clause-damaged g c = λ honest reported.
     let p = err_from_is_err_and c.from_residual-in_err-kernel.result c.from_residual-in_err-kernel.ensures.1 in
     let segment : List ℕ = slot_of (g.D.Disk.view c.args.disk.now).seen c.args.slot in
     never_replayed segment 16 c.args.kernel (c.requires honest)
     (λ state count end replays. (rw c.in_ok-base.ensures.ok.0 at c.in_err-kernel.ensures.damaged honest
-    (cc (p.1, p.2, told))) state count end
+    (cc (p.1, p.2, reported))) state count end
     (subst (λ (place : Place). Replays segment place c.args.kernel state count end)
     (sym (rw c.in_ok-base.ensures.ok.1 at c.new-made.ensures.place honest)) replays))
 
@@ -38,8 +38,8 @@ returns-in_err-base-clause-state g c =
 
 pub returns-in_err-base-clause-damaged : goal.returns-in_err-base-clause-damaged
 returns-in_err-base-clause-damaged g c =
-    λ honest told. let p = err_from_is_err_and c.from_residual.result c.from_residual.ensures.1 in
-    absurd (memory_no_damage c.from_residual.result (p.1 ∙ ap Err p.2) told)
+    λ honest reported. let p = err_from_is_err_and c.from_residual.result c.from_residual.ensures.1 in
+    absurd (memory_no_damage c.from_residual.result (p.1 ∙ ap Err p.2) reported)
 
 pub returns-in_err-base-clause-faults : goal.returns-in_err-base-clause-faults
 returns-in_err-base-clause-faults g c =

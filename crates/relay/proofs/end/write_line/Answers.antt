@@ -4,7 +4,8 @@ use Rattle.relay.proofs.Parts.{at_any, part_before, part_after}
 use Rattle.relay.proofs.end.write_line.Goals as goal
 
 pub returns-in_err-write_bytes-clause-part : goal.returns-in_err-write_bytes-clause-part
-returns-in_err-write_bytes-clause-part g c = at_any _ (part_before _ _ (codes "machc: ") c.args.words.now c.in_err-write_bytes.ensures.part)
+returns-in_err-write_bytes-clause-part g c =
+    at_any _ (part_before _ _ (codes "machc: ") c.args.words.now c.in_err-write_bytes.ensures.part)
 
 pub returns-clause-part : goal.returns-clause-part
 returns-clause-part g c =

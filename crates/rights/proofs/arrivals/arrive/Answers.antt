@@ -17,7 +17,7 @@ loop-right-init c = (
 pub arrive_one-requires-clause-room : goal.arrive_one-requires-clause-room
 arrive_one-requires-clause-room c =
     way_room (names_in c.args.state.now.current c.args.space)
-    (names_in c.loop-right.state.current c.args.space) c.args.rights.now c.loop-right.rest.now c.in-Some.behind.now
+    (names_in c.loop-right.state.current c.args.space) c.args.rights.now c.loop-right.rest.now c.in-Some.beyond.now
     c.args.wanted.now c.loop-right.left.now c.loop-right.given.items c.in-Some.right.now
     c.loop-right.invariant.0 c.in-Some.ensures.cases.0
 
@@ -31,7 +31,7 @@ loop-right-preserved c =
     let next = names_after (names_in now space) right.kind right.port name in
     let is = c.in_ok-name.ensures.ok in (
       way_more (names_in start space) (names_in now space)
-          (names_in c.arrive_one.new.state.current space) c.args.rights.now c.loop-right.rest.now c.in-Some.behind.now
+          (names_in c.arrive_one.new.state.current space) c.args.rights.now c.loop-right.rest.now c.in-Some.beyond.now
           c.args.wanted.now c.loop-right.left.now c.front-shown.result.1.now c.loop-right.given.items
           c.push.new.self.items right name c.front-shown.result.0
           c.loop-right.invariant.0 c.in-Some.ensures.cases.0 c.in_ok-name.ensures.may

@@ -16,26 +16,28 @@ pub loop-left-preserved : goal.loop-left-preserved
 loop-left-preserved c =
     let items : c.extend_from_slice.new.self.items ≡ c.loop-left.body.items ++ c.in_ok-item.item.items = search rules in
     rw items (item_read c.loop-left.body.items c.in_ok-item.item.items c.loop-left.left (words_of c.loop-left.rest.now)
-    (words_of c.in-Some.behind.now) (words_of c.in_ok-item.behind.now) c.in-Some.ensures c.in_ok-item.ensures
+    (words_of c.in-Some.beyond.now) (words_of c.in_ok-item.beyond.now) c.in-Some.ensures c.in_ok-item.ensures
     (omega (arith, c.loop-left-test.true)) ∙ c.loop-left.invariant)
 
 pub returns-in_err-item : goal.returns-in_err-item
 returns-in_err-item c =
     let p = err_from_is_err_and c.from_residual.result c.from_residual.ensures.1 in
     rw (p.1, p.2) (item_fault _ c.loop-left.body.items c.loop-left.left (words_of c.loop-left.rest.now)
-    (words_of c.in-Some.behind.now) _ c.in-Some.ensures c.in_err-item.ensures
+    (words_of c.in-Some.beyond.now) _ c.in-Some.ensures c.in_err-item.ensures
     (omega (arith, c.loop-left-test.true)) c.loop-left.invariant)
 
 pub returns-in_default : goal.returns-in_default
 returns-in_default c =
-    let is : after_bytes c.loop-left.body.items (optional_bytes_at (codes "data") (words_of c.loop-left.rest.now)) ≡ body_at (words_of c.args.text.now) =
+    let is : after_bytes c.loop-left.body.items (optional_bytes_at (codes "data") (words_of c.loop-left.rest.now))
+    ≡ body_at (words_of c.args.text.now) =
     sym (ap (after_bytes c.loop-left.body.items)
     (no_item_read c.loop-left.left (words_of c.loop-left.rest.now) c.in_default.ensures)) ∙ c.loop-left.invariant in
     rw is at c.read_rest.ensures
 
 pub returns : goal.returns
 returns c =
-    let is : after_bytes c.loop-left.body.items (optional_bytes_at (codes "data") (words_of c.loop-left.rest.now)) ≡ body_at (words_of c.args.text.now) =
+    let is : after_bytes c.loop-left.body.items (optional_bytes_at (codes "data") (words_of c.loop-left.rest.now))
+    ≡ body_at (words_of c.args.text.now) =
     sym (ap (after_bytes c.loop-left.body.items)
     (none_to_read c.loop-left.left (words_of c.loop-left.rest.now) (omega (arith, c.loop-left-test.false))))
     ∙ c.loop-left.invariant in

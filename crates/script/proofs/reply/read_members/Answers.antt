@@ -19,13 +19,13 @@ returns-in_default c =
 pub loop-members-smaller : goal.loop-members-smaller
 loop-members-smaller c =
     let here : member_at (words_of c.loop-members.rest.now)
-    ≡ Ok (Some (c.in-Some.member, words_of c.in-Some.behind.now)) = rw c.in-Some.is at c.in_ok-found.ensures in
+    ≡ Ok (Some (c.in-Some.member, words_of c.in-Some.beyond.now)) = rw c.in-Some.is at c.in_ok-found.ensures in
     member_less _ _ _ here
 
 pub loop-members-preserved : goal.loop-members-preserved
 loop-members-preserved c =
     let here : member_at (words_of c.loop-members.rest.now)
-    ≡ Ok (Some (c.in-Some.member, words_of c.in-Some.behind.now)) = rw c.in-Some.is at c.in_ok-found.ensures in
+    ≡ Ok (Some (c.in-Some.member, words_of c.in-Some.beyond.now)) = rw c.in-Some.is at c.in_ok-found.ensures in
     let items : c.push.new.self.items ≡ c.loop-members.members.items ++ c.in-Some.member ∷ [] = search rules in
     rw items (members_more c.loop-members.members.items c.in-Some.member (words_of c.loop-members.rest.now)
-    (words_of c.in-Some.behind.now) here ∙ c.loop-members.invariant)
+    (words_of c.in-Some.beyond.now) here ∙ c.loop-members.invariant)

@@ -18,13 +18,13 @@ returns-in_default c =
 
 pub loop-names-smaller : goal.loop-names-smaller
 loop-names-smaller c =
-    let here : named_at (words_of c.loop-names.rest.now) ≡ Ok (Some (c.in-Some.named, words_of c.in-Some.behind.now)) =
+    let here : named_at (words_of c.loop-names.rest.now) ≡ Ok (Some (c.in-Some.named, words_of c.in-Some.beyond.now)) =
     rw c.in-Some.is at c.in_ok-found.ensures in named_less _ _ _ here
 
 pub loop-names-preserved : goal.loop-names-preserved
 loop-names-preserved c =
-    let here : named_at (words_of c.loop-names.rest.now) ≡ Ok (Some (c.in-Some.named, words_of c.in-Some.behind.now)) =
+    let here : named_at (words_of c.loop-names.rest.now) ≡ Ok (Some (c.in-Some.named, words_of c.in-Some.beyond.now)) =
     rw c.in-Some.is at c.in_ok-found.ensures in
     let items : c.push.new.self.items ≡ c.loop-names.names.items ++ c.in-Some.named ∷ [] = search rules in
     rw items (names_more c.loop-names.names.items c.in-Some.named (words_of c.loop-names.rest.now)
-    (words_of c.in-Some.behind.now) here ∙ c.loop-names.invariant)
+    (words_of c.in-Some.beyond.now) here ∙ c.loop-names.invariant)

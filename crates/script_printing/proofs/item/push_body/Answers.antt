@@ -8,13 +8,13 @@ loop-left-init c = all_pushed c.args.line.now.items c.args.body.now
 
 pub loop-left-preserved : goal.loop-left-preserved
 loop-left-preserved c =
-    let added = added_some _ _ _ _ (rw c.in-Some.is at c.in_ok-behind.ensures) in
-    item_pushed _ _ c.loop-left.rest.now c.in-Some.behind.now c.loop-left.left added.0 added.1
+    let added = added_some _ _ _ _ (rw c.in-Some.is at c.in_ok-beyond.ensures) in
+    item_pushed _ _ c.loop-left.rest.now c.in-Some.beyond.now c.loop-left.left added.0 added.1
     (omega (arith, c.loop-left-test.true)) added.2 ∙ c.loop-left.invariant
 
 pub returns-in_default : goal.returns-in_default
 returns-in_default c =
-    let none = added_none _ _ _ (rw c.in_default.is at c.in_ok-behind.ensures) in
+    let none = added_none _ _ _ (rw c.in_default.is at c.in_ok-beyond.ensures) in
     rest_pushed c.push_optional_bytes.result c.args.line.now.items c.loop-left.line.items _
     (body_within c.loop-left.left c.loop-left.rest.now) _ (body_words c.args.body.now)
     (no_item_left c.loop-left.rest.now c.loop-left.left none.0) c.loop-left.invariant

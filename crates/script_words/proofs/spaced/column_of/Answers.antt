@@ -16,11 +16,11 @@ overflow_add-result c =
 pub loop-left-preserved : goal.loop-left-preserved
 loop-left-preserved c =
     let end : c.word_end-end.result ≡ word_end c.loop-left.rest.now = c.word_end-end.ensures.end in
-    let behind : c.split_at.result.1.now ≡ drop (word_end c.loop-left.rest.now) c.loop-left.rest.now =
+    let beyond : c.split_at.result.1.now ≡ drop (word_end c.loop-left.rest.now) c.loop-left.rest.now =
     c.split_at.ensures.back ∙ ap (λ n. drop n c.loop-left.rest.now) end in
     record {
       is =
-          rw (end, behind) (column_next c.loop-left.column c.loop-left.left c.loop-left.rest.now c.loop-left-test.true)
+          rw (end, beyond) (column_next c.loop-left.column c.loop-left.left c.loop-left.rest.now c.loop-left-test.true)
           ∙ c.loop-left.invariant.is;
       in_range =
           omega (arith, c.loop-left.invariant.in_range, c.split_at.ensures.back_len, c.word_end-end.ensures.within);

@@ -12,9 +12,9 @@ returns-then-count-eq0 c =
 
 pub returns : goal.returns
 returns c =
-    let behind : c.split_at.result.1.now ≡ drop (prefix_len is_space c.args.text.now) c.args.text.now = cc in
+    let beyond : c.split_at.result.1.now ≡ drop (prefix_len is_space c.args.text.now) c.args.text.now = cc in
     let first =
-    first_word c.args.text.now c.split_at.result.1.now c.count_word_bytes-count.result behind
+    first_word c.args.text.now c.split_at.result.1.now c.count_word_bytes-count.result beyond
     c.count_word_bytes-count.ensures c.if-count-eq0.false in
     cc
 

@@ -4,14 +4,14 @@ use Rattle.ipc_model.specs.declared.message.CarriedRight.{CarriedRight}
 use Rattle.ipc_model.specs.messages.Sending.{take_header}
 use Rattle.msg_header.specs.Headers.{parts_by}
 use Rattle.sending.proofs.Joined.{all_taken, second_failed, third_failed}
-use Rattle.sending.proofs.Steps.{gave_failed}
+use Rattle.sending.proofs.Steps.{agrees_failed}
 use Rattle.type_desc.specs.Values.{item_value}
 use Rattle.sending.proofs.ready.take_all.Goals as goal
 
 pub returns-in_err-taken-clause-ready : goal.returns-in_err-taken-clause-ready
 returns-in_err-taken-clause-ready c =
     let p = err_from_is_err_and c.from_residual.result c.from_residual.ensures.1 in
-    rw (p.1, p.2) (gave_failed (take_header c.args.state.now.current c.args.space c.args.named.remote
+    rw (p.1, p.2) (agrees_failed (take_header c.args.state.now.current c.args.space c.args.named.remote
     c.args.named.destination c.args.named.local c.args.named.reply) _ _ _ _ c.in_err-taken.ensures.taken)
 
 pub returns-in_err-rights-clause-ready : goal.returns-in_err-rights-clause-ready

@@ -3,8 +3,8 @@ use Rattle.relay.specs.Relaying.{side}
 use Rattle.shell.proofs.Joins.{none_done, part_said}
 use Rattle.shell.proofs.talk.take_turn.Goals as goal
 
-pub returns-in_err-told-clause-part : goal.returns-in_err-told-clause-part
-returns-in_err-told-clause-part g c =
+pub returns-in_err-printed-clause-part : goal.returns-in_err-printed-clause-part
+returns-in_err-printed-clause-part g c =
     none_done c.from_residual.result c.args.place.number
     (side (g.P.Read.remaining c.args.replies.now) (writer_contents g.S.Write.contents c.args.requests.now)
     (writer_buffer c.args.requests.now)) (writer_contents g.O.Write.contents c.args.output.now)
@@ -18,4 +18,4 @@ returns-in_err-say-clause-part g c =
     (side (g.P.Read.remaining c.hear.new.replies) (writer_contents g.S.Write.contents c.hear.new.requests)
     (writer_buffer c.hear.new.requests)) (writer_contents g.O.Write.contents c.args.output.now)
     (writer_contents g.O.Write.contents c.say.new.output)
-    c.in_ok-told.told.text.items c.in_ok-told.told.is_well c.in_ok-told.ensures part
+    c.in_ok-printed.printed.text.items c.in_ok-printed.printed.is_well c.in_ok-printed.ensures part

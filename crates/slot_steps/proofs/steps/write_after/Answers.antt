@@ -6,9 +6,9 @@ returns-clause-shut g c = λ honest shut.
     let old = g.D.Disk.view c.args.disk.now in
     let new = g.D.Disk.view c.write_at.new.self in
     always_ok c.write_at.result (shut_kept c.args.slot old new shut
-    (write_closed c.args.slot old new c.args.at _ c.requires.behind shut (c.write_at.ensures.time honest)))
+    (write_closed c.args.slot old new c.args.at _ c.requires.beyond shut (c.write_at.ensures.time honest)))
 
 pub returns-clause-any_moment : goal.returns-clause-any_moment
 returns-clause-any_moment g c = λ honest shut.
     write_closed c.args.slot (g.D.Disk.view c.args.disk.now)
-    (g.D.Disk.view c.write_at.new.self) c.args.at _ c.requires.behind shut (c.write_at.ensures.time honest)
+    (g.D.Disk.view c.write_at.new.self) c.args.at _ c.requires.beyond shut (c.write_at.ensures.time honest)

@@ -9,6 +9,6 @@ loop-item-preserved c =
     let items = c.args.items.now in
     let index = c.loop-item.item-index in
     kinds_step (map item_value (drop index items)) (map item_value (drop (index + 1) items))
-    (item_value c.item-item.result) (map carried_kind c.loop-item.rest.now) (map carried_kind c.in-Some.behind.now)
+    (item_value c.item-item.result) (map carried_kind c.loop-item.rest.now) (map carried_kind c.in-Some.beyond.now)
     (ap (map item_value) (read_cons items index c.item-item.result
     (omega (arith, c.loop-item-test.true)) c.item-item.is)) c.in-Some.ensures c.loop-item.invariant

@@ -19,7 +19,7 @@ queue_messages-requires c =
       subst (All (λ (m : Message). is_linked_message (looks_of first) m ≡ true)) (sym c.as_slice.ensures)
           (linked_messages (looks_of first) c.in-Some.row.now
           (All-head (λ (r : LivePort). is_linked_row (looks_of first) r ≡ true) c.in-Some.row.now
-          c.in-Some.behind.now all)),
+          c.in-Some.beyond.now all)),
     )
 
 pub loop-row-preserved : goal.loop-row-preserved
@@ -28,17 +28,17 @@ loop-row-preserved c =
     let now = c.loop-row.state.current in
     let row = c.in-Some.row.now in
     let is = c.in-Some.ensures.cases.0 in
-    let behind = c.in-Some.behind.now in
+    let beyond = c.in-Some.beyond.now in
     record {
       left =
-          ap (filled_all behind) c.in_ok-queue_messages.ensures
-          ∙ ap (λ (messages : List Message). filled_all behind (queued_all row.serial messages now)) c.as_slice.ensures
+          ap (filled_all beyond) c.in_ok-queue_messages.ensures
+          ∙ ap (λ (messages : List Message). filled_all beyond (queued_all row.serial messages now)) c.as_slice.ensures
           ∙ ap (λ (rows : List LivePort). filled_all rows now) (sym is)
           ∙ c.loop-row.invariant.left;
       alike =
           λ s. ap (λ (state : State). lives state s) c.in_ok-queue_messages.ensures
           ∙ all_queued_alike row.serial c.as_slice.result.now now s ∙ c.loop-row.invariant.alike s;
       linked =
-          All-tail (λ (r : LivePort). is_linked_row (looks_of first) r ≡ true) row behind
+          All-tail (λ (r : LivePort). is_linked_row (looks_of first) r ≡ true) row beyond
           (subst (All (λ (r : LivePort). is_linked_row (looks_of first) r ≡ true)) is c.loop-row.invariant.linked);
     }

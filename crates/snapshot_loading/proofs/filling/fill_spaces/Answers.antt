@@ -8,13 +8,13 @@ pub loop-row-preserved : goal.loop-row-preserved
 loop-row-preserved c =
     let now = c.loop-row.state.current in
     let is = c.in-Some.ensures.cases.0 in
-    let behind = c.in-Some.behind.now in
+    let beyond = c.in-Some.beyond.now in
     record {
       left =
-          ap (spaced_all behind) c.in_ok-fill_space.ensures ∙ ap (λ (rows : List Space). spaced_all rows now) (sym is)
+          ap (spaced_all beyond) c.in_ok-fill_space.ensures ∙ ap (λ (rows : List Space). spaced_all rows now) (sym is)
           ∙ c.loop-row.invariant.left;
       may =
-          subst (MaySpace behind) (sym c.in_ok-fill_space.ensures)
-          (may_space_next c.in-Some.row.now behind now
+          subst (MaySpace beyond) (sym c.in_ok-fill_space.ensures)
+          (may_space_next c.in-Some.row.now beyond now
           (subst (λ (rows : List Space). MaySpace rows now) is c.loop-row.invariant.may));
     }

@@ -8,13 +8,13 @@ pub loop-row-preserved : goal.loop-row-preserved
 loop-row-preserved c =
     let now = c.loop-row.state.current in
     let is = c.in-Some.ensures.cases.0 in
-    let behind = c.in-Some.behind.now in
+    let beyond = c.in-Some.beyond.now in
     record {
       left =
-          ap (opened_all behind) c.in_ok-open_port.ensures ∙ ap (λ (rows : List LivePort). opened_all rows now) (sym is)
+          ap (opened_all beyond) c.in_ok-open_port.ensures ∙ ap (λ (rows : List LivePort). opened_all rows now) (sym is)
           ∙ c.loop-row.invariant.left;
       may =
-          subst (MayOpen behind) (sym c.in_ok-open_port.ensures)
-          (may_open_next c.in-Some.row.now behind now
+          subst (MayOpen beyond) (sym c.in_ok-open_port.ensures)
+          (may_open_next c.in-Some.row.now beyond now
           (subst (λ (rows : List LivePort). MayOpen rows now) is c.loop-row.invariant.may));
     }

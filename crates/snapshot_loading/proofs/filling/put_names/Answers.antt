@@ -10,13 +10,13 @@ loop-row-preserved c =
     let now = c.loop-row.state.current in
     let space = c.args.space in
     let is = c.in-Some.ensures.cases.0 in
-    let behind = c.in-Some.behind.now in
+    let beyond = c.in-Some.beyond.now in
     record {
       left =
-          ap (λ (r : Running). named_all space behind r.current) c.in_ok-put_name.ensures.ok ∙ ap
+          ap (λ (r : Running). named_all space beyond r.current) c.in_ok-put_name.ensures.ok ∙ ap
           (λ (rows : List NamedEntry). named_all space rows now) (sym is) ∙ c.loop-row.invariant.left;
       may =
-          subst (λ (r : Running). MayName space behind r.current) (sym c.in_ok-put_name.ensures.ok)
-          (may_name_next space c.in-Some.row.now behind now
+          subst (λ (r : Running). MayName space beyond r.current) (sym c.in_ok-put_name.ensures.ok)
+          (may_name_next space c.in-Some.row.now beyond now
           (subst (λ (rows : List NamedEntry). MayName space rows now) is c.loop-row.invariant.may));
     }

@@ -21,7 +21,7 @@ queue_message-requires c =
       live = ap (carries_live now) c.in_ok-copy_of.ensures
           ∙ live_message linked.0 now linked.1 c.in-Some.message.now
           (All-head (λ (m : Message). is_linked_message (looks_of linked.0) m ≡ true) c.in-Some.message.now
-          c.in-Some.behind.now all);
+          c.in-Some.beyond.now all);
     }
 
 pub loop-message-preserved : goal.loop-message-preserved
@@ -29,19 +29,19 @@ loop-message-preserved c =
     let now = c.loop-message.state.current in
     let serial = c.args.serial in
     let is = c.in-Some.ensures.cases.0 in
-    let behind = c.in-Some.behind.now in
+    let beyond = c.in-Some.beyond.now in
     let linked = c.loop-message.invariant.linked in
     record {
       left =
-          ap (λ (r : Running). queued_all serial behind r.current) c.in_ok-queue_message.ensures.ok
-          ∙ ap (λ (m : Message). queued_all serial behind (queued now serial m)) c.in_ok-copy_of.ensures
+          ap (λ (r : Running). queued_all serial beyond r.current) c.in_ok-queue_message.ensures.ok
+          ∙ ap (λ (m : Message). queued_all serial beyond (queued now serial m)) c.in_ok-copy_of.ensures
           ∙ ap (λ (messages : List Message). queued_all serial messages now) (sym is)
           ∙ c.loop-message.invariant.left;
       linked = (
         linked.0,
         λ s. ap (λ (r : Running). lives r.current s) c.in_ok-queue_message.ensures.ok
             ∙ queued_alike serial c.in_ok-copy_of.field-0 now s ∙ linked.1 s,
-        All-tail (λ (m : Message). is_linked_message (looks_of linked.0) m ≡ true) c.in-Some.message.now behind
+        All-tail (λ (m : Message). is_linked_message (looks_of linked.0) m ≡ true) c.in-Some.message.now beyond
             (subst (All (λ (m : Message). is_linked_message (looks_of linked.0) m ≡ true)) is linked.2),
       );
     }

@@ -12,7 +12,7 @@ returns-in_default-clause-faulty c =
 pub loop-rest-preserved : goal.loop-rest-preserved
 loop-rest-preserved c = record {
   added =
-      one_filled _ _ c.in-Ok.behind.now _ _ _ _ (item_value c.in-Ok.item) c.loop-rest.invariant.added
+      one_filled _ _ c.in-Ok.beyond.now _ _ _ _ (item_value c.in-Ok.item) c.loop-rest.invariant.added
       (sym c.is_empty.ensures ∙ c.loop-rest-test.true) c.in-Ok.ensures.passes c.in-Ok.ensures.item
       c.in-Ok.ensures.rest
       c.in_ok-push_filled.ensures.ok c.following_names-left.ensures;

@@ -17,13 +17,13 @@ returns-in_err-item-clause-fault c =
 pub loop-rest-preserved : goal.loop-rest-preserved
 loop-rest-preserved c =
     let read =
-    one_more _ _ c.in_ok-item.behind.now _ (item_value c.in_ok-item.item) c.loop-rest.invariant
+    one_more _ _ c.in_ok-item.beyond.now _ (item_value c.in_ok-item.item) c.loop-rest.invariant
     (sym c.is_empty.ensures ∙ c.loop-rest-test.true) c.in_ok-item.ensures.passes c.in_ok-item.ensures.item
     c.in_ok-item.ensures.rest in
     let added =
     ap (map item_value) c.in_ok-push.ensures.items
     ∙ map-append item_value c.loop-rest.items.items (c.in_ok-item.item ∷ []) in
-    subst (λ (front : List Item). items_of c.args.body.now ≡ with_front front (items_of c.in_ok-item.behind.now))
+    subst (λ (front : List Item). items_of c.args.body.now ≡ with_front front (items_of c.in_ok-item.beyond.now))
     (sym added) read
 
 pub returns-clause-found : goal.returns-clause-found

@@ -9,27 +9,27 @@ pub invariant_of-self-2 : goal.invariant_of-self-2
 invariant_of-self-2 g c =
     let mine = c.self.inside.notes.items in
     let theirs = c.other.inside.notes.items in
-    let told : c.begin_in_block_before.result ≡ true = c.if-not-begin_in_block_before.false in
+    let answered : c.begin_in_block_before.result ≡ true = c.if-not-begin_in_block_before.false in
     let same = c.begin_in_block_before.ensures.same in
     let more : c.copy_rest.new.notes.items ≡ mine ++ drop (length mine) theirs =
     cc (c.copy_rest.ensures.new, c.in_ok-reserve.ensures.items, same.2, same.3) in
     rw (c.in_ok-place.ensures.place ∙ same.1, c.clear.ensures.items)
     (followed (λ n. n.cell) (λ n. n.known) g.L.FirstBlock.first c.other.inside.place mine theirs
     c.copy_rest.new.notes.items c.other.inside.seen.items c.self.invariant.notes.entries c.other.invariant
-    (c.begin_in_block_before.ensures.cells told) (c.begin_in_block_before.ensures.begins told) more).0
+    (c.begin_in_block_before.ensures.cells answered) (c.begin_in_block_before.ensures.begins answered) more).0
 
 pub returns-clause-moved : goal.returns-clause-moved
 returns-clause-moved g c = λ done.
     let mine = c.self.inside.notes.items in
     let theirs = c.other.inside.notes.items in
-    let told : c.begin_in_block_before.result ≡ true = c.if-not-begin_in_block_before.false in
+    let answered : c.begin_in_block_before.result ≡ true = c.if-not-begin_in_block_before.false in
     let same = c.begin_in_block_before.ensures.same in
     let more : c.copy_rest.new.notes.items ≡ mine ++ drop (length mine) theirs =
     cc (c.copy_rest.ensures.new, c.in_ok-reserve.ensures.items, same.2, same.3) in
     let all =
     (followed (λ n. n.cell) (λ n. n.known) g.L.FirstBlock.first c.other.inside.place mine theirs
     c.copy_rest.new.notes.items c.other.inside.seen.items c.self.invariant.notes.entries c.other.invariant
-    (c.begin_in_block_before.ensures.cells told) (c.begin_in_block_before.ensures.begins told) more).1 in
+    (c.begin_in_block_before.ensures.cells answered) (c.begin_in_block_before.ensures.begins answered) more).1 in
     let old = c.other.view_is in
     let place = c.in_ok-place.ensures.place ∙ same.1 in
     let entries = all ∙ ap (λ (v : PastValue). v.entries) old in
@@ -41,11 +41,11 @@ returns-clause-moved g c = λ done.
       rw (← c.self.view_is, ← c.other.view_is)
           (omega (
             arith,
-            c.begin_in_block_before.ensures.less told,
+            c.begin_in_block_before.ensures.less answered,
             known_long _ c.self.invariant.notes.entries,
             known_long _ c.other.invariant.notes.entries,
             length-map mine (λ n. n.known),
             length-map theirs (λ n. n.known),
           )),
-      rw (← c.self.view_is, ← c.other.view_is) (c.begin_in_block_before.ensures.begins told),
+      rw (← c.self.view_is, ← c.other.view_is) (c.begin_in_block_before.ensures.begins answered),
     )

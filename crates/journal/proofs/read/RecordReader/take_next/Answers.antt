@@ -9,7 +9,7 @@ use Rattle.journal.proofs.read.RecordReader.take_next.Goals as goal
 
 -- no batch goes on or begins here
 pub returns-in_err-left-clause-damaged : goal.returns-in_err-left-clause-damaged
-returns-in_err-left-clause-damaged c = λ told bytes over full.
+returns-in_err-left-clause-damaged c = λ reported bytes over full.
     let inside = c.self.inside in
     let place : Place =
     record { at = inside.window.at; number = inside.number; left = inside.left; size = inside.size } in
@@ -32,7 +32,7 @@ returns-in_default-clause-last c = λ bytes over full.
 
 -- no record of the next number stands here
 pub returns-in_err-entry-clause-damaged : goal.returns-in_err-entry-clause-damaged
-returns-in_err-entry-clause-damaged c = λ told bytes over full.
+returns-in_err-entry-clause-damaged c = λ reported bytes over full.
     let inside = c.self.inside in
     let place : Place =
     record { at = inside.window.at; number = inside.number; left = inside.left; size = inside.size } in
@@ -42,7 +42,7 @@ returns-in_err-entry-clause-damaged c = λ told bytes over full.
     (subst (λ (r : ReaderValue). IsOver bytes r.window) (sym c.self.view_is) over)
     (subst (λ (r : ReaderValue). IsFull r.window) (sym c.self.view_is) full)
     refl c.front-front.ensures (rw c.in-Some.is at c.in_ok-left.ensures.found)
-    (c.in_err-entry.ensures.damaged (cc (p.1, p.2, told))))
+    (c.in_err-entry.ensures.damaged (cc (p.1, p.2, reported))))
 
 pub returns-clause-leads : goal.returns-clause-leads
 returns-clause-leads c = λ bytes over full.
@@ -53,11 +53,11 @@ returns-clause-leads c = λ bytes over full.
       at = c.pass.new.self.at;
       number = inside.number + 1;
       left = c.in-Some.left - 1;
-      size = c.in-Some.size - (length c.in-Some.content.now - length c.in_ok-entry.behind.now);
+      size = c.in-Some.size - (length c.in-Some.content.now - length c.in_ok-entry.beyond.now);
     } in
     subst (λ (r : ReaderValue). Leads bytes (place_of r) c.in_ok-entry.entry new) c.self.view_is
     (taken bytes c.front-front.result.now inside.window place new c.in-Some.left c.in-Some.size c.in-Some.content.now
-    c.in_ok-entry.behind.now c.in_ok-entry.entry
+    c.in_ok-entry.beyond.now c.in_ok-entry.entry
     (subst (λ (r : ReaderValue). IsOver bytes r.window) (sym c.self.view_is) over)
     (subst (λ (r : ReaderValue). IsFull r.window) (sym c.self.view_is) full)
     refl c.front-front.ensures (rw c.in-Some.is at c.in_ok-left.ensures.found) c.in_ok-entry.ensures.found
@@ -67,7 +67,7 @@ returns-clause-leads c = λ bytes over full.
 pub returns-clause-over : goal.returns-clause-over
 returns-clause-over c = λ bytes over.
     window_on bytes c.self.inside.window c.pass.new.self
-    (length c.front-front.result.now - length c.in_ok-entry.behind.now)
+    (length c.front-front.result.now - length c.in_ok-entry.beyond.now)
     (subst (λ (r : ReaderValue). IsOver bytes r.window) (sym c.self.view_is) over)
     (omega (arith, ap length c.front-front.ensures)) c.pass.ensures.at c.pass.ensures.front c.pass.ensures.others.1
     c.pass.ensures.others.2

@@ -8,23 +8,23 @@ use Rattle.kernel_keeper.proofs.session.Session.learn.Goals as goal
 -- what holds of two values holds of their parts, where they are these
 after_within : (one other : SessionValue) (past theirs : PastValue) → past ≡ one.past → theirs ≡ other.past
     → IsAfter one.past other.past → IsAfter past theirs
-after_within one other past theirs same same_too behind =
+after_within one other past theirs same same_too beyond =
     subst (λ (p : PastValue). IsAfter p theirs) (sym same)
-    (subst (λ (p : PastValue). IsAfter one.past p) (sym same_too) behind)
+    (subst (λ (p : PastValue). IsAfter one.past p) (sym same_too) beyond)
 
 pub invariant_of-self : goal.invariant_of-self
 invariant_of-self g c =
     let old : SessionValue =
     session_of c.self.inside.own_state.number c.self.inside.own_state.space c.self.inside.own_state.acknowledged
     c.self.inside.own_state.tickets.numbers c.self.inside.own_state.places.numbers c.self.inside.past in
-    let behind =
+    let beyond =
     after_within c.args.self.now c.args.other.now c.self.inside.past c.other.inside.past
     (ap (λ (v : SessionValue). v.past) c.self.view_is)
-    (ap (λ (v : SessionValue). v.past) c.other.view_is) c.requires.behind in
+    (ap (λ (v : SessionValue). v.past) c.other.view_is) c.requires.beyond in
     let up = c.catch_up.ensures in (
       learned g.L.Founding.base old c.other.inside.past c.catch_up.new.self c.self.inside.own_state.share.amount
           c.self.invariant.0 c.other.invariant.0.history
-          (caught_or_same c.self.inside.past c.other.inside.past c.catch_up.new.self c.catch_up.result behind up.ok
+          (caught_or_same c.self.inside.past c.other.inside.past c.catch_up.new.self c.catch_up.result beyond up.ok
           up.begins up.moved up.err),
       c.self.invariant.1,
     )
@@ -37,10 +37,10 @@ returns-clause-met g c is =
     let ahead : SessionValue =
     session_of c.other.inside.own_state.number c.other.inside.own_state.space c.other.inside.own_state.acknowledged
     c.other.inside.own_state.tickets.numbers c.other.inside.own_state.places.numbers c.other.inside.past in
-    let behind =
+    let beyond =
     after_within c.args.self.now c.args.other.now c.self.inside.past c.other.inside.past
     (ap (λ (v : SessionValue). v.past) c.self.view_is)
-    (ap (λ (v : SessionValue). v.past) c.other.view_is) c.requires.behind in
+    (ap (λ (v : SessionValue). v.past) c.other.view_is) c.requires.beyond in
     let up = c.catch_up.ensures in
     let differ : old.number ≡ ahead.number → ⊥ =
     λ same. c.requires.differ (ap (λ (v : SessionValue). v.number) (sym c.self.view_is) ∙ same ∙ ap
@@ -49,7 +49,7 @@ returns-clause-met g c is =
     met g.L.Founding.base old ahead c.catch_up.new.self c.catch_up.new.other c.self.inside.own_state.share.amount
     c.other.inside.own_state.share.amount c.self.invariant.0 c.other.invariant.0 differ up.same
     (caught c.self.inside.past c.other.inside.past c.catch_up.new.self c.catch_up.result
-    (sym c.is_ok.ensures.value ∙ is) behind up.ok up.begins up.moved) in
+    (sym c.is_ok.ensures.value ∙ is) beyond up.ok up.begins up.moved) in
     let new = looking old c.catch_up.new.self in
     let ahead_new = looking ahead c.catch_up.new.other in
     subst (λ (v : SessionValue). Meets v c.args.other.now new ahead_new × Meets c.args.other.now v ahead_new new)

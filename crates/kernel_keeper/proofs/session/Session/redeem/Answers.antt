@@ -1,6 +1,6 @@
 use Rattle.std.proofs.Common.{ℕ, ◌≤◌, length, sym, subst, arith}
 use Rattle.kernel_keeper.specs.Tokens.{IsSession, SessionValue, session_of}
-use Rattle.kernel_keeper.proofs.Cores.{told_session}
+use Rattle.kernel_keeper.proofs.Cores.{acknowledged_session}
 use Rattle.kernel_keeper.proofs.session.Session.redeem.Goals as goal
 
 pub invariant_of-session : goal.invariant_of-session
@@ -14,7 +14,7 @@ invariant_of-session g c =
       subst (λ (n : ℕ). IsSession g.L.Founding.base
           (session_of own_state.number own_state.space n own_state.tickets.numbers own_state.places.numbers past)
           own_state.share.amount) (sym c.max-session-inside.ensures)
-          (told_session g.L.Founding.base old c.seen-seen.result own_state.share.amount within
+          (acknowledged_session g.L.Founding.base old c.seen-seen.result own_state.share.amount within
           c.session.invariant.0),
       c.session.invariant.1,
     )

@@ -3,7 +3,7 @@ use Rattle.ipc_model.specs.effects.Effects.{Effect}
 use Rattle.spaces.specs.Burying.{all_buried, passed, place_buried}
 use Rattle.spaces.specs.Laws.{both}
 use Rattle.spaces.specs.Walks.{notices_first}
-use Rattle.spaces.proofs.Telling.{all_told, last_told, one_told}
+use Rattle.spaces.proofs.Telling.{all_notified, last_notified, one_notified}
 use Rattle.spaces.proofs.spaces.Spaces.bury.Goals as goal
 
 pub loop-place-preserved : goal.loop-place-preserved
@@ -16,7 +16,7 @@ loop-place-preserved c =
     record {
       buried = done.0;
       notified =
-          one_told c.args.port c.args.self.now.current c.loop-place.self.current c.loop-place.at
+          one_notified c.args.port c.args.self.now.current c.loop-place.self.current c.loop-place.at
           c.loop-place.invariant.buried c.in-Some.place c.in-Some-checked_add.next c.loop-place.effects
           c.bury_at.new.effects _ c.show_counts_small.ensures next c.in-Some.ensures.0 c.in-Some.ensures.1
           c.in-Some.ensures.2 c.in_ok-bury_at.ensures.notified c.loop-place.invariant.notified;
@@ -48,8 +48,9 @@ returns-clause-ok c =
 pub returns-in_default-checked_add-clause-notified : goal.returns-in_default-checked_add-clause-notified
 returns-in_default-checked_add-clause-notified c =
     let last : 2 ^ 64 ≡ c.in-Some.place + 1 = omega (arith, c.in_default-checked_add.ensures, c.in-Some.ensures.1) in
-    last_told c.args.port c.args.self.now.current c.args.effects.now c.bury_at.new.effects c.show_counts_small.ensures
-    (one_told c.args.port c.args.self.now.current c.loop-place.self.current c.loop-place.at
+    last_notified c.args.port c.args.self.now.current c.args.effects.now c.bury_at.new.effects
+    c.show_counts_small.ensures
+    (one_notified c.args.port c.args.self.now.current c.loop-place.self.current c.loop-place.at
     c.loop-place.invariant.buried c.in-Some.place
     (2 ^ 64) c.loop-place.effects c.bury_at.new.effects _ c.show_counts_small.ensures last c.in-Some.ensures.0
     c.in-Some.ensures.1 c.in-Some.ensures.2 c.in_ok-bury_at.ensures.notified
@@ -58,6 +59,8 @@ returns-in_default-checked_add-clause-notified c =
 
 pub returns-clause-notified : goal.returns-clause-notified
 returns-clause-notified c =
-    all_told c.args.port c.args.self.now.current c.loop-place.self.current c.loop-place.at c.loop-place.invariant.buried
-    c.args.effects.now c.loop-place.effects c.show_counts_small.ensures c.in_default.ensures c.loop-place.invariant.notified
+    all_notified c.args.port c.args.self.now.current c.loop-place.self.current c.loop-place.at
+    c.loop-place.invariant.buried
+    c.args.effects.now c.loop-place.effects c.show_counts_small.ensures c.in_default.ensures
+    c.loop-place.invariant.notified
     ∙ ap (λ (xs : List Effect). c.args.effects.now ++ xs) (notices_first c.args.port c.args.self.now.current)

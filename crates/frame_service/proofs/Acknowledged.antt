@@ -28,10 +28,10 @@ module _ {C T : Type 0} (answer : T → Reply) (makes : C → Call → T → C �
       subst (λ (f : ServeFault). EndsOne answer makes lacks acknowledges fails old pending old before sent (Err f))
       (sym is) (refl, inr (refl, keeps_is before start sent known kept)))
 
-  pub one_untold : (new : C) (fault : StoreFault) (result : Result (Unit {0}) ServeFault)
+  pub one_unacknowledged : (new : C) (fault : StoreFault) (result : Result (Unit {0}) ServeFault)
       → IsUnacknowledged answer makes lacks acknowledges fails old pending fault new → result ≡ Err (Store fault)
       → EndsSo new sent result
-  one_untold new fault result unacknowledged is = one_known start _ (λ before known.
+  one_unacknowledged new fault result unacknowledged is = one_known start _ (λ before known.
       subst (λ (r : Result (Unit {0}) ServeFault). EndsOne answer makes lacks acknowledges fails old pending new before
       sent r) (sym is) (unacknowledged, keeps_is before start sent known kept))
 
@@ -56,13 +56,15 @@ module _ {C T : Type 0} (answer : T → Reply) (makes : C → Call → T → C �
         ),
       ))
 
-  pub one_told_whole : (new : C) (written : Option (List ℕ)) (reply : Reply) (content : List ℕ) (done : Unit {0})
+  pub one_acknowledged_whole : (new : C) (written : Option (List ℕ)) (reply : Reply) (content : List ℕ)
+      (done : Unit {0})
       → IsAcknowledged answer makes lacks acknowledges fails old pending reply new → content ≡ reply_encoding reply
       → Appends sent written (frame_encoding content) → EndsSo new written (Ok done)
-  one_told_whole new written reply content done acknowledged encoded whole = one_known start _ (λ before known. (
-    reply,
-    acknowledged,
-    appends_is before (frame_encoding (reply_encoding reply)) sent written
-        (keeps_is before start sent known kept)
-        (subst (λ (l : List ℕ). Appends sent written (frame_encoding l)) encoded whole),
-  ))
+  one_acknowledged_whole new written reply content done acknowledged encoded whole =
+      one_known start _ (λ before known. (
+        reply,
+        acknowledged,
+        appends_is before (frame_encoding (reply_encoding reply)) sent written
+            (keeps_is before start sent known kept)
+            (subst (λ (l : List ℕ). Appends sent written (frame_encoding l)) encoded whole),
+      ))

@@ -1,0 +1,27 @@
+-- A function gave what the abstract specification gives, or it reported the code of a refusal. If it is out of memory,
+-- nothing is said.
+use Rattle.std.specs.Prelude.{◌≡◌, Result, Ok, Err}
+use Rattle.codes.specs.declared.kern_return.KernReturn.{KernReturn}
+use Rattle.sending.specs.declared.fault.SendFault.{SendFault}
+use Rattle.sending.specs.declared.fault.SendFault.TheVariants.{Refused, NoMemory}
+
+-- a refusal with this code, unless memory ran out before
+abbrev pub HasCode : KernReturn → SendFault → Type 0
+HasCode code (Refused other) = other ≡ code
+HasCode code NoMemory = Unit {0}
+
+-- out of memory
+abbrev pub IsNoMemory : SendFault → Type 0
+IsNoMemory (Refused code) = ⊥
+IsNoMemory NoMemory = Unit {0}
+
+abbrev pub Agrees : {X Y : Type 0} → Result X KernReturn → (X → Y → Type 0) → Result Y SendFault → Type 0
+Agrees (Ok x) Is (Ok y) = Is x y
+Agrees (Ok x) Is (Err fault) = IsNoMemory fault
+Agrees (Err code) Is (Ok y) = ⊥
+Agrees (Err code) Is (Err fault) = HasCode code fault
+
+-- a fault has the code of the refusal, or says that memory ran out
+abbrev pub ReportsRefusal : {X : Type 0} → Result X KernReturn → SendFault → Type 0
+ReportsRefusal r (Refused code) = r ≡ Err code
+ReportsRefusal r NoMemory = Unit {0}
