@@ -259,8 +259,8 @@ fn read_answer(
     Ok(read_refusal(number, code, results))
 }
 
-/// The reply to a call with this number that a frame's content encodes, if it encodes one. It can run out of memory only
-/// for a message, for names or for members.
+/// The reply to a call with this number that a frame's content encodes, if it encodes one. It can run out of memory
+/// only for a message, for names or for members.
 pub fn read_reply(alloc: Global, number: u32, content: &[u8]) -> Result<Option<Reply>, AllocError>
     ensures found { IfOk result (λ found. IfSome found (Answers number content.now)) }
     ensures only { (answer : Reply) → Answers number content.now answer → IfOk result (λ found. found ≡ Some answer) }

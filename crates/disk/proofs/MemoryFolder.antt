@@ -64,7 +64,8 @@ other_files slots slot bytes other None is =
 other_files slots slot bytes other (Some found) is = elim (other_slot slots slot found bytes) [
   | inl own ↦ inl (name_is other slot (is ∙ ap Some own))
   | inr same ↦
-      inr (named_slot other found (with_slot slots slot bytes) is ∙ ap Some same ∙ sym (named_slot other found slots is))
+      inr (named_slot other found (with_slot slots slot bytes) is ∙ ap Some same
+      ∙ sym (named_slot other found slots is))
 ]
 
 pub same_but_one : (slots : Slots) (slot : Slot) (bytes : List ℕ)

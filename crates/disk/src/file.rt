@@ -59,8 +59,8 @@ impl<F: Folder> FileDisk<F> {
 }
 
 impl<R: Files + Drop> FileDisk<HostFolder<R>> {
-    /// The disk in a folder of the operating system. Its files are opened for reading only. The error is that the folder
-    /// doesn't exist or isn't a folder, that something in it can't be opened as a file, or that memory ran out.
+    /// The disk in a folder of the operating system. Its files are opened for reading only. The error is that the
+    /// folder doesn't exist or isn't a folder, that something in it can't be opened as a file, or that memory ran out.
     pub fn at(alloc: Global, files: R, folder: &str) -> Result<FileDisk<HostFolder<R>>, DiskFault>
         ensures { IfOk result (λ disk. ⟦<FileDisk<HostFolder<R>> as Disk>⟧.failed_calls disk ≡ 0) }
     {

@@ -187,7 +187,8 @@ impl MemDisk {
     ) -> Result<(), AllocError>
         requires { at ≤ length (slot_of (slots_of self.old.seen) slot) }
         ensures seen { OnOk result (slots_of self.new.seen ≡ (if is_done
-            then with_slot (slots_of self.old.seen) slot (written_at (slot_of (slots_of self.old.seen) slot) at bytes.now)
+            then with_slot (slots_of self.old.seen) slot
+            (written_at (slot_of (slots_of self.old.seen) slot) at bytes.now)
             else slots_of self.old.seen)) }
         ensures time { Passes (memory_view self.old) (memory_view self.new)
             (Follows (memory_view self.old) slot (TornWrite at (length bytes.now))) }

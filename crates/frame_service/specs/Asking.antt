@@ -148,8 +148,8 @@ module _ {C T : Type 0} (answer : T → Reply) (makes : C → Call → T → C �
       (more : List MessageRequest) × (ready : Ready T) × (mid : C) × GoesOn answer makes lacks old rest more ready mid
       × IsUngiven mid ready fault new
 
-  -- Frames are answered in the order in which they were taken. `all_pending` were in hand at the beginning, and `left` are at
-  -- the end.
+  -- Frames are answered in the order in which they were taken. `all_pending` were in hand at the beginning, and `left`
+  -- are at the end.
   abbrev pub Acted : C → List (PendingFrame T) → List (Act T) → List (PendingFrame T) → C → Type 0
   Acted old all_pending [] left new = (left ≡ all_pending) × (new ≡ old)
   Acted old all_pending (took content pending ∷ acts) left new =

@@ -22,8 +22,8 @@ use wire::{Frame, WireFault, read_frame, write_frame};
 pub const MOST_PENDING_FRAMES: usize = 64;
 
 /// Serves one connection up to the end of its input. All frames that were read ahead are taken in hand before the first
-/// of them is answered, up to `MOST_PENDING_FRAMES` and up to a call that has to wait; replies are written in the order of
-/// their frames.
+/// of them is answered, up to `MOST_PENDING_FRAMES` and up to a call that has to wait; replies are written in the order
+/// of their frames.
 pub fn serve_asked<R: Ahead, W: Write, A: Asker>(
     alloc: Global,
     reader: &mut R,

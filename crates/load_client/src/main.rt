@@ -1,5 +1,5 @@
-//! `load_client SOCKET CONNECTIONS SECONDS KIND FRAMES` makes calls on a server's socket and prints a line: how many were
-//! answered per second, and within how many microseconds 50, 99 and 99.9 percent of them were.
+//! `load_client SOCKET CONNECTIONS SECONDS KIND FRAMES` makes calls on a server's socket and prints a line: how many
+//! were answered per second, and within how many microseconds 50, 99 and 99.9 percent of them were.
 //!
 //! KIND is `allocate` (a port is allocated and its name destroyed), `message` (a message is sent and received), `pair`
 //! (a message is sent to a second connection, which waits for it and answers, and the answer is waited for) or `read`

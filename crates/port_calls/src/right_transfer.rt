@@ -118,7 +118,11 @@ fn refusal_of_insert(
         )
         ∷ (is_taken_otherwise kind port (map.get (names_in state.now.current space) name), KernReturn.NameExists)
         ∷ (passes_bound kind (map.get (names_in state.now.current space) name), KernReturn.UrefsOverflow)
-        ∷ (not (is_in_use (names_in state.now.current space) name) && names_are_used_up (names_in state.now.current space), KernReturn.NoSpace) ∷ []) }
+        ∷ (
+          not (is_in_use (names_in state.now.current space) name)
+              && names_are_used_up (names_in state.now.current space),
+          KernReturn.NoSpace,
+        ) ∷ []) }
     ensures room { IfNone result (map.get (names_in state.now.current space) name ≡ None
         → map.len (names_in state.now.current space) < MAX_NAMES) }
 {

@@ -83,7 +83,8 @@ fn message_of(
           id = read.entry.header.id;
           complex = list_any is_port_item (map item_value read.entry.items.now);
           rights = rights.items;
-          body = if read.entry.header.complex then items_encoding (map as_stored (map item_value read.entry.items.now)) else read.entry.body.now;
+          body = if read.entry.header.complex then items_encoding
+              (map as_stored (map item_value read.entry.items.now)) else read.entry.body.now;
         }))) (λ message found. found ≡ message) result }
 {
     if is_stopped(state, taken.port, taken.kind) {
@@ -115,7 +116,8 @@ fn take_all(
         and_then (or_refused KernReturn.SendInvalidRight (sending.take_items space
         (map item_value read.entry.items.now) (record { rights = []; state = taken.state; notices = [] })))
         (λ (rights : sending.TakenRights).
-        let ready : Ready = sending.ready_message (parts_by read.entry.header read.entry.body.now) (map item_value read.entry.items.now) taken rights in
+        let ready : Ready = sending.ready_message (parts_by read.entry.header read.entry.body.now)
+        (map item_value read.entry.items.now) taken rights in
         unless_failing (sending.tests_of_queue ready) (Ok ready))))
         (ReadyIs state.new.current effects.old effects.new) result }
     ensures before { state.new.before ≡ state.old.before }

@@ -126,7 +126,8 @@ where
     F::File: LockFile,
     ensures ended { IfSome (I.remaining input.old) (λ bytes. IfSome (O.contents output.old) (λ before.
         EndsAlone ⟦<FileDisk<HostFolder<&'a F>> as Disk>⟧.honest ⟦<FileDisk<HostFolder<&'a F>> as Disk>⟧.view bytes
-        before (I.remaining input.new) (O.contents output.new) (option_map (λ encodings. length encodings.now) words.entry) result)) }
+        before (I.remaining input.new) (O.contents output.new)
+        (option_map (λ encodings. length encodings.now) words.entry) result)) }
 {
     let Some([store]) = words else {
         return LoneEnd::CommandLine;

@@ -2,8 +2,8 @@
 
 use kernel_keeper::{Founding, StoredCount};
 
-/// How many records are stored, and how many were taken to be, of those made since the opening. It has a lock of its own,
-/// held only for a comparison, so that a call that waits for its reply doesn't queue for the kernel's lock.
+/// How many records are stored, and how many were taken to be, of those made since the opening. It has a lock of its
+/// own, held only for a comparison, so that a call that waits for its reply doesn't queue for the kernel's lock.
 #[derive(Drop)]
 pub(crate) struct Replies<L: Founding> {
     stored: StoredCount<L>,
@@ -16,8 +16,8 @@ pub(crate) struct Replies<L: Founding> {
     is_over: bool,
 }
 
-/// Which of two condition variables a batch's callers wait at. Batches take the sides in turn, so a batch that is stored
-/// wakes only its own callers.
+/// Which of two condition variables a batch's callers wait at. Batches take the sides in turn, so a batch that is
+/// stored wakes only its own callers.
 #[derive(Clone, Copy)]
 pub(crate) enum Side {
     Even,
@@ -73,7 +73,8 @@ impl<L: Founding> Replies<L> {
         !self.is_over && self.stored.count() < seen
     }
 
-    /// The side at which a call that saw `seen` records waits: that of the batch that was taken last, or of the next one.
+    /// The side at which a call that saw `seen` records waits: that of the batch that was taken last, or of the next
+    /// one.
     pub(crate) fn side_of(&self, seen: u64) -> Side {
         if seen <= self.taken {
             self.side

@@ -231,8 +231,8 @@ impl Waiters {
         }
     }
 
-    /// Gives a session's waiting call its turn, if it hadn't come before. The last bell of a step is rung after the lock
-    /// is free, earlier ones at once.
+    /// Gives a session's waiting call its turn, if it hadn't come before. The last bell of a step is rung after the
+    /// lock is free, earlier ones at once.
     fn mark(&mut self, session: u32) {
         let Some(waiter) = self.by_session.get_mut(&session) else {
             return;

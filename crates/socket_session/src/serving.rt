@@ -29,8 +29,8 @@ pub enum ConnectionEnd {
     Fault(ServeFault),
 }
 
-/// Serves a connection to its end, as one new session of a shared store: of a task that is attached to space 1. It makes
-/// no calls but those of the frames that it reads, and writes nothing but their replies, in their order.
+/// Serves a connection to its end, as one new session of a shared store: of a task that is attached to space 1. It
+/// makes no calls but those of the frames that it reads, and writes nothing but their replies, in their order.
 pub fn serve_connection<
     L: Founding,
     D: Disk,

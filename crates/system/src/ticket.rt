@@ -62,7 +62,8 @@ impl Ticket {
         }
     }
 
-    /// The reply that it keeps, where its call saw only records among the first `stored` ones that were made; else it comes back.
+    /// The reply that it keeps, where its call saw only records among the first `stored` ones that were made; else it
+    /// comes back.
     pub fn redeem(self, stored: u64) -> Result<Reply, Ticket>
         ensures ok { IfOk result (λ reply. (self.seen ≤ stored) × (reply ≡ self.answer)) }
         ensures frame { IfOk result (λ reply. length (reply_encoding reply) ≤ MAX_FRAME_CONTENT) }
