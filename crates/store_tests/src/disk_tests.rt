@@ -1,7 +1,7 @@
 use crate::counted::{CountedFiles, Syncs};
 use crate::expect::{same, same_in_row};
 use crate::store::{Slots, Store, slots_are};
-use disk::{Disk, DiskFault, FileDisk, HostFolder, MemDisk, Slot, Torn};
+use disk::{Disk, DiskFault, FileDisk, HostFolder, MemDisk, MemFolder, Slot, Torn};
 use std::alloc::Global;
 use std::{env, fs};
 
@@ -114,6 +114,23 @@ fn memory_is_read_as_it_was_written(rt: HostRuntime) {
     let seen = written_and_read::<MemDisk>(rt.alloc());
     let (written, shortened) = ((Some(()), (7, 0)), (Some(()), (3, 0)));
     same(&rt, seen, (written, [true; 4], shortened, true));
+}
+
+// What is seen of the same steps on one disk.
+fn seen_of_steps<D: Disk>(disk: &mut D) -> (Taken, Taken, bool) {
+    (
+        taken(disk, &WRITTEN),
+        taken(disk, &SHORTENED),
+        is_read(disk, Slot::Image1, b"aBc"),
+    )
+}
+
+#[test]
+fn files_in_memory_are_read_as_they_were_written(rt: HostRuntime) {
+    let disk = MemDisk::new(rt.alloc());
+    let mut files = FileDisk::new(MemFolder { disk });
+    let seen = seen_of_steps(&mut files);
+    same(&rt, seen, ((Some(()), (7, 0)), (Some(()), (3, 0)), true));
 }
 
 // How many bytes are read at the end of three, and after it, and what is in the first one's buffer.
