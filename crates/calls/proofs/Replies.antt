@@ -163,9 +163,8 @@ pub one_names : (a b : List NamedType) → FitsReply (reply.Names a) → FitsRep
     → word (length a) ++ names_encoding a ≡ word (length b) ++ names_encoding b → a ≡ b
 unfolding reply_encoding
 one_names a b fits fits_too is =
-    ap names_in (reply_encoding_once call.SpaceDestroy call.SpaceDestroy (reply.Names a)
-    (reply.Names b) fits fits_too refl refl
-    (ap (λ (l : List ℕ). done_encoding MACH_PORT_NAMES l) is))
+    ap names_in (reply_encoding_once call.SpaceDestroy call.SpaceDestroy (reply.Names a) (reply.Names b) fits fits_too
+    refl refl (ap (λ (l : List ℕ). done_encoding MACH_PORT_NAMES l) is))
 
 abbrev members_in : Reply → List ℕ
 members_in (reply.SetStatus members) = members
@@ -175,9 +174,8 @@ pub one_members : (a b : List ℕ) → FitsReply (reply.SetStatus a) → FitsRep
     → word (length a) ++ flat_map word a ≡ word (length b) ++ flat_map word b → a ≡ b
 unfolding reply_encoding
 one_members a b fits fits_too is =
-    ap members_in (reply_encoding_once call.SpaceDestroy call.SpaceDestroy (reply.SetStatus a)
-    (reply.SetStatus b) fits fits_too
-    refl refl (ap (λ (l : List ℕ). done_encoding MACH_PORT_GET_SET_STATUS l) is))
+    ap members_in (reply_encoding_once call.SpaceDestroy call.SpaceDestroy (reply.SetStatus a) (reply.SetStatus b) fits
+    fits_too refl refl (ap (λ (l : List ℕ). done_encoding MACH_PORT_GET_SET_STATUS l) is))
 
 -- what was read with what is left isn't a whole row
 pub odd_names : (whole rest : List ℕ) (some all : List NamedType) → whole ≡ names_encoding some ++ rest
@@ -340,17 +338,10 @@ unfolding reply_encoding
 message_reported code results (reply.Message k size member message) is =
     let parts =
     parts_of MACH_MSG MACH_MSG (number_of code) results (reply.Message k size member message) (omega arith)
-    (code-fits code)
-    (omega arith) is in
-    let same : k ≡ code = one_code k code (sym parts.1) in (
-      size,
-      member,
-      message,
-      is.fits.0,
-      is.fits.1,
-      ap (λ (c : KernReturn). reply.Message c size member message) same,
-      parts.2,
-    )
+    (code-fits code) (omega arith) is in
+    let same : k ≡ code = one_code k code (sym parts.1) in
+    let one = ap (λ (c : KernReturn). reply.Message c size member message) same in
+    (size, member, message, is.fits.0, is.fits.1, one, parts.2)
 message_reported code results (reply.Refused n k) is = absurd (is.well_formed.0 is.of_call)
 message_reported code results (reply.Done n) is =
     absurd (cc (subst (λ (k : ℕ). IsTrue (not (has_results k))) is.of_call is.well_formed))

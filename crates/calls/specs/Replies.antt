@@ -13,8 +13,8 @@ has_results n =
     n == MACH_PORT_GET_RECEIVE_STATUS || n == MACH_PORT_GET_SET_STATUS || n == MACH_PORT_REQUEST_NOTIFICATION ||
     n == MACH_PORT_EXTRACT_RIGHT || n == SPACE_CREATE || n == MACH_MSG
 
--- A refusal has a code, and is none of mach_msg, which has its results in any case; and no call that has results is
--- done without them.
+-- A refusal has a code, and is none of mach_msg, which has its results in any case. No call that has results is done
+-- without them.
 abbrev pub IsWellFormed : Reply → Type 0
 IsWellFormed (reply.Refused number code) = (number ≢ MACH_MSG) × (code ≢ Success)
 IsWellFormed (reply.Done number) = IsTrue (not (has_results number))

@@ -26,8 +26,8 @@ pub(crate) fn read_names(alloc: Global, bytes: &[u8]) -> Result<Option<Vec<Named
     ensures found { IfOk result (λ found. IfSome found (λ names. bytes.now ≡ names_encoding names.items)) }
     ensures fits { IfOk result (λ found. IfSome found
         (λ names. All (λ (n : NamedType). (n.name < 2 ^ 32) × (n.bits < 2 ^ 32)) names.items)) }
-    ensures none { IfOk result (λ found. IfNone found ((names : List NamedType) → bytes.now ≡ names_encoding names
-        → ⊥)) }
+    ensures none { IfOk result (λ found. IfNone found
+        ((names : List NamedType) → bytes.now ≡ names_encoding names → ⊥)) }
 {
     let mut names = Vec::new(alloc);
     let mut rest = bytes;
@@ -45,7 +45,8 @@ pub(crate) fn read_names(alloc: Global, bytes: &[u8]) -> Result<Option<Vec<Named
 pub(crate) fn read_members(alloc: Global, bytes: &[u8]) -> Result<Option<Vec<u32>>, AllocError>
     ensures found { IfOk result (λ found. IfSome found (λ members. bytes.now ≡ flat_map word members.items)) }
     ensures fits { IfOk result (λ found. IfSome found (λ members. All (λ name. name < 2 ^ 32) members.items)) }
-    ensures none { IfOk result (λ found. IfNone found ((members : List ℕ) → bytes.now ≡ flat_map word members → ⊥)) }
+    ensures none { IfOk result (λ found. IfNone found
+        ((members : List ℕ) → bytes.now ≡ flat_map word members → ⊥)) }
 {
     let mut members = Vec::new(alloc);
     let mut rest = bytes;

@@ -9,12 +9,11 @@ use Rattle.calls.proofs.reply.read_answer.Goals as goal
 
 pub returns-then-eq-clause-only : goal.returns-then-eq-clause-only
 returns-then-eq-clause-only c = λ answer is.
+    let number = c.args.number in
+    let results = c.args.results.now in
     let success : c.args.code ≡ Success = search rules in
-    let done : Answers c.args.number (word c.args.number ++ (word 0 ++ c.args.results.now)) answer =
-    subst
-    (λ (k : KernReturn). Answers c.args.number (word c.args.number ++ (word (number_of k) ++ c.args.results.now))
-    answer)
-    success is in
+    let done : Answers number (word number ++ (word 0 ++ results)) answer =
+    subst (λ (k : KernReturn). Answers number (word number ++ (word (number_of k) ++ results)) answer) success is in
     c.read_results.ensures.only answer
-    (done_reported c.args.number c.args.results.now answer c.ranges.number.fits c.if-number-eq-MACH_MSG.false done)
+    (done_reported number results answer c.ranges.number.fits c.if-number-eq-MACH_MSG.false done)
     is.well_formed

@@ -23,9 +23,7 @@ returns-clause-only c = λ all fits is.
     let mine : c.args.results.now ≡ word (length items) ++ flat_map word items =
     c.in-Some.ensures.found ∙ ap (λ (n : ℕ). word n ++ c.in-Some.rows.now) (sym few) ∙ ap
     (λ (l : List ℕ). word (length items) ++ l) row in
-    let fits_mine : FitsReply (reply.SetStatus items) = (
-      subst (λ (n : ℕ). n < 2 ^ 32) (sym few) c.in-Some.ensures.fits,
-      rw c.in-Some-2.is at
-          c.in_ok-members.ensures.fits,
-    ) in
+    let few_fit = subst (λ (n : ℕ). n < 2 ^ 32) (sym few) c.in-Some.ensures.fits in
+    let fits_mine : FitsReply (reply.SetStatus items) =
+    (few_fit, rw c.in-Some-2.is at c.in_ok-members.ensures.fits) in
     ap Some (c.new.ensures ∙ one_members items all fits_mine fits (sym mine ∙ is))

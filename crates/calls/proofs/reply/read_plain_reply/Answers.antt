@@ -11,8 +11,8 @@ unfolding reply_encoding
 returns-in_ok-bits-in-2-clause-only c = λ answer has no_names no_members some.
     let results = c.args.results.now in
     one_result (reply.Type c.in_ok-bits-in-2.bits) answer c.args.number results c.in_ok-bits-in-2.ensures.fits refl
-    (ap (λ (n : ℕ). done_encoding n results) c.in-2.is
-    ∙ ap (λ (l : List ℕ). done_encoding 2 l) c.in_ok-bits-in-2.ensures.found)
+    (ap (λ (n : ℕ). done_encoding n results) c.in-2.is ∙ ap
+    (λ (l : List ℕ). done_encoding 2 l) c.in_ok-bits-in-2.ensures.found)
     has
 
 pub returns-in_ok-name-in-5-clause-only : goal.returns-in_ok-name-in-5-clause-only
@@ -20,8 +20,8 @@ unfolding reply_encoding
 returns-in_ok-name-in-5-clause-only c = λ answer has no_names no_members some.
     let results = c.args.results.now in
     one_result (reply.Allocate c.in_ok-name-in-5.name) answer c.args.number results c.in_ok-name-in-5.ensures.fits refl
-    (ap (λ (n : ℕ). done_encoding n results) c.in-5.is
-    ∙ ap (λ (l : List ℕ). done_encoding 5 l) c.in_ok-name-in-5.ensures.found)
+    (ap (λ (n : ℕ). done_encoding n results) c.in-5.is ∙ ap
+    (λ (l : List ℕ). done_encoding 5 l) c.in_ok-name-in-5.ensures.found)
     has
 
 pub returns-in_ok-count-in-8-clause-only : goal.returns-in_ok-count-in-8-clause-only
@@ -30,8 +30,8 @@ returns-in_ok-count-in-8-clause-only c = λ answer has no_names no_members some.
     let results = c.args.results.now in
     one_result (reply.References c.in_ok-count-in-8.count) answer c.args.number results
     c.in_ok-count-in-8.ensures.fits refl
-    (ap (λ (n : ℕ). done_encoding n results) c.in-8.is
-    ∙ ap (λ (l : List ℕ). done_encoding 8 l) c.in_ok-count-in-8.ensures.found)
+    (ap (λ (n : ℕ). done_encoding n results) c.in-8.is ∙ ap
+    (λ (l : List ℕ). done_encoding 8 l) c.in_ok-count-in-8.ensures.found)
     has
 
 pub returns-in_ok-status-in-13-clause-only : goal.returns-in_ok-status-in-13-clause-only
@@ -40,8 +40,8 @@ returns-in_ok-status-in-13-clause-only c = λ answer has no_names no_members som
     let results = c.args.results.now in
     one_result (reply.ReceiveStatus c.in_ok-status-in-13.status) answer c.args.number results
     c.in_ok-status-in-13.ensures.fits refl
-    (ap (λ (n : ℕ). done_encoding n results) c.in-13.is
-    ∙ ap (λ (l : List ℕ). done_encoding 13 l) c.in_ok-status-in-13.ensures.found)
+    (ap (λ (n : ℕ). done_encoding n results) c.in-13.is ∙ ap
+    (λ (l : List ℕ). done_encoding 13 l) c.in_ok-status-in-13.ensures.found)
     has
 
 pub returns-in_ok-name-in-16-clause-only : goal.returns-in_ok-name-in-16-clause-only
@@ -50,8 +50,8 @@ returns-in_ok-name-in-16-clause-only c = λ answer has no_names no_members some.
     let results = c.args.results.now in
     one_result (reply.PreviousTarget c.in_ok-name-in-16.name) answer c.args.number results
     c.in_ok-name-in-16.ensures.fits refl
-    (ap (λ (n : ℕ). done_encoding n results) c.in-16.is
-    ∙ ap (λ (l : List ℕ). done_encoding 16 l) c.in_ok-name-in-16.ensures.found)
+    (ap (λ (n : ℕ). done_encoding n results) c.in-16.is ∙ ap
+    (λ (l : List ℕ). done_encoding 16 l) c.in_ok-name-in-16.ensures.found)
     has
 
 pub returns-in_ok-kind-in-18-clause-only : goal.returns-in_ok-kind-in-18-clause-only
