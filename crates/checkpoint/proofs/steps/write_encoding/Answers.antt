@@ -24,3 +24,9 @@ loop-piece-preserved g c =
           (c.push_piece.ensures.any_moment honest (c.loop-piece.invariant.shut honest shut));
       quiet = c.in_ok-push_piece.ensures.failures.ok ∙ c.loop-piece.invariant.quiet;
     }
+
+pub returns-in_err-push_piece-clause-any_moment : goal.returns-in_err-push_piece-clause-any_moment
+returns-in_err-push_piece-clause-any_moment g c = λ honest shut.
+    closed_then c.args.slot (g.D.Disk.view c.args.disk.now) (g.D.Disk.view c.loop-piece.disk)
+    (g.D.Disk.view c.push_piece.new.disk) (c.loop-piece.invariant.passed honest shut)
+    (c.push_piece.ensures.any_moment honest (c.loop-piece.invariant.shut honest shut))

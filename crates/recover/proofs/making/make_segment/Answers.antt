@@ -4,7 +4,7 @@ use Rattle.disk.specs.Slots.{Slots, slot_of, with_slot}
 use Rattle.ipc_model.specs.store.Store.{closed_gate, epoch_encoding, open_gate}
 use Rattle.recover.specs.Making.{empty_segment}
 use Rattle.slot_steps.proofs.Following.{synced_shut}
-use Rattle.slot_steps.proofs.Gates.{after_first, opening_then, remade_then}
+use Rattle.slot_steps.proofs.Gates.{after_first, closing_remade, closing_then, opening_then, remade_then}
 use Rattle.disk.proofs.Moments.{own_bytes, with_twice}
 use Rattle.slot_steps.specs.Steps.{segment_slot}
 use Rattle.std.proofs.lemmas.Result.{err_from_is_err_and}
@@ -74,3 +74,15 @@ pub returns-in_err-roll_head-clause-synced : goal.returns-in_err-roll_head-claus
 returns-in_err-roll_head-clause-synced g c =
     λ honest. let p = err_from_is_err_and c.from_residual-in_err-roll_head.result
     c.from_residual-in_err-roll_head.ensures.1 in none_at_error _ c.from_residual-in_err-roll_head.result _ p.1
+
+pub returns-in_err-roll_head-clause-any_moment : goal.returns-in_err-roll_head-clause-any_moment
+returns-in_err-roll_head-clause-any_moment g c = λ honest synced.
+    let slot = segment_slot c.args.epoch in
+    let old = g.D.Disk.view c.args.disk.now in
+    let closed = g.D.Disk.view c.roll_close.new.disk in
+    let headed = g.D.Disk.view c.roll_head.new.disk in
+    let shut =
+    synced_shut slot closed (c.in_ok-roll_close.ensures.synced honest) (c.in_ok-roll_close.ensures.closed honest) in
+    closing_remade slot old headed 16 (empty_segment c.args.epoch)
+    (closing_then slot old closed headed 16 (c.roll_close.ensures.any_moment honest synced)
+    (c.roll_head.ensures.any_moment honest shut))
