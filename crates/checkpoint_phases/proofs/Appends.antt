@@ -11,7 +11,7 @@ use Rattle.ipc_model.specs.calls.Step.{Run}
 use Rattle.ipc_model.specs.declared.call.Call.{Call}
 use Rattle.ipc_model.specs.declared.record.Record.{Record}
 use Rattle.ipc_model.specs.state.State.{State}
-use Rattle.ipc_model.specs.store.Recovery.{IsImageOf, Recovered}
+use Rattle.ipc_model.specs.store.Recovery.{IsImageOf}
 use Rattle.ipc_model.specs.store.Store.{IsInUse, IsMidAppend, EncodesSegment, batch_encoding, with_batch}
 use Rattle.ipc_model.specs.encodings.Encodings.{call_encoding, canonical_record, record_encoding, records_encoding, reply_encoding}
 use Rattle.journal.specs.Batch.{BatchValue, Holds, content_of}
@@ -21,16 +21,18 @@ use Rattle.checkpoint_phases.proofs.Alongside.{imaging_alongside, without_alongs
 use Rattle.checkpoint_phases.proofs.Stops.{first_left, imaging_synced, second_left}
 use Rattle.checkpoint_phases.specs.Batches.{IsReadyBatch, with_more}
 use Rattle.checkpoint_phases.specs.Phases.{InFirst, InSecond, IsRolling, Keeps, without_image}
+use Rattle.recover.proofs.Gates.{append_keeps_gate, in_use_has_gate}
 use Rattle.recover.proofs.Rest.{rest_after, rest_but, rest_is_synced}
-use Rattle.recover.proofs.Stages.{one_recovered, run_join, two_recovered}
+use Rattle.recover.proofs.Stages.{one_stands, run_join, two_stands}
 use Rattle.recover.specs.Kept.{IsKept}
 use Rattle.slot_steps.proofs.Lengths.{own_of}
 use Rattle.disk.proofs.Moments.{with_own}
 use Rattle.slot_steps.specs.Steps.{image_slot, segment_slot}
 use Rattle.store_layout.proofs.Appended.{in_use_with, mid_encodes}
 use Rattle.store_layout.specs.Changes.{one_image_changed, one_segment_changed, shut_image, two_segment_changed}
-use Rattle.store_layout.specs.Slots.{alongside_segment}
-use Rattle.store_layout.specs.Standing.{as_written, InOne, InTwo}
+use Rattle.store_layout.specs.Gates.{HasLastGate, StandForState}
+use Rattle.store_layout.specs.Slots.{alongside_segment, own_segment}
+use Rattle.store_layout.specs.Standing.{InOne, InTwo}
 use Rattle.store_half.specs.Changes.{IsAppended, PassesAppend}
 use Rattle.store_half.specs.Values.{CheckpointValue, CutValue, begun}
 use Rattle.words.specs.Words.{frame_encoding, long_word, word}
@@ -71,8 +73,8 @@ record HasSegment (disk : View) (segment : Segment) (state : State) : Type 0 whe
   counted : segment.records ≡ length records
   synced : IsSynced disk (segment_slot segment.epoch)
   others : (c : Slots) → MayLeave disk c → (x : List ℕ) (more : List Record) (after : State)
-      → EncodesSegment segment.epoch x more → Run base more after
-      → Recovered (as_written (with_slot c (segment_slot segment.epoch) x)) after
+      → EncodesSegment segment.epoch x more → Run base more after → HasLastGate x
+      → StandForState after (with_slot c (segment_slot segment.epoch) x)
 
 kept_has : (disk : View) (segment : Segment) (state : State) → IsKept disk segment state → HasSegment disk segment state
 kept_has disk segment state kept = record {
@@ -82,12 +84,13 @@ kept_has disk segment state kept = record {
   run = kept.run;
   counted = kept.counted;
   synced = rest_is_synced (segment_slot segment.epoch) disk kept.at_rest;
-  others = λ c left x more after encoded run.
+  others = λ c left x more after encoded run gate.
       let e = segment.epoch in
       let one : InOne c e kept.base kept.records =
       subst (λ (s : Slots). InOne s e kept.base kept.records) (sym (kept.at_rest c left)) kept.stands in
-      one_recovered (with_slot c (segment_slot e) x) e kept.base after more
-      (one_segment_changed c e kept.base kept.records more x one encoded) run;
+      one_stands (with_slot c (segment_slot e) x) e kept.base after more
+      (one_segment_changed c e kept.base kept.records more x one encoded) run
+      (subst HasLastGate (sym (own_segment c x e)) gate);
 }
 
 first_has : (disk : View) (segment : Segment) (checkpoint : CheckpointValue) (state : State)
@@ -99,11 +102,12 @@ first_has disk segment checkpoint state phase = record {
   run = phase.run;
   counted = phase.counted;
   synced = imaging_synced disk segment.epoch checkpoint.imaged phase.imaging segment.epoch;
-  others = λ c left x more after encoded run.
+  others = λ c left x more after encoded run gate.
       let e = segment.epoch in
-      one_recovered (with_slot c (segment_slot e) x) e phase.base after more
+      one_stands (with_slot c (segment_slot e) x) e phase.base after more
       (one_segment_changed c e phase.base phase.records more x
-      (first_left disk segment checkpoint state phase c left) encoded) run;
+      (first_left disk segment checkpoint state phase c left) encoded) run
+      (subst HasLastGate (sym (own_segment c x e)) gate);
 }
 
 second_has : (disk : View) (segment : Segment) (checkpoint : CheckpointValue) (mid state : State)
@@ -116,15 +120,15 @@ second_has disk segment checkpoint mid state phase = record {
   run = phase.run;
   counted = phase.counted;
   synced = imaging_synced disk phase.former checkpoint.imaged phase.imaging segment.epoch;
-  others = λ c left x more after encoded run.
+  others = λ c left x more after encoded run gate.
       let e = phase.former in
       let two =
       two_segment_changed c e phase.base phase.first phase.records more x
       (second_left disk segment checkpoint mid state phase c left)
       (subst (λ (n : ℕ). EncodesSegment n x more) phase.next encoded) in
-      subst (λ (n : ℕ). Recovered (as_written (with_slot c (segment_slot n) x)) after) (sym phase.next)
-      (two_recovered (with_slot c (segment_slot (e + 1)) x) e phase.base mid after phase.first more two phase.run_first
-      run);
+      subst (λ (n : ℕ). StandForState after (with_slot c (segment_slot n) x)) (sym phase.next)
+      (two_stands (with_slot c (segment_slot (e + 1)) x) e phase.base mid after phase.first more two phase.run_first run
+      (subst HasLastGate (sym (own_segment c x (e + 1))) gate));
 }
 
 has_segment : (disk : View) (segment : Segment) (checkpoint : Option CheckpointValue) (mid state : State)
@@ -140,16 +144,17 @@ pub kept_synced : (disk : View) (segment : Segment) (checkpoint : Option Checkpo
 kept_synced disk segment checkpoint mid state keeps = (has_segment disk segment checkpoint mid state keeps).synced
 
 -- a crash while a store is kept leaves one that stands for its state
-pub kept_recovered : (disk : View) (segment : Segment) (checkpoint : Option CheckpointValue) (mid state : State)
-    → Keeps disk segment checkpoint mid state → (c : Slots) → MayLeave disk c → Recovered (as_written c) state
-kept_recovered disk segment checkpoint mid state keeps c left =
+pub kept_stands : (disk : View) (segment : Segment) (checkpoint : Option CheckpointValue) (mid state : State)
+    → Keeps disk segment checkpoint mid state → (c : Slots) → MayLeave disk c → StandForState state c
+kept_stands disk segment checkpoint mid state keeps c left =
     let has = has_segment disk segment checkpoint mid state keeps in
     let slot = segment_slot segment.epoch in
-    let encoded : EncodesSegment segment.epoch (slot_of c slot) has.records =
-    in_use_encodes segment.epoch (slot_of c slot) has.records
-    (subst (λ (l : List ℕ). IsInUse segment.epoch l has.records) (sym (has.synced c left)) has.in_use) in
-    subst (λ (s : Slots). Recovered (as_written s) state) (with_own slot c)
-    (has.others c left (slot_of c slot) has.records state encoded has.run)
+    let used : IsInUse segment.epoch (slot_of c slot) has.records =
+    subst (λ (l : List ℕ). IsInUse segment.epoch l has.records) (sym (has.synced c left)) has.in_use in
+    subst (StandForState state) (with_own slot c)
+    (has.others c left (slot_of c slot) has.records state
+    (in_use_encodes segment.epoch (slot_of c slot) has.records used) has.run
+    (in_use_has_gate segment.epoch (slot_of c slot) has.records used))
 
 -- records that are stored after others
 module _ (segment : Segment) (base before after : State) (stored records : List Record) (batch : BatchValue)
@@ -186,23 +191,31 @@ module _ (segment : Segment) (base before after : State) (stored records : List 
       mid_encodes e bytes now stored (map canonical_record records) used is.are more_some more_room
       (subst (λ (t : List ℕ). IsMidAppend bytes t now) encoding_is mid)
 
+  more_gate : (e : ℕ) (bytes now : List ℕ) → IsInUse e bytes stored → IsMidAppend bytes (content_of batch) now
+      → HasLastGate now
+  more_gate e bytes now used mid =
+      append_keeps_gate e bytes now stored (map canonical_record records) used more_some is.are more_room
+      (subst (λ (t : List ℕ). IsMidAppend bytes t now) encoding_is mid)
+
 -- a crash at a moment of the append leaves the state before it or after it
 pub append_mid : (old : View) (segment : Segment) (checkpoint : Option CheckpointValue) (mid before after : State)
     (records : List Record) (batch : BatchValue) → Keeps old segment checkpoint mid before
     → IsReadyBatch before after segment.records records batch
     → (c : Slots) → Follows old (segment_slot segment.epoch) (λ was now. IsMidAppend was (content_of batch) now) c
-    → Recovered (as_written c) before ⊎ Recovered (as_written c) after
+    → StandForState before c ⊎ StandForState after c
 append_mid old segment checkpoint mid before after records batch keeps is c made =
     let has = has_segment old segment checkpoint mid before keeps in
     let slot = segment_slot segment.epoch in
     let x = slot_of c slot in
     let used : IsInUse segment.epoch (slot_of made.0 slot) has.records =
     subst (λ (l : List ℕ). IsInUse segment.epoch l has.records) (sym (has.synced made.0 made.1)) has.in_use in
+    let gate : HasLastGate x =
+    more_gate segment has.base before after has.records records batch has.run has.counted is segment.epoch
+    (slot_of made.0 slot) x used made.2 in
     let stands : (more : List Record) (state : State) → EncodesSegment segment.epoch x more → Run has.base more state
-    → Recovered (as_written c) state =
-    λ more state encoded run. subst
-    (λ (s : Slots). Recovered (as_written s) state) (sym made.3)
-    (has.others made.0 made.1 x more state encoded run) in
+    → StandForState state c =
+    λ more state encoded run. subst (StandForState state) (sym made.3)
+    (has.others made.0 made.1 x more state encoded run gate) in
     elim (more_mid segment has.base before after has.records records batch has.run has.counted is segment.epoch
     (slot_of made.0 slot) x used made.2) [
       | inl encoded ↦ inl (stands has.records before encoded has.run)

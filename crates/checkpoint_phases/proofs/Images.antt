@@ -5,7 +5,6 @@ use Rattle.checkpoint.specs.Images.{IsFinishing, open_image}
 use Rattle.disk.specs.Moments.{View, Passes, Follows, IsSynced}
 use Rattle.disk.specs.Slots.{slot_of, with_slot}
 use Rattle.ipc_model.specs.state.State.{State}
-use Rattle.ipc_model.specs.store.Recovery.{Recovered}
 use Rattle.journal.specs.declared.segment.Segment.{Segment}
 use Rattle.checkpoint_phases.proofs.Imaging.{finished_keeps, finished_passes, first_on, first_passes, second_on, second_passes}
 use Rattle.checkpoint_phases.proofs.Stops.{image_shut, image_synced, keeps_on, keeps_under_way, second_phase}
@@ -13,7 +12,8 @@ use Rattle.checkpoint_phases.specs.Phases.{IsCheckpointing, Keeps}
 use Rattle.recover.specs.Kept.{IsKept}
 use Rattle.slot_steps.specs.Steps.{IsClosing, IsShut, IsStillClosed, image_slot}
 use Rattle.store_layout.specs.Changes.{closing_image, shut_image}
-use Rattle.store_layout.specs.Standing.{as_written, IsPassedImage}
+use Rattle.store_layout.specs.Gates.{StandForState}
+use Rattle.store_layout.specs.Standing.{IsPassedImage}
 use Rattle.store_half.specs.Changes.{ClosesImage, FailsToCloseImage, FailsToFinish, FailsToWritePiece, Finishes, WritesPiece}
 use Rattle.store_half.specs.Values.{CheckpointValue, StoreValue}
 
@@ -54,8 +54,8 @@ module _ (old new : View) (segment : Segment) (checkpoint : CheckpointValue) (mi
   image_passes : (step : List ℕ → List ℕ → Type 0)
       → ((e : ℕ) (was now : List ℕ) → step was now → IsPassedImage e was → IsPassedImage e now)
       → Passes old new (Follows old (image_slot checkpoint.epoch) step)
-      → Passes old new (λ c. Recovered (as_written c) state)
-  image_passes step passed passes = elim keeps.phase as (λ _. Passes old new (λ c. Recovered (as_written c) state)) [
+      → Passes old new (StandForState state)
+  image_passes step passed passes = elim keeps.phase as (λ _. Passes old new (StandForState state)) [
     | inl first ↦ first_passes old new segment checkpoint state first step
         (subst (λ (n : ℕ). Passes old new (Follows old (image_slot n) step)) first.next passes) (passed segment.epoch)
     | inr second ↦ second_passes old new segment checkpoint mid state second step (passed second.former)
@@ -66,7 +66,7 @@ module _ (old new : View) (segment : Segment) (checkpoint : CheckpointValue) (mi
   close_passes : checkpoint.imaged ≡ 0
       → (IsSynced old (image_slot checkpoint.epoch)
       → Passes old new (Follows old (image_slot checkpoint.epoch) (IsClosing 24)))
-      → Passes old new (λ c. Recovered (as_written c) state)
+      → Passes old new (StandForState state)
   close_passes none passes =
       image_passes (IsClosing 24) closing_image (passes (image_synced old segment checkpoint mid state keeps none))
 
@@ -74,7 +74,7 @@ module _ (old new : View) (segment : Segment) (checkpoint : CheckpointValue) (mi
   write_passes : 0 < checkpoint.imaged
       → (IsShut old (image_slot checkpoint.epoch)
       → Passes old new (Follows old (image_slot checkpoint.epoch) IsStillClosed))
-      → Passes old new (λ c. Recovered (as_written c) state)
+      → Passes old new (StandForState state)
   write_passes some passes =
       image_passes IsStillClosed (λ e was now shut passed. shut_image e now shut)
       (passes (image_shut old segment checkpoint mid state keeps some))
@@ -85,7 +85,7 @@ module _ (old new : View) (segment : Segment) (checkpoint : CheckpointValue) (mi
       → (IsShut old (image_slot checkpoint.epoch)
       → Passes old new (Follows old (image_slot checkpoint.epoch)
       (IsFinishing checkpoint.epoch checkpoint.encoding)))
-      → Passes old new (λ c. Recovered (as_written c) state)
+      → Passes old new (StandForState state)
   end_passes some after fits passes =
       let phase = second_phase old segment checkpoint mid state keeps after in
       finished_passes old new segment checkpoint mid state phase checkpoint.encoding keeps.image fits
@@ -131,14 +131,14 @@ module _ {D : Type 0} (honest : Type 0) (view : D → View) (is_honest : honest)
       (step.others is_honest) (step.shut is_honest))
 
   pub image_close_passes : Keeps (view old.disk) old.segment old.checkpoint mid state → ClosesImage honest view old new
-      → Passes (view old.disk) (view new.disk) (λ c. Recovered (as_written c) state)
+      → Passes (view old.disk) (view new.disk) (StandForState state)
   image_close_passes kept step =
       close_passes (view old.disk) (view new.disk) old.segment step.checkpoint mid state
       (under_way step.checkpoint kept step.under_way) step.next (step.passes is_honest)
 
   pub image_close_fails : Keeps (view old.disk) old.segment old.checkpoint mid state
       → FailsToCloseImage honest view old new
-      → Passes (view old.disk) (view new.disk) (λ c. Recovered (as_written c) state)
+      → Passes (view old.disk) (view new.disk) (StandForState state)
   image_close_fails kept step =
       close_passes (view old.disk) (view new.disk) old.segment step.checkpoint mid state
       (under_way step.checkpoint kept step.under_way) step.next (step.passes is_honest)
@@ -155,13 +155,13 @@ module _ {D : Type 0} (honest : Type 0) (view : D → View) (is_honest : honest)
       (step.shut is_honest shut))
 
   pub piece_passes : Keeps (view old.disk) old.segment old.checkpoint mid state → WritesPiece honest view old new
-      → Passes (view old.disk) (view new.disk) (λ c. Recovered (as_written c) state)
+      → Passes (view old.disk) (view new.disk) (StandForState state)
   piece_passes kept step =
       write_passes (view old.disk) (view new.disk) old.segment step.checkpoint mid state
       (under_way step.checkpoint kept step.under_way) step.next.0 (step.passes is_honest)
 
   pub piece_fails : Keeps (view old.disk) old.segment old.checkpoint mid state → FailsToWritePiece honest view old new
-      → Passes (view old.disk) (view new.disk) (λ c. Recovered (as_written c) state)
+      → Passes (view old.disk) (view new.disk) (StandForState state)
   piece_fails kept step =
       write_passes (view old.disk) (view new.disk) old.segment step.checkpoint mid state
       (under_way step.checkpoint kept step.under_way) step.next.0 (step.passes is_honest)
@@ -179,14 +179,14 @@ module _ {D : Type 0} (honest : Type 0) (view : D → View) (is_honest : honest)
       (sym (ap (λ (s : StoreValue D). s.segment) step.rest)) ended)
 
   pub finish_passes : Keeps (view old.disk) old.segment old.checkpoint mid state → Finishes honest view old new
-      → Passes (view old.disk) (view new.disk) (λ c. Recovered (as_written c) state)
+      → Passes (view old.disk) (view new.disk) (StandForState state)
   finish_passes kept step =
       end_passes (view old.disk) (view new.disk) old.segment step.checkpoint mid state
       (under_way step.checkpoint kept step.under_way) (omega (arith, step.next.0)) step.next.1 step.fits
       (step.passes is_honest)
 
   pub finish_fails : Keeps (view old.disk) old.segment old.checkpoint mid state → FailsToFinish honest view old new
-      → Passes (view old.disk) (view new.disk) (λ c. Recovered (as_written c) state)
+      → Passes (view old.disk) (view new.disk) (StandForState state)
   finish_fails kept step =
       end_passes (view old.disk) (view new.disk) old.segment step.checkpoint mid state
       (under_way step.checkpoint kept step.under_way) (omega (arith, step.next.0)) step.next.1 step.fits

@@ -5,21 +5,24 @@ use Rattle.checkpoint.specs.Images.{IsFinishing, open_image}
 use Rattle.disk.specs.Moments.{View, Passes, Follows, IsSynced}
 use Rattle.disk.specs.Slots.{Slots, slot_of, with_slot}
 use Rattle.ipc_model.specs.state.State.{State}
-use Rattle.ipc_model.specs.store.Recovery.{HoldsImage, IsImageOf, Recovered}
+use Rattle.ipc_model.specs.store.Recovery.{HoldsImage, IsImageOf}
 use Rattle.ipc_model.specs.store.Store.{IsInUse}
 use Rattle.ipc_model.specs.encodings.Images.{image_encoding}
 use Rattle.journal.specs.declared.segment.Segment.{Segment}
 use Rattle.checkpoint_phases.proofs.Alongside.{segment_stays}
-use Rattle.checkpoint_phases.proofs.Stops.{first_left, second_left}
+use Rattle.checkpoint_phases.proofs.Stops.{first_gate, first_left, second_gate, second_left}
 use Rattle.checkpoint_phases.specs.Phases.{InFirst, InSecond, IsImaging, IsRolling, without_image}
 use Rattle.recover.proofs.Rest.{rest_but_changed}
-use Rattle.recover.proofs.Stages.{next_image, one_recovered, two_recovered}
+use Rattle.recover.proofs.Stages.{next_image, one_stands, two_stands}
 use Rattle.recover.specs.Kept.{IsKept}
 use Rattle.slot_steps.proofs.Gates.{closed_not_open}
 use Rattle.disk.proofs.Moments.{passes_as, with_own, with_twice}
 use Rattle.slot_steps.specs.Steps.{IsRemade, IsShut, image_slot, segment_slot}
 use Rattle.store_layout.specs.Changes.{one_image_changed, two_finished, two_image_changed}
-use Rattle.store_layout.specs.Standing.{as_written, InOne, InTwo, IsPassedImage}
+use Rattle.store_layout.proofs.Gates.{gates_alongside_image, two_gates}
+use Rattle.store_layout.specs.Gates.{HasLastGate, StandForState}
+use Rattle.store_layout.specs.Slots.{alongside_image}
+use Rattle.store_layout.specs.Standing.{InOne, InTwo, IsPassedImage}
 use Rattle.store_half.specs.Values.{CheckpointValue}
 
 -- a step on the next image's slot
@@ -72,17 +75,19 @@ module _ (old new : View) (segment : Segment) (checkpoint : CheckpointValue) (st
 
   pub first_passes : ((was now : List ℕ) → step was now
       → IsPassedImage segment.epoch was → IsPassedImage segment.epoch now)
-      → Passes old new (λ c. Recovered (as_written c) state)
+      → Passes old new (StandForState state)
   first_passes passed =
       let e = segment.epoch in
       let slot = image_slot (e + 1) in
-      passes_as old new (Follows old slot step) (λ c. Recovered (as_written c) state) time (λ c made.
+      passes_as old new (Follows old slot step) (StandForState state) time (λ c made.
       let one = first_left old segment checkpoint state phase made.0 made.1 in
       let x = slot_of c slot in
-      subst (λ (s : Slots). Recovered (as_written s) state) (sym made.3)
-      (one_recovered (with_slot made.0 slot x) e phase.base state phase.records
+      subst (StandForState state) (sym made.3)
+      (one_stands (with_slot made.0 slot x) e phase.base state phase.records
       (one_image_changed made.0 e phase.base phase.records x one
-      (passed (slot_of made.0 slot) x made.2 one.other_image)) phase.run))
+      (passed (slot_of made.0 slot) x made.2 one.other_image)) phase.run
+      (subst HasLastGate (sym (alongside_image made.0 x e).1)
+      (first_gate old segment checkpoint state phase made.0 made.1))))
 
 module _ (old new : View) (segment : Segment) (checkpoint : CheckpointValue) (mid state : State)
     (phase : InSecond old segment checkpoint mid state) where
@@ -116,17 +121,19 @@ module _ (old new : View) (segment : Segment) (checkpoint : CheckpointValue) (mi
   pub second_passes : (step : List ℕ → List ℕ → Type 0)
       → ((was now : List ℕ) → step was now → IsPassedImage phase.former was → IsPassedImage phase.former now)
       → Passes old new (Follows old (image_slot (phase.former + 1)) step)
-      → Passes old new (λ c. Recovered (as_written c) state)
+      → Passes old new (StandForState state)
   second_passes step passed time =
       let e = phase.former in
       let slot = image_slot (e + 1) in
-      passes_as old new (Follows old slot step) (λ c. Recovered (as_written c) state) time (λ c made.
+      passes_as old new (Follows old slot step) (StandForState state) time (λ c made.
       let two = second_left old segment checkpoint mid state phase made.0 made.1 in
       let x = slot_of c slot in
-      subst (λ (s : Slots). Recovered (as_written s) state) (sym made.3)
-      (two_recovered (with_slot made.0 slot x) e phase.base mid state phase.first phase.records
+      subst (StandForState state) (sym made.3)
+      (two_stands (with_slot made.0 slot x) e phase.base mid state phase.first phase.records
       (two_image_changed made.0 e phase.base phase.first phase.records x two
-      (passed (slot_of made.0 slot) x made.2 two.other_image)) phase.run_first phase.run))
+      (passed (slot_of made.0 slot) x made.2 two.other_image)) phase.run_first phase.run
+      (subst HasLastGate (sym (alongside_image made.0 x e).2)
+      (second_gate old segment checkpoint mid state phase made.0 made.1))))
 
 -- a whole image of a state
 holds_image : (epoch : ℕ) (encoding : List ℕ) (state : State) → IsImageOf encoding state → length encoding < 2 ^ 64
@@ -151,19 +158,24 @@ module _ (old new : View) (segment : Segment) (checkpoint : CheckpointValue) (mi
   holds : HoldsImage (phase.former + 1) (open_image (phase.former + 1) encoding) mid
   holds = holds_image (phase.former + 1) encoding mid image fits
 
-  pub finished_passes : Passes old new (λ c. Recovered (as_written c) state)
+  pub finished_passes : Passes old new (StandForState state)
   finished_passes =
       let e = phase.former in
       let slot = image_slot (e + 1) in
       let content : List ℕ = open_image (e + 1) encoding in
-      passes_as old new (Follows old slot (IsFinishing (e + 1) encoding)) (λ c. Recovered (as_written c) state) time
+      passes_as old new (Follows old slot (IsFinishing (e + 1) encoding)) (StandForState state) time
       (λ c made.
       let x = slot_of c slot in
       let remade : IsRemade 24 content (slot_of made.0 slot) x =
       elim made.2 [ inl shut ↦ inl (inr (closed_not_open 24 x shut)) | inr whole ↦ inr whole ] in
-      subst (λ (s : Slots). Recovered (as_written s) state) (sym made.3)
-      (next_image made.0 e phase.base mid state phase.first phase.records x content
-      (second_left old segment checkpoint mid state phase made.0 made.1) phase.run_first phase.run holds remade))
+      let two = second_left old segment checkpoint mid state phase made.0 made.1 in
+      subst (StandForState state) (sym made.3) (record {
+        recovered =
+            next_image made.0 e phase.base mid state phase.first phase.records x content two phase.run_first phase.run
+            holds remade;
+        gates = gates_alongside_image made.0 x (e + 1) (two_gates made.0 e phase.base phase.first phase.records two
+            (second_gate old segment checkpoint mid state phase made.0 made.1));
+      }))
 
   pub finished_keeps : new.seen ≡ with_slot old.seen (image_slot (phase.former + 1))
       (open_image (phase.former + 1) encoding) → IsSynced new (image_slot (phase.former + 1)) → IsKept new segment state

@@ -1,24 +1,25 @@
 -- How the steps of rotating change a store in the first phase of a checkpoint.
 use Rattle.std.proofs.Common.{◌≡◌, inl, inr, ℕ, ◌+◌, ◌<◌, List, [], ◌∷◌, ◌++◌, length, take, drop, refl, sym, ap, subst, ◌∙◌, arith}
-use Rattle.disk.specs.Moments.{View, Passes, Follows, IsSynced}
+use Rattle.disk.specs.Moments.{View, MayLeave, Passes, Follows, IsSynced}
 use Rattle.disk.specs.Slots.{Slots, slot_of, with_slot}
 use Rattle.ipc_model.specs.calls.Step.{Run}
 use Rattle.ipc_model.specs.state.State.{State}
-use Rattle.ipc_model.specs.store.Recovery.{Recovered}
 use Rattle.ipc_model.specs.store.Store.{IsClosed, IsInUse, closed_gate, epoch_encoding, open_gate}
 use Rattle.journal.specs.declared.segment.Segment.{Segment}
 use Rattle.checkpoint_phases.proofs.Alongside.{imaging_alongside, without_alongside}
-use Rattle.checkpoint_phases.proofs.Stops.{first_left, imaging_synced}
+use Rattle.checkpoint_phases.proofs.Stops.{first_gate, first_left, imaging_synced}
 use Rattle.checkpoint_phases.specs.Phases.{InFirst, InSecond, IsRolling, without_image}
-use Rattle.recover.proofs.Stages.{empty_in_use, empty_encodes, one_recovered, two_recovered}
+use Rattle.recover.proofs.Gates.{empty_has_gate}
+use Rattle.recover.proofs.Stages.{empty_in_use, empty_encodes, one_stands, two_stands}
 use Rattle.recover.specs.Making.{empty_segment}
 use Rattle.slot_steps.proofs.Gates.{after_first, gate_opened}
 use Rattle.slot_steps.proofs.Lengths.{own_of}
 use Rattle.disk.proofs.Moments.{passes_as}
 use Rattle.slot_steps.specs.Steps.{HasSomeGate, segment_slot}
 use Rattle.store_layout.specs.Changes.{one_next_segment_changed, one_opened, shut_segment}
-use Rattle.store_layout.specs.Slots.{alongside_next_segment}
-use Rattle.store_layout.specs.Standing.{as_written, InOne, InTwo, IsPassedSegment}
+use Rattle.store_layout.specs.Slots.{alongside_next_segment, own_segment}
+use Rattle.store_layout.specs.Gates.{HasLastGate, StandForState}
+use Rattle.store_layout.specs.Standing.{InOne, InTwo, IsPassedSegment}
 use Rattle.store_half.specs.Values.{CheckpointValue}
 
 -- the first two steps, by what they leave in the next segment's slot
@@ -83,20 +84,27 @@ module _ (old new : View) (segment : Segment) (checkpoint : CheckpointValue) (st
         counted = phase.counted;
       }
 
+  -- whatever stands in the next segment's slot
+  own_gate : (c : Slots) → MayLeave old c → (x : List ℕ)
+      → HasLastGate (slot_of (with_slot c (segment_slot (segment.epoch + 1)) x) (segment_slot segment.epoch))
+  own_gate c left x =
+      subst HasLastGate (sym (alongside_next_segment c x segment.epoch).2)
+      (first_gate old segment checkpoint state phase c left)
+
   pub rolled_passes : (step : List ℕ → List ℕ → Type 0)
       → ((was now : List ℕ) → step was now → IsPassedSegment segment.epoch was → IsPassedSegment segment.epoch now)
       → Passes old new (Follows old (segment_slot (segment.epoch + 1)) step)
-      → Passes old new (λ c. Recovered (as_written c) state)
+      → Passes old new (StandForState state)
   rolled_passes step passed time =
       let n = segment.epoch in
       let slot = segment_slot (n + 1) in
-      passes_as old new (Follows old slot step) (λ c. Recovered (as_written c) state) time (λ c made.
+      passes_as old new (Follows old slot step) (StandForState state) time (λ c made.
       let one = first_left old segment checkpoint state phase made.0 made.1 in
       let x = slot_of c slot in
-      subst (λ (s : Slots). Recovered (as_written s) state) (sym made.3)
-      (one_recovered (with_slot made.0 slot x) n phase.base state phase.records
+      subst (StandForState state) (sym made.3)
+      (one_stands (with_slot made.0 slot x) n phase.base state phase.records
       (one_next_segment_changed made.0 n phase.base phase.records x one
-      (passed (slot_of made.0 slot) x made.2 one.other_segment)) phase.run))
+      (passed (slot_of made.0 slot) x made.2 one.other_segment)) phase.run (own_gate made.0 made.1 x)))
 
   -- after the gate stands all of an empty segment
   after_gate : checkpoint.rolled ≡ 2
@@ -138,21 +146,22 @@ module _ (old new : View) (segment : Segment) (checkpoint : CheckpointValue) (st
 
   pub opened_passes : checkpoint.rolled ≡ 2
       → Passes old new (Follows old (segment_slot (segment.epoch + 1)) HasSomeGate)
-      → Passes old new (λ c. Recovered (as_written c) state)
+      → Passes old new (StandForState state)
   opened_passes two time =
       let n = segment.epoch in
       let slot = segment_slot (n + 1) in
-      passes_as old new (Follows old slot HasSomeGate) (λ c. Recovered (as_written c) state) time (λ c made.
+      passes_as old new (Follows old slot HasSomeGate) (StandForState state) time (λ c made.
       let one = first_left old segment checkpoint state phase made.0 made.1 in
       let x = slot_of c slot in
       let beyond : drop 1 (slot_of made.0 slot) ≡ epoch_encoding (n + 1) ++ closed_gate ∷ [] =
       ap (λ (l : List ℕ). drop 1 l) (imaging_synced old n checkpoint.imaged phase.imaging (n + 1) made.0 made.1)
       ∙ after_gate two in
-      subst (λ (s : Slots). Recovered (as_written s) state) (sym made.3)
+      subst (StandForState state) (sym made.3)
       (elim (gate_opened (epoch_encoding (n + 1) ++ closed_gate ∷ []) (slot_of made.0 slot) x beyond made.2) [
-        | inl shut ↦ one_recovered (with_slot made.0 slot x) n phase.base state phase.records
+        | inl shut ↦ one_stands (with_slot made.0 slot x) n phase.base state phase.records
             (one_next_segment_changed made.0 n phase.base phase.records x one (shut_segment n x shut)) phase.run
-        | inr whole ↦ two_recovered (with_slot made.0 slot x) n phase.base state state phase.records []
+            (own_gate made.0 made.1 x)
+        | inr whole ↦ two_stands (with_slot made.0 slot x) n phase.base state state phase.records []
             (one_opened made.0 n phase.base phase.records [] x one phase.fits (empty_encodes (n + 1) x whole)) phase.run
-            refl
+            refl (subst HasLastGate (sym (own_segment made.0 x (n + 1))) (empty_has_gate (n + 1) x whole))
       ]))

@@ -4,7 +4,6 @@ use Rattle.std.specs.Prelude.{Some}
 use Rattle.disk.specs.Moments.{View, Passes, Follows, IsSynced}
 use Rattle.disk.specs.Slots.{slot_of, with_slot}
 use Rattle.ipc_model.specs.state.State.{State}
-use Rattle.ipc_model.specs.store.Recovery.{Recovered}
 use Rattle.ipc_model.specs.store.Store.{IsClosed, closed_gate, epoch_encoding, open_gate}
 use Rattle.journal.specs.declared.segment.Segment.{Segment}
 use Rattle.checkpoint_phases.proofs.Rolling.{closed_rolling, header_closed, header_rolling, opened_keeps, opened_passes, rolled_keeps, rolled_passes}
@@ -12,7 +11,7 @@ use Rattle.checkpoint_phases.proofs.Stops.{first_phase, keeps_on, keeps_under_wa
 use Rattle.checkpoint_phases.specs.Phases.{InFirst, IsCheckpointing, IsRolling, Keeps}
 use Rattle.slot_steps.specs.Steps.{HasSomeGate, IsClosing, IsShut, IsStillClosed, segment_slot}
 use Rattle.store_layout.specs.Changes.{closing_segment, shut_segment}
-use Rattle.store_layout.specs.Standing.{as_written}
+use Rattle.store_layout.specs.Gates.{StandForState}
 use Rattle.store_half.specs.Changes.{FailsToRollClose, FailsToRollHead, FailsToRollOpen, RollsClose, RollsHead, RollsOpen}
 use Rattle.store_half.specs.Values.{CheckpointValue, StoreValue}
 
@@ -36,7 +35,7 @@ module _ (old new : View) (segment : Segment) (checkpoint : CheckpointValue) (mi
   closed_passes : checkpoint.rolled ≡ 0
       → (IsSynced old (segment_slot checkpoint.epoch)
       → Passes old new (Follows old (segment_slot checkpoint.epoch) (IsClosing 16)))
-      → Passes old new (λ c. Recovered (as_written c) state)
+      → Passes old new (StandForState state)
   closed_passes none passes =
       rolled_passes old new segment checkpoint state (first_of (omega (arith, none))) (IsClosing 16)
       (λ was now closing passed. closing_segment segment.epoch was now closing passed) (close_time none passes)
@@ -75,7 +74,7 @@ module _ (old new : View) (segment : Segment) (checkpoint : CheckpointValue) (mi
   head_passes : checkpoint.rolled ≡ 1
       → (IsShut old (segment_slot checkpoint.epoch)
       → Passes old new (Follows old (segment_slot checkpoint.epoch) IsStillClosed))
-      → Passes old new (λ c. Recovered (as_written c) state)
+      → Passes old new (StandForState state)
   head_passes one passes =
       rolled_passes old new segment checkpoint state (first_of (omega (arith, one))) IsStillClosed
       (λ was now shut passed. shut_segment segment.epoch now shut) (head_time one passes)
@@ -112,7 +111,7 @@ module _ (old new : View) (segment : Segment) (checkpoint : CheckpointValue) (mi
       subst (λ (n : ℕ). Passes old new (Follows old (segment_slot n) HasSomeGate)) (first_of (omega (arith, two))).next
 
   open_passes : checkpoint.rolled ≡ 2 → Passes old new (Follows old (segment_slot checkpoint.epoch) HasSomeGate)
-      → Passes old new (λ c. Recovered (as_written c) state)
+      → Passes old new (StandForState state)
   open_passes two passes =
       opened_passes old new segment checkpoint state (first_of (omega (arith, two))) two (open_time two passes)
 
@@ -160,14 +159,14 @@ module _ {D : Type 0} (honest : Type 0) (view : D → View) (is_honest : honest)
       (step.synced is_honest))
 
   pub roll_close_passes : Keeps (view old.disk) old.segment old.checkpoint mid state → RollsClose honest view old new
-      → Passes (view old.disk) (view new.disk) (λ c. Recovered (as_written c) state)
+      → Passes (view old.disk) (view new.disk) (StandForState state)
   roll_close_passes kept step =
       closed_passes (view old.disk) (view new.disk) old.segment step.checkpoint mid state
       (under_way step.checkpoint kept step.under_way) step.next (step.passes is_honest)
 
   pub roll_close_fails : Keeps (view old.disk) old.segment old.checkpoint mid state
       → FailsToRollClose honest view old new
-      → Passes (view old.disk) (view new.disk) (λ c. Recovered (as_written c) state)
+      → Passes (view old.disk) (view new.disk) (StandForState state)
   roll_close_fails kept step =
       closed_passes (view old.disk) (view new.disk) old.segment step.checkpoint mid state
       (under_way step.checkpoint kept step.under_way) step.next (step.passes is_honest)
@@ -182,13 +181,13 @@ module _ {D : Type 0} (honest : Type 0) (view : D → View) (is_honest : honest)
       (step.synced is_honest))
 
   pub roll_head_passes : Keeps (view old.disk) old.segment old.checkpoint mid state → RollsHead honest view old new
-      → Passes (view old.disk) (view new.disk) (λ c. Recovered (as_written c) state)
+      → Passes (view old.disk) (view new.disk) (StandForState state)
   roll_head_passes kept step =
       head_passes (view old.disk) (view new.disk) old.segment step.checkpoint mid state
       (under_way step.checkpoint kept step.under_way) step.next (step.passes is_honest)
 
   pub roll_head_fails : Keeps (view old.disk) old.segment old.checkpoint mid state → FailsToRollHead honest view old new
-      → Passes (view old.disk) (view new.disk) (λ c. Recovered (as_written c) state)
+      → Passes (view old.disk) (view new.disk) (StandForState state)
   roll_head_fails kept step =
       head_passes (view old.disk) (view new.disk) old.segment step.checkpoint mid state
       (under_way step.checkpoint kept step.under_way) step.next (step.passes is_honest)
@@ -205,14 +204,14 @@ module _ {D : Type 0} (honest : Type 0) (view : D → View) (is_honest : honest)
       (step.synced is_honest))
 
   pub roll_open_passes : Keeps (view old.disk) old.segment old.checkpoint mid state → state ≡ mid
-      → RollsOpen honest view old new → Passes (view old.disk) (view new.disk) (λ c. Recovered (as_written c) state)
+      → RollsOpen honest view old new → Passes (view old.disk) (view new.disk) (StandForState state)
   roll_open_passes kept same step =
       open_passes (view old.disk) (view new.disk) old.segment step.checkpoint mid state
       (under_way step.checkpoint kept step.under_way) step.next (step.passes is_honest)
 
   pub roll_open_fails : Keeps (view old.disk) old.segment old.checkpoint mid state → state ≡ mid
       → FailsToRollOpen honest view old new
-      → Passes (view old.disk) (view new.disk) (λ c. Recovered (as_written c) state)
+      → Passes (view old.disk) (view new.disk) (StandForState state)
   roll_open_fails kept same step =
       open_passes (view old.disk) (view new.disk) old.segment step.checkpoint mid state
       (under_way step.checkpoint kept step.under_way) step.next (step.passes is_honest)

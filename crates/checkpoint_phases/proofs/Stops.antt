@@ -1,19 +1,21 @@
 -- The post-crash contents in each phase of a checkpoint.
-use Rattle.std.proofs.Common.{◌≡◌, inl, inr, ℕ, ◌+◌, ◌<◌, [], sym, ap, subst, ◌∙◌, arith}
+use Rattle.std.proofs.Common.{◌≡◌, inl, inr, ℕ, ◌+◌, ◌<◌, List, [], sym, ap, subst, ◌∙◌, arith}
 use Rattle.std.specs.Prelude.{Option, Some}
 use Rattle.std.proofs.lemmas.Bool.{cases_eq}
 use Rattle.disk.specs.Moments.{View, MayLeave, IsSynced}
 use Rattle.disk.specs.Slots.{Slots, slot_of, with_slot}
 use Rattle.ipc_model.specs.state.State.{State}
-use Rattle.ipc_model.specs.store.Store.{IsClosed}
+use Rattle.ipc_model.specs.store.Store.{IsClosed, IsInUse}
 use Rattle.journal.specs.declared.segment.Segment.{Segment}
 use Rattle.checkpoint_phases.proofs.Alongside.{segment_stays}
 use Rattle.checkpoint_phases.specs.Phases.{InFirst, InSecond, IsCheckpointing, IsImaging, Keeps, without_image}
+use Rattle.recover.proofs.Gates.{in_use_has_gate}
 use Rattle.recover.proofs.Rest.{rest_is_synced}
 use Rattle.slot_steps.proofs.Following.{synced_shut}
 use Rattle.disk.proofs.Moments.{with_twice}
 use Rattle.slot_steps.specs.Steps.{IsShut, image_slot, segment_slot}
 use Rattle.store_layout.specs.Changes.{one_image_changed, shut_image, two_image_changed}
+use Rattle.store_layout.specs.Gates.{HasLastGate}
 use Rattle.store_layout.specs.Standing.{InOne, InTwo, IsPassedImage}
 use Rattle.store_half.specs.Values.{CheckpointValue}
 
@@ -57,6 +59,26 @@ second_left disk segment checkpoint mid state phase c left =
     (sym (imaging_left disk e checkpoint.imaged phase.imaging c left))
     (two_image_changed (without_image disk e) e phase.base phase.first phase.records
     (slot_of c (image_slot (e + 1))) phase.stands (imaging_passed disk e checkpoint.imaged phase.imaging c left))
+
+-- the segment in use has its last gate
+
+pub first_gate : (disk : View) (segment : Segment) (checkpoint : CheckpointValue) (state : State)
+    → InFirst disk segment checkpoint state → (c : Slots) → MayLeave disk c
+    → HasLastGate (slot_of c (segment_slot segment.epoch))
+first_gate disk segment checkpoint state phase c left =
+    let e = segment.epoch in
+    in_use_has_gate e (slot_of c (segment_slot e)) phase.records
+    (subst (λ (l : List ℕ). IsInUse e l phase.records)
+    (sym (imaging_synced disk e checkpoint.imaged phase.imaging e c left)) phase.in_use)
+
+pub second_gate : (disk : View) (segment : Segment) (checkpoint : CheckpointValue) (mid state : State)
+    → (phase : InSecond disk segment checkpoint mid state) → (c : Slots) → MayLeave disk c
+    → HasLastGate (slot_of c (segment_slot (phase.former + 1)))
+second_gate disk segment checkpoint mid state phase c left =
+    let e = phase.former + 1 in
+    in_use_has_gate e (slot_of c (segment_slot e)) phase.records
+    (subst (λ (l : List ℕ). IsInUse e l phase.records)
+    (sym (imaging_synced disk phase.former checkpoint.imaged phase.imaging e c left)) phase.in_use)
 
 -- which phase a checkpoint is in
 module _ (disk : View) (segment : Segment) (checkpoint : CheckpointValue) (mid state : State)

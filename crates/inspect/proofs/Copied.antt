@@ -9,19 +9,20 @@ use Rattle.inspect.specs.declared.copying.CopyStoreFault.TheVariants as copied
 use Rattle.inspect.specs.declared.fault.ListFault.{ListFault}
 use Rattle.inspect.specs.declared.fault.ListFault.TheVariants as list
 use Rattle.ipc_model.specs.state.State.{State}
-use Rattle.ipc_model.specs.store.Recovery.{HoldsImage, Recovered}
+use Rattle.ipc_model.specs.store.Recovery.{HoldsImage}
 use Rattle.ipc_model.specs.encodings.Images.{image_encoding}
 use Rattle.store_fault.specs.declared.fault.StoreFault.{StoreFault}
 use Rattle.store_fault.specs.declared.fault.StoreFault.TheVariants as fault
-use Rattle.recover.proofs.Stages.{empty_encodes}
+use Rattle.recover.proofs.Gates.{empty_has_gate}
+use Rattle.recover.proofs.Stages.{empty_encodes, one_stands}
 use Rattle.recover.specs.AtRest.{IsAtRest}
 use Rattle.recover.specs.Found.{Reads}
 use Rattle.recover.specs.Looked.{IsLook}
 use Rattle.recover.specs.Making.{empty_segment}
 use Rattle.recover.specs.declared.looking.Looked.{Looked}
 use Rattle.snapshot.specs.Rows.{one_state}
-use Rattle.store_layout.specs.Encoded.{one_encodes}
-use Rattle.store_layout.specs.Standing.{InOne, as_written}
+use Rattle.store_layout.specs.Gates.{StandForState}
+use Rattle.store_layout.specs.Standing.{InOne}
 
 -- the store's fault in a fault of copying
 abbrev store_in : CopyStoreFault → StoreFault
@@ -46,9 +47,9 @@ pub reported_of_list : (fault : ListFault) (reported : StoreFault) (given : Copy
 reported_of_list fault reported given result is of same =
     store_of_list fault reported (sym of ∙ ap error_in (sym is ∙ same))
 
-copy_recovers : (state : State) → HoldsImage 0 (open_image 0 (image_encoding state)) state
-    → Recovered (as_written (store_of (unwritten 0 (image_encoding state)))) state
-copy_recovers state holds =
+copy_stands : (state : State) → HoldsImage 0 (open_image 0 (image_encoding state)) state
+    → StandForState state (store_of (unwritten 0 (image_encoding state)))
+copy_stands state holds =
     let slots : Slots = store_of (unwritten 0 (image_encoding state)) in
     let one : InOne slots 0 state [] = record {
       fits = omega arith;
@@ -57,7 +58,7 @@ copy_recovers state holds =
       other_image = inl (λ is_open. absurd (omega (arith, is_open.0)));
       other_segment = inl (λ is_open. absurd (omega (arith, is_open.0)));
     } in
-    record { base = state; records = []; encoded = one_encodes slots 0 state [] one; run = refl }
+    one_stands slots 0 state state [] one refl (empty_has_gate 0 (empty_segment 0) refl)
 
 pub is_copy : (honest : Type 0) (slots : Slots) (look : Looked) (image : ImageValue) (new : View) → honest
     → IsLook honest slots look → IsImageOfRows look.snapshot image → new.seen ≡ store_of image → IsAtRest new
@@ -69,9 +70,9 @@ is_copy honest slots look image new given looked imaged made rest =
       epoch = look.epoch;
       records = look.records;
       reads = looked.reads given;
-      recovered =
-          subst (λ s. Recovered (as_written new.seen) s) same
-          (subst (λ (s : Slots). Recovered (as_written s) imaged.state) (sym (made ∙ ap store_of imaged.is))
-          (copy_recovers imaged.state imaged.holds));
+      stands =
+          subst (λ s. StandForState s new.seen) same
+          (subst (StandForState imaged.state) (sym (made ∙ ap store_of imaged.is))
+          (copy_stands imaged.state imaged.holds));
       at_rest = rest;
     }

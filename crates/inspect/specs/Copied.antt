@@ -10,7 +10,7 @@ use Rattle.inspect.specs.declared.copying.CopyStoreFault.TheVariants.{Store, Bus
 use Rattle.inspect.specs.declared.fault.ListFault.{ListFault}
 use Rattle.inspect.specs.declared.fault.ListFault.TheVariants as list
 use Rattle.ipc_model.specs.state.State.{State}
-use Rattle.ipc_model.specs.store.Recovery.{HoldsImage, Recovered}
+use Rattle.ipc_model.specs.store.Recovery.{HoldsImage}
 use Rattle.ipc_model.specs.encodings.Images.{image_encoding}
 use Rattle.store_fault.specs.Fault as fault_lines
 use Rattle.store_fault.specs.declared.fault.StoreFault.TheVariants as store
@@ -19,7 +19,7 @@ use Rattle.recover.specs.Found.{Reads}
 use Rattle.recover.specs.Making.{empty_segment}
 use Rattle.snapshot.specs.Snapshots.{snapshot_of}
 use Rattle.snapshot.specs.declared.rows.Snapshot.{Snapshot}
-use Rattle.store_layout.specs.Standing.{as_written}
+use Rattle.store_layout.specs.Gates.{StandForState}
 
 -- An image of epoch 0, of the state with these rows.
 pub record IsImageOfRows (rows : Snapshot) (image : ImageValue) : Type 0 where
@@ -39,7 +39,7 @@ pub record IsCopyOf (slots : Slots) (copy : View) : Type 0 where
   pub epoch : ℕ
   pub records : ℕ
   pub reads : Reads slots epoch records state
-  pub recovered : Recovered (as_written copy.seen) state
+  pub stands : StandForState state copy.seen
   pub at_rest : IsAtRest copy
 
 abbrev pub of_list : ListFault → CopyStoreFault

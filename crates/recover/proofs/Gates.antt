@@ -10,7 +10,8 @@ use Rattle.ipc_laws.specs.StoreLaws.{all_records-push, batches_encoding-push, no
 use Rattle.ipc_model.specs.store.Recovery.{IsOpen}
 use Rattle.journal.specs.Reading.{MAX_RECORDS}
 use Rattle.recover.specs.Making.{empty_segment}
-use Rattle.recover.specs.Crashing.{HasLastGate, AppendKeepsGate}
+use Rattle.store_layout.specs.Gates.{HasLastGate}
+use Rattle.recover.specs.Crashing.{AppendKeepsGate}
 
 -- equal bytes that begin with encodings of batches go on alike after these
 same_rest : (n : ℕ) (more more_too : List (List Record)) (x y : List ℕ) → IsClosed x → IsClosed y
@@ -89,6 +90,13 @@ empty_has_gate epoch segment is = has_gate epoch segment []
             bounded = omega arith;
           };
     }) (omega arith)
+
+-- a segment in use
+pub in_use_has_gate : (epoch : ℕ) (segment : List ℕ) (records : List Record) → IsInUse epoch segment records
+    → HasLastGate segment
+in_use_has_gate epoch segment records used =
+    has_gate epoch segment records
+    (record { content = used.content; encoding = used.encoding; encoded = used.encoded }) (omega (arith, used.ended))
 
 -- a segment in use to which a batch is appended
 

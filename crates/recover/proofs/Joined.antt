@@ -6,21 +6,23 @@ use Rattle.disk.specs.Moments.{View, MayLeave, Passes, Follows, IsSynced}
 use Rattle.disk.specs.Slots.{Slots, slot_of, with_slot}
 use Rattle.checkpoint.specs.Images.{ImageValue, open_image, unwritten}
 use Rattle.ipc_model.specs.state.State.{State, opening_state}
-use Rattle.ipc_model.specs.store.Recovery.{HoldsImage, IsNew, Recovered}
+use Rattle.ipc_model.specs.store.Recovery.{HoldsImage, IsNew}
 use Rattle.ipc_model.specs.store.Store.{closed_gate}
 use Rattle.ipc_model.specs.encodings.Images.{image_encoding}
 use Rattle.journal.specs.declared.segment.Segment.{Segment}
 use Rattle.slot_steps.specs.Steps.{IsRemade, image_slot, segment_slot}
 use Rattle.disk.proofs.Moments.{passes_as, passes_then}
+use Rattle.store_layout.specs.Gates.{HaveLastGates, StandForState}
 use Rattle.store_layout.specs.Standing.{as_written, InOne}
+use Rattle.store_layout.proofs.Gates.{gates_alongside_image}
 use Rattle.recover.specs.AtRest.{IsAtRest}
 use Rattle.recover.specs.Kept.{IsKept}
 use Rattle.recover.specs.Making.{DiffersIn, empty_segment}
-use Rattle.recover.specs.Crashing.{HasLastGate, HaveLastGates, LeavesSame, StandForSame}
+use Rattle.recover.specs.Crashing.{LeavesSame, StandForSame}
 use Rattle.recover.specs.Surveyed.{IsUnused}
-use Rattle.recover.proofs.Gates.{empty_has_gate}
+use Rattle.recover.proofs.Gates.{empty_has_gate, in_use_has_gate}
 use Rattle.recover.proofs.Rest.{rest_after, rest_called, rest_is_synced, rest_kept}
-use Rattle.recover.proofs.Stages.{IsFresh, empty_in_use, first_made, fresh_image, fresh_recovered, fresh_segment, one_recovered, same_by_one, segment_keeps_gate, unused_fresh}
+use Rattle.recover.proofs.Stages.{IsFresh, empty_in_use, first_made, fresh_gate, fresh_gates, fresh_image, fresh_recovered, fresh_segment, one_stands, same_by_one, segment_keeps_gate, unused_fresh}
 use Rattle.recover.proofs.Ways.{NextParts, OneParts, next_ending, next_written, next_writing, one_ending, one_kept, recover_as, same_after, still_same}
 
 -- after reads
@@ -48,11 +50,12 @@ first_segment_same old new rest unused is_new gates time =
     (StandForSame old.seen)
     (rest_called Segment0 old new (IsRemade 16 (empty_segment 0)) rest (time (rest_is_synced Segment0 old rest)))
     (λ c differs.
+    let made = fresh_segment old.seen c.segment0 fresh differs.0 in
     subst (StandForSame old.seen) (sym differs.1) (
       same_by_one old.seen (with_slot old.seen Segment0 c.segment0) opening_state (fresh_recovered old.seen fresh)
-          (fresh_recovered (with_slot old.seen Segment0 c.segment0)
-          (fresh_segment old.seen c.segment0 fresh differs.0)),
-      (segment_keeps_gate 0 old.seen.segment0 c.segment0 gates.0 differs.0, gates.1),
+          (fresh_recovered (with_slot old.seen Segment0 c.segment0) made),
+      fresh_gates (with_slot old.seen Segment0 c.segment0) made
+          (segment_keeps_gate 0 old.seen.segment0 c.segment0 (fresh_gate old.seen fresh gates) differs.0),
     ))
 
 -- its segment is made
@@ -61,16 +64,17 @@ made_fresh s t unused is_new is =
     subst IsFresh (sym is) (fresh_segment s (empty_segment 0) (unused_fresh s unused is_new) (inr refl))
 
 first_image_after : (mid new : View) (content : List ℕ) → IsAtRest mid → IsFresh mid.seen
-    → mid.seen.segment0 ≡ empty_segment 0 → HasLastGate mid.seen.segment1 → HoldsImage 0 content opening_state
+    → mid.seen.segment0 ≡ empty_segment 0 → HoldsImage 0 content opening_state
     → (IsSynced mid Image0 → Passes mid new (Follows mid Image0 (IsRemade 24 content)))
     → Passes mid new (StandForSame mid.seen)
-first_image_after mid new content rest fresh made gate image time =
+first_image_after mid new content rest fresh made image time =
     passes_as mid new (DiffersIn mid.seen Image0 (IsRemade 24 content mid.seen.image0)) (StandForSame mid.seen)
     (rest_called Image0 mid new (IsRemade 24 content) rest (time (rest_is_synced Image0 mid rest))) (λ c differs.
     subst (StandForSame mid.seen) (sym differs.1) (
       same_by_one mid.seen (with_slot mid.seen Image0 c.image0) opening_state (fresh_recovered mid.seen fresh)
           (fresh_image mid.seen c.image0 content fresh made image differs.0),
-      (empty_has_gate 0 mid.seen.segment0 made, gate),
+      gates_alongside_image mid.seen c.image0 0
+          (fresh_gates mid.seen fresh (empty_has_gate 0 mid.seen.segment0 made)),
     ))
 
 -- the image of epoch 0, as it is written
@@ -93,12 +97,11 @@ first_image_same old mid new image rest unused is_new gates is holds first made 
     let rested =
     rest_after Segment0 old mid (IsRemade 16 (empty_segment 0)) (empty_segment 0)
     (first (rest_is_synced Segment0 old rest)) made synced rest in
-    let segment1 : mid.seen.segment1 ≡ old.seen.segment1 = ap (λ (s : Slots). s.segment1) made in
     same_after old mid new (first_segment_same old mid rest unused is_new gates first)
     (same_by_one old.seen mid.seen opening_state (fresh_recovered old.seen (unused_fresh old.seen unused is_new))
     (fresh_recovered mid.seen fresh))
     (first_image_after mid new (open_image 0 (image_encoding opening_state)) rested fresh
-    (ap (λ (s : Slots). s.segment0) made) (subst HasLastGate (sym segment1) gates.1) holds
+    (ap (λ (s : Slots). s.segment0) made) holds
     (subst (WritesImage mid new) is second))
 
 pub first_kept : (old mid new : View) (image : ImageValue) (segment : Segment) → IsAtRest old → IsUnused old.seen
@@ -235,9 +238,10 @@ pub rested_after_image : (old mid written : View) (e : ℕ) (base : State) (imag
 rested_after_image old mid written e base image is rest still same writes made synced =
     next_rest mid written e base image is (rest_kept old mid still same rest) writes made synced
 
--- a crash while a store is kept leaves its state
-pub kept_recovered : (disk : View) (segment : Segment) (state : State) → IsKept disk segment state → (c : Slots)
-    → MayLeave disk c → Recovered (as_written c) state
-kept_recovered disk segment state kept c left =
-    subst (λ (s : Slots). Recovered (as_written s) state) (sym (kept.at_rest c left))
-    (one_recovered disk.seen segment.epoch kept.base state kept.records kept.stands kept.run)
+-- a crash while a store is kept leaves what stands for its state
+pub kept_stands : (disk : View) (segment : Segment) (state : State) → IsKept disk segment state → (c : Slots)
+    → MayLeave disk c → StandForState state c
+kept_stands disk segment state kept c left =
+    subst (StandForState state) (sym (kept.at_rest c left))
+    (one_stands disk.seen segment.epoch kept.base state kept.records kept.stands kept.run
+    (in_use_has_gate segment.epoch (slot_of disk.seen (segment_slot segment.epoch)) kept.records kept.in_use))

@@ -1,4 +1,5 @@
 mod Apart
+pub mod Crashes
 pub mod Fronts
 pub mod Gates
 mod Faults

@@ -1,23 +1,27 @@
 -- What a store stands for while it is made, while a checkpoint is finished, and while its segment is ended.
+use Rattle.std.specs.Prelude.{◌%◌}
 use Rattle.std.proofs.Common.{◌≡◌, inl, inr, ℕ, ◌+◌, ◌<◌, List, [], ◌∷◌, ◌++◌, length, take, drop, refl, sym, ap, subst, ◌∙◌, arith, append_assoc, take-append-drop, length-append}
+use Rattle.std.proofs.lemmas.Bool.{cases_eq}
 use Rattle.std.proofs.Math.Seq.{take-append-add}
 use Rattle.disk.specs.declared.slot.Slot.TheVariants.{Image0, Segment0}
 use Rattle.disk.specs.Slots.{Slots, slot_of, with_slot}
 use Rattle.ipc_laws.specs.Counted.{EncodesCounted}
-use Rattle.ipc_laws.specs.RecoveryLaws.{one_epoch, recovers_once}
+use Rattle.ipc_laws.specs.RecoveryLaws.{one_epoch, recovers_once, segment_is_open}
 use Rattle.ipc_model.specs.calls.Step.{Run}
 use Rattle.ipc_model.specs.declared.record.Record.{Record}
 use Rattle.ipc_model.specs.state.State.{State, opening_state}
 use Rattle.ipc_model.specs.store.Recovery.{HasHeader, HoldsImage, IsNew, IsOfEpoch, IsOpen, Recovered, Encodes, image_header, segment_header_length}
 use Rattle.ipc_model.specs.store.Store.{EncodesBatches, EncodesSegment, IsClosed, IsInUse, NoneEmpty, all_records, open_gate, closed_gate, segment_header, batches_encoding}
-use Rattle.slot_steps.specs.Steps.{IsRemade, image_slot}
+use Rattle.slot_steps.specs.Steps.{IsRemade, image_slot, segment_slot}
 use Rattle.store_layout.specs.Changes.{closing_image, two_finished, two_image_changed}
 use Rattle.store_layout.specs.Encoded.{one_encodes, two_encodes}
+use Rattle.store_layout.specs.Gates.{HasLastGate, HaveLastGates, StandForState}
 use Rattle.store_layout.specs.Standing.{as_written, InOne, InTwo}
+use Rattle.store_layout.proofs.Gates.{one_gates, two_gates}
 use Rattle.recover.specs.Making.{empty_segment}
-use Rattle.recover.specs.Crashing.{HasLastGate, RecoverSame}
+use Rattle.recover.specs.Crashing.{RecoverSame}
 use Rattle.recover.specs.Surveyed.{IsUnused}
-use Rattle.recover.proofs.Gates.{shut_has_gate, empty_has_gate}
+use Rattle.recover.proofs.Gates.{has_gate, shut_has_gate, empty_has_gate}
 use Rattle.recover.proofs.Surveys.{each_number}
 
 -- what is recovered
@@ -48,6 +52,22 @@ two_recovered s e base mid state first next two run more =
       encoded = two_encodes s e base first next two;
       run = run_join base mid state first next run more;
     }
+
+-- slots that stand for a state
+
+pub one_stands : (s : Slots) (e : ℕ) (base state : State) (records : List Record) → InOne s e base records
+    → Run base records state → HasLastGate (slot_of s (segment_slot e)) → StandForState state s
+one_stands s e base state records one run gate = record {
+  recovered = one_recovered s e base state records one run;
+  gates = one_gates s e base records one gate;
+}
+
+pub two_stands : (s : Slots) (e : ℕ) (base mid state : State) (first next : List Record) → InTwo s e base first next
+    → Run base first mid → Run mid next state → HasLastGate (slot_of s (segment_slot (e + 1))) → StandForState state s
+two_stands s e base mid state first next two run more gate = record {
+  recovered = two_recovered s e base mid state first next two run more;
+  gates = two_gates s e base first next two gate;
+}
 
 -- a store that was never in use
 
@@ -131,6 +151,26 @@ fresh_encodes s fresh = record {
 
 pub fresh_recovered : (s : Slots) → IsFresh s → Recovered (as_written s) opening_state
 fresh_recovered s fresh = record { base = opening_state; records = []; encoded = fresh_encodes s fresh; run = refl }
+
+-- its last segment is the first one, if that is open
+
+pub fresh_gates : (s : Slots) → IsFresh s → HasLastGate s.segment0 → HaveLastGates s
+fresh_gates s fresh gate = record {
+  last = λ f more fits encoded alone. elim (cases_eq (f % 2) 0) as (λ _. 0 < length encoded.encoded.rest) [
+    | inl even ↦ subst (λ n. HasLastGate ((as_written s).segment n)) (sym even) gate f more encoded
+    | inr other ↦
+        let odd : f % 2 ≡ 1 = omega (arith, other) in
+        absurd (fresh.segment1 (subst (λ n. IsOpen segment_header_length ((as_written s).segment n)) odd
+        (segment_is_open f ((as_written s).segment (f % 2)) more encoded)))
+  ];
+}
+
+pub fresh_gate : (s : Slots) → IsFresh s → HaveLastGates s → HasLastGate s.segment0
+fresh_gate s fresh gates f more encoded =
+    let known = fresh.segment0 (segment_is_open f s.segment0 more encoded) in
+    has_gate 0 s.segment0 [] known (gates.last 0 [] (omega arith) known
+    (λ followed. fresh.segment1 (subst (IsOpen segment_header_length) (sym followed.encoding) (omega arith, refl))))
+    f more encoded
 
 -- it is made
 

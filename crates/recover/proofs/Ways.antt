@@ -19,15 +19,17 @@ use Rattle.ipc_model.specs.encodings.Images.{image_encoding}
 use Rattle.slot_steps.specs.Steps.{IsRemade, image_slot, segment_slot}
 use Rattle.disk.proofs.Moments.{passes_as, passes_then, own_bytes}
 use Rattle.store_layout.specs.Changes.{one_segment_changed, two_finished}
-use Rattle.store_layout.specs.Slots.{alongside_image, by_parity, image_at, one_of_two}
+use Rattle.store_layout.specs.Slots.{alongside_image, image_at, one_of_two, own_segment, segment_at}
 use Rattle.store_layout.specs.Encoded.{one_encodes, two_encodes}
+use Rattle.store_layout.specs.Gates.{HasLastGate, HaveLastGates}
 use Rattle.store_layout.specs.Standing.{as_written, InOne, InTwo}
+use Rattle.store_layout.proofs.Gates.{gates_alongside_image, one_gates, one_not_followed}
 use Rattle.recover.specs.AtRest.{IsAtRest}
 use Rattle.recover.specs.Found.{IsLatestEpoch, Reads, ReadsOne}
 use Rattle.recover.specs.Kept.{IsKept}
 use Rattle.recover.specs.Making.{DiffersIn}
 use Rattle.recover.specs.Replayed.{ReplaysAll}
-use Rattle.recover.specs.Crashing.{HasLastGate, HaveLastGates, RecoverSame, StandForSame}
+use Rattle.recover.specs.Crashing.{RecoverSame, StandForSame}
 use Rattle.recover.specs.Surveyed.{IsInUse as Uses, IsUnused}
 use Rattle.recover.proofs.Gates.{has_gate}
 use Rattle.recover.proofs.Rest.{rest_called}
@@ -60,19 +62,14 @@ recover_self s state found = found
 pub recover_as : (s c : Slots) → c ≡ s → RecoverSame s c
 recover_as s c is = subst (RecoverSame s) (sym is) (recover_self s)
 
--- last gates of slots of which one is changed
+-- the segment in use is the last one
 
-pub gates_alongside_image : (s : Slots) (x : List ℕ) (e : ℕ) → HaveLastGates s
-    → HaveLastGates (with_slot s (image_slot e) x)
-gates_alongside_image s x e gates = by_parity (λ a b c d. HaveLastGates (with_slot s a x)) gates gates e
-
-pub gates_with_segment : (s : Slots) (x : List ℕ) (e : ℕ) → HaveLastGates s → HasLastGate x
-    → HaveLastGates (with_slot s (segment_slot e) x)
-gates_with_segment s x e gates own =
-    by_parity (λ a b c d. HaveLastGates (with_slot s c x)) (own, gates.1) (gates.0, own) e
-
-pub own_last_gate : (s : Slots) (e : ℕ) → HaveLastGates s → HasLastGate (slot_of s (segment_slot e))
-own_last_gate s e gates = by_parity (λ a b c d. HasLastGate (slot_of s c)) gates.0 gates.1 e
+pub own_last_gate : (s : Slots) (e : ℕ) (base : State) (records : List Record) → HaveLastGates s
+    → InOne s e base records → HasLastGate (slot_of s (segment_slot e))
+own_last_gate s e base records gates one =
+    let P : List ℕ → Type 0 = λ slot. EncodesSegment e slot records → HasLastGate slot in
+    subst P (segment_at s e) (λ encoded. has_gate e ((as_written s).segment (e % 2)) records encoded
+    (gates.last e records one.fits encoded (one_not_followed s e base records one))) one.segment
 
 -- what a segment that was replayed encodes
 
@@ -297,7 +294,7 @@ pub ending_same : (old new : View) (e : ℕ) (base state : State) (count end : �
 ending_same old new e base state count end rest gates is r one time =
     let slot = segment_slot e in
     let segment = slot_of old.seen slot in
-    let own = own_gate (e % 2) e segment base state count end is (own_last_gate old.seen e gates) r in
+    let own = own_gate (e % 2) e segment base state count end is (own_last_gate old.seen e base r.records gates one) r in
     passes_as old new (DiffersIn old.seen slot (λ after. take (end + 1) after ≡ take (end + 1) segment))
     (StandForSame old.seen) time (λ c differs.
     let x = slot_of c slot in
@@ -308,7 +305,9 @@ ending_same old new e base state count end rest gates is r one time =
       same_by_one old.seen (with_slot old.seen slot x) state (one_recovered old.seen e base state r.records one r.run)
           (one_recovered (with_slot old.seen slot x) e base state r.records
           (one_segment_changed old.seen e base r.records r.records x one known.0) r.run),
-      gates_with_segment old.seen x e gates (has_gate e x r.records known.0 known.1),
+      one_gates (with_slot old.seen slot x) e base r.records
+          (one_segment_changed old.seen e base r.records r.records x one known.0)
+          (subst HasLastGate (sym (own_segment old.seen x e)) (has_gate e x r.records known.0 known.1)),
     ))
 
 -- the next image is written
@@ -361,7 +360,7 @@ one_ending old new e state count end rest gates parts time =
     let segment = slot_of old.seen (segment_slot e) in
     ending_same old new e parts.base state count end rest gates parts.header parts.replays parts.one
     (time (gate_inside (e % 2) e segment parts.base state count end parts.header
-    (own_last_gate old.seen e gates) parts.replays))
+    (own_last_gate old.seen e parts.base parts.replays.records gates parts.one) parts.replays))
 
 pub one_kept : (s : Slots) (new : View) (e : ℕ) (state : State) (count end : ℕ) → OneParts s e state count end
     → IsAtRest new → new.seen ≡ with_slot s (segment_slot e)

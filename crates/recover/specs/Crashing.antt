@@ -1,30 +1,21 @@
 -- The post-crash contents while a store is opened.
-use Rattle.std.specs.Prelude.{◌⊎◌, ℕ, ◌+◌, ◌<◌, ◌≤◌, List, length}
-use Rattle.disk.specs.Moments.{View, MayLeave}
+use Rattle.std.specs.Prelude.{◌≡◌, ◌⊎◌, ℕ, ◌+◌, ◌<◌, ◌≤◌, All, List, [], ◌∷◌, length}
+use Rattle.disk.specs.Moments.{View, LeftSince, MayLeave, Passes}
 use Rattle.disk.specs.Slots.{Slots}
 use Rattle.ipc_model.specs.declared.record.Record.{Record}
 use Rattle.ipc_model.specs.state.State.{State}
 use Rattle.ipc_model.specs.store.Recovery.{Recovered}
-use Rattle.ipc_model.specs.store.Store.{AreRecords, EncodesSegment, IsInUse, IsMidAppend, batch_encoding}
+use Rattle.ipc_model.specs.store.Store.{AreRecords, IsInUse, IsMidAppend, batch_encoding}
 use Rattle.journal.specs.Reading.{MAX_RECORDS}
+use Rattle.store_layout.specs.Gates.{HasLastGate, HaveLastGates}
 use Rattle.store_layout.specs.Standing.{as_written}
-
--- After the batches of an open segment, or after its header if it has none, stands a byte: a gate that isn't open. Each
--- segment that a server leaves is like that. A segment that isn't open needs no such byte.
-abbrev pub HasLastGate : List ℕ → Type 0
-HasLastGate segment =
-    (epoch : ℕ) (records : List Record) → (segment_is : EncodesSegment epoch segment records)
-    → 0 < length segment_is.encoded.rest
-
--- both segments have it
-abbrev pub HaveLastGates : Slots → Type 0
-HaveLastGates slots = HasLastGate slots.segment0 × HasLastGate slots.segment1
+use Rattle.recover.specs.AtRest.{IsAtRest}
 
 -- what is recovered from the first slots is recovered from the others too
 abbrev pub RecoverSame : Slots → Slots → Type 0
 RecoverSame before after = (state : State) → Recovered (as_written before) state → Recovered (as_written after) state
 
--- and their segments have their last gates, so that another opening leaves the same
+-- and their last segment has its last gate, so that another opening leaves the same
 abbrev pub StandForSame : Slots → Slots → Type 0
 StandForSame before c = RecoverSame before c × HaveLastGates c
 
@@ -40,3 +31,31 @@ AppendKeepsGate =
     (epoch : ℕ) (old new : List ℕ) (records batch : List Record) → IsInUse epoch old records → 0 < length batch
     → AreRecords batch → length records + length batch ≤ MAX_RECORDS
     → IsMidAppend old (batch_encoding (length records) batch) new → HasLastGate new
+
+-- An opening came to its end or was stopped: what `open` says of the time until then (`any_moment`).
+abbrev pub OpensUntil : View → View → Type 0
+OpensUntil old new = HaveLastGates old.seen → Passes old new (LeavesSame old)
+
+-- An opening that was stopped, and the disk that the next one finds. Where only the process ended, it is the disk as it
+-- was. Where the machine crashed, at any moment since the opening began, the disk shows what the crash left, and is
+-- synced.
+abbrev pub IsStopped : {D : Type 0} → (D → View) → D → D → Type 0
+IsStopped {D} view old next =
+    (last : D) × OpensUntil (view old) (view last)
+    × ((next ≡ last) ⊎ (IsAtRest (view next) × LeftSince (view last) (view old).moment (view next).seen))
+
+-- Openings one after another, each of the disk that the one before left, and each stopped.
+abbrev pub AreStopped : {D : Type 0} → (D → View) → D → List D → Type 0
+AreStopped view old [] = Unit {0}
+AreStopped view old (next ∷ disks) = IsStopped view old next × AreStopped view next disks
+
+-- whatever a crash leaves now satisfies P
+abbrev pub AlwaysLeaves : (Slots → Type 0) → View → Type 0
+AlwaysLeaves P disk = (c : Slots) → MayLeave disk c → P c
+
+-- Any number of crashes in a row: if whatever a crash leaves of a disk satisfies P, so does whatever a crash leaves
+-- after each of the openings that were stopped.
+abbrev pub CrashesKeep : {D : Type 0} → (D → View) → (Slots → Type 0) → Type 0
+CrashesKeep {D} view P =
+    (old : D) (disks : List D) → AlwaysLeaves P (view old) → AreStopped view old disks
+    → All (λ disk. AlwaysLeaves P (view disk)) disks

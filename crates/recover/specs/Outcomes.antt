@@ -8,7 +8,8 @@ use Rattle.journal.specs.declared.segment.Segment.{Segment}
 use Rattle.store_fault.specs.declared.fault.StoreFault.{StoreFault}
 use Rattle.store_fault.specs.declared.fault.StoreFault.TheVariants.{Damaged, Device, NoMemory, Version}
 use Rattle.store_layout.specs.Standing.{as_written}
-use Rattle.recover.specs.Crashing.{HaveLastGates, StandForSame}
+use Rattle.store_layout.specs.Gates.{HaveLastGates}
+use Rattle.recover.specs.Crashing.{StandForSame}
 use Rattle.recover.specs.Kept.{IsKept}
 
 -- Nothing was written: the slots are as they were, and a crash leaves nothing that it might not have left before.
@@ -34,7 +35,7 @@ pub record Opens (old new : View) (result : Result (State × Segment) StoreFault
 abbrev pub StandForNone : Slots → Type 0
 StandForNone slots = (state : State) → Recovered (as_written slots) state → ⊥
 
--- If each segment has its last gate, whatever a crash leaves since then stands for what the slots stood for.
+-- If the last segment has its last gate, whatever a crash leaves since then stands for what the slots stood for.
 abbrev pub StandsForSameSince : View → View → Type 0
 StandsForSameSince old new = HaveLastGates old.seen → Passes old new (StandForSame old.seen)
 

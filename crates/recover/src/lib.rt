@@ -13,6 +13,6 @@ mod survey;
 mod value_after;
 
 pub use kernel::{Kernel, Recorder};
-pub use laws::append_keeps_gate;
+pub use laws::{append_keeps_gate, crashes_keep_state, empty_slots_stand};
 pub use looking::{Looked, look};
 pub use opening::{Opened, open};

@@ -8,7 +8,8 @@ ghost use Rattle.ipc_model.specs.encodings.Images.{image_encoding};
 ghost use Rattle.recover.specs.AtRest.{IsAtRest};
 ghost use Rattle.recover.specs.Headers.{SayAll, Says};
 ghost use Rattle.recover.specs.Kept.{IsKept};
-ghost use Rattle.recover.specs.Crashing.{HaveLastGates, LeavesSame};
+ghost use Rattle.recover.specs.Crashing.{LeavesSame};
+ghost use Rattle.store_layout.specs.Gates.{HaveLastGates, StandForState};
 ghost use Rattle.recover.specs.Outcomes.{CountsDevice, OnlyOpeningFaults, OnlyReadingFaults, Opens, StandForNone, StandsForSameSince};
 ghost use Rattle.recover.specs.Surveyed.{IsInUse, IsUnused};
 ghost use Rattle.store_layout.specs.Standing.{as_written};
@@ -222,15 +223,16 @@ pub fn open<D: Disk>(alloc: Global, disk: D) -> Result<Opened<D>, (StoreFault, D
     ensures untouched { D.honest → IfErr result (λ fault. fault.0 ≢ StoreFault.Device
         → Passes (D.view disk) (D.view fault.1) (MayLeave (D.view disk))) }
     // Whatever a crash leaves, at any moment of the call and also if it fails, might have been left before, or it
-    // stands for what the store stood for, with a gate after its batches. Nothing is said of a segment that has no such
-    // gate, which no server leaves: a crash within the write of that gate could leave an open one.
+    // stands for what the store stood for, with its last gate. Nothing is said of slots without their last gate, which
+    // no server leaves: a crash within the write of that gate could leave an open one.
     ensures any_moment { D.honest → HaveLastGates (D.view disk).seen
         → IfOk result (λ opened. Passes (D.view disk) (D.view opened.disk) (LeavesSame (D.view disk))) }
     ensures any_moment_of_fault { D.honest → HaveLastGates (D.view disk).seen
         → IfErr result (λ fault. Passes (D.view disk) (D.view fault.1) (LeavesSame (D.view disk))) }
-    // What is left at the end stands for the state, and a caller that goes on from there knows the slots.
+    // What is left at the end stands for the state, with its last gate whether or not it had one before, and a caller
+    // that goes on from there knows the slots.
     ensures stands { D.honest → IfOk result (λ opened. (c : Slots) → MayLeave (D.view opened.disk) c
-        → Recovered (as_written c) opened.kernel) }
+        → StandForState opened.kernel c) }
     ensures kept { D.honest → IfOk result (λ opened. IsKept (D.view opened.disk) opened.segment opened.kernel) }
     // What slots stand for is what opening them returns. A store that stands for a state isn't reported as damaged or
     // of another version.

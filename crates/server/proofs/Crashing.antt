@@ -15,10 +15,9 @@ use Rattle.ipc_model.specs.declared.call.Reply.{Reply}
 use Rattle.ipc_model.specs.declared.record.Record.{Record}
 use Rattle.ipc_model.specs.state.State.{State}
 use Rattle.store_fault.specs.declared.fault.StoreFault.{StoreFault}
-use Rattle.ipc_model.specs.store.Recovery.{Recovered}
 use Rattle.server.proofs.Keeping.{no_time, passes_so}
 use Rattle.server.specs.Keeping.{AloneValue, AnswersKept, BreaksKept, FailsKept, IsHeld, RestsKept}
-use Rattle.store_layout.specs.Standing.{as_written}
+use Rattle.store_layout.specs.Gates.{StandForState}
 use Rattle.frame_service.specs.Serving.{Answers, AnswersMessage, AnswersRequest, Exchanges, FailsMessage, FailsRequest, IsAnswered, IsFailed, StepOrShortage, shortage_of}
 use Rattle.server.specs.Crashing.{IsStoredFrame, IsStoredWhole, Makes, MakesAll, MakesMessage, MakesRequest, StandsWithin, AreOf, calls_of, given}
 use Rattle.ipc_model.specs.world.World.{record_of}
@@ -59,7 +58,7 @@ beyond old mid records more c run w = record {
   stands = w.stands;
 }
 
-at_first : (old : State) (records : List Record) (c : Slots) → Recovered (as_written c) old → StandsWithin old records c
+at_first : (old : State) (records : List Record) (c : Slots) → StandForState old c → StandsWithin old records c
 at_first old records c stands = record { first = 0; within = omega arith; state = old; run = refl; stands = stands }
 
 passes_join : (old mid new : View) (P Q R : Slots → Type 0) → Passes old mid P → Passes mid new Q
@@ -78,7 +77,7 @@ passes_join old mid new P Q R first second f g = record {
 
 -- what a crash since then leaves, if a crash then would have left this state
 pub left_within : (old new : View) (state : State) (P : Slots → Type 0) → IsHeld old state → Passes old new P
-    → ((c : Slots) → Recovered (as_written c) state → P c) → (c : Slots) → LeftSince new old.moment c → P c
+    → ((c : Slots) → StandForState state c → P c) → (c : Slots) → LeftSince new old.moment c → P c
 left_within old new state P held time here c left = elim (cases_lt old.moment left.0) [
   | inl later ↦ time.since left.0 c later left.2 left.3
   | inr now ↦ here c (held c (subst
@@ -310,7 +309,7 @@ module _ {D : Type 0} (honest : Type 0) (view : D → View) where
   abbrev Stood : List Call → AloneValue D → Slots → Type 0
   Stood calls old s = (records : List Record) × AreOf calls records × StandsWithin old.kernel records s
 
-  stood_first : (calls : List Call) (old : AloneValue D) (s : Slots) → Recovered (as_written s) old.kernel
+  stood_first : (calls : List Call) (old : AloneValue D) (s : Slots) → StandForState old.kernel s
       → Stood calls old s
   stood_first calls old s stands = ([], tt, at_first old.kernel [] s stands)
 
@@ -403,7 +402,7 @@ module _ {D : Type 0} (honest : Type 0) (view : D → View) where
   pub broken_nothing : (old : AloneValue D) (fault : StoreFault) (new : AloneValue D) → honest
       → IsHeld (view old.store.disk) old.kernel → BreaksKept honest view old fault new
       → (c : Slots) → LeftSince (view new.store.disk) (view old.store.disk).moment c
-      → Recovered (as_written c) old.kernel
+      → StandForState old.kernel c
   broken_nothing old fault new is_honest held broken =
       left_within (view old.store.disk) (view new.store.disk) old.kernel _ held (broken.passes is_honest)
       (λ _ stands. stands)

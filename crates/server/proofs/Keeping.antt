@@ -14,7 +14,7 @@ use Rattle.store_fault.specs.declared.fault.StoreFault.TheVariants.{Device, NoMe
 use Rattle.journal.specs.declared.segment.Segment.{Segment}
 use Rattle.system.specs.Passed.{IsReadyBatch, with_more}
 use Rattle.system.specs.Passed.{Keeps}
-use Rattle.system.proofs.Passed.{append_keeps, append_mid, kept_recovered, kept_synced}
+use Rattle.system.proofs.Passed.{append_keeps, append_mid, kept_stands, kept_synced}
 use Rattle.server.specs.Keeping.{IsBeforeOrAfter, IsHeld}
 use Rattle.disk.proofs.Moments.{passes_as}
 use Rattle.slot_steps.specs.Steps.{segment_slot}
@@ -29,7 +29,7 @@ use Rattle.system.specs.Halves.{entry_of}
 pub kept_held : {D : Type 0} (view : D → View) (store : StoreValue D) (state : State) → IsStanding view store state
     → IsHeld (view store.disk) state
 kept_held view store state standing =
-    kept_recovered (view store.disk) store.segment store.checkpoint standing.0 state standing.1
+    kept_stands (view store.disk) store.segment store.checkpoint standing.0 state standing.1
 
 -- one record, as a batch of its own
 one_ready : (before after : State) (count space : ℕ) (c : Call) (answer : Reply) (batch : BatchValue) → FitsCall c

@@ -15,9 +15,8 @@ use Rattle.ipc_model.specs.declared.record.Record.{Record}
 use Rattle.ipc_model.specs.messages.Receiving.{without_message}
 use Rattle.ipc_model.specs.state.State.{State}
 use Rattle.store_fault.specs.declared.fault.StoreFault.{StoreFault}
-use Rattle.ipc_model.specs.store.Recovery.{Recovered}
 use Rattle.ipc_model.specs.world.World.{record_of}
-use Rattle.store_layout.specs.Standing.{as_written}
+use Rattle.store_layout.specs.Gates.{StandForState}
 use Rattle.server.specs.Keeping.{AloneValue, AnswersKept, BreaksKept, FailsKept, IsHeld, RestsKept}
 use Rattle.frame_service.specs.Serving.{Answers, Exchanges, IsAnswered, IsFailed, IsRefused, LacksMemory}
 
@@ -67,7 +66,7 @@ pub record StandsWithin (old : State) (records : List Record) (c : Slots) : Type
   pub within : first ≤ length records
   pub state : State
   pub run : Run old (take first records) state
-  pub stands : Recovered (as_written c) state
+  pub stands : StandForState state c
 
 -- the calls that a request asks for
 abbrev pub given : Option Call → List Call
@@ -137,4 +136,4 @@ abbrev pub BreakingLosesNothing : {D : Type 0} → Type 0 → (D → View) → T
 BreakingLosesNothing {D} honest view =
     (old : AloneValue D) (fault : StoreFault) (new : AloneValue D) → honest → IsHeld (view old.store.disk) old.kernel
     → BreaksKept honest view old fault new → (c : Slots)
-    → LeftSince (view new.store.disk) (view old.store.disk).moment c → Recovered (as_written c) old.kernel
+    → LeftSince (view new.store.disk) (view old.store.disk).moment c → StandForState old.kernel c

@@ -12,8 +12,7 @@ use Rattle.ipc_model.specs.calls.Step.{Step, has_record}
 use Rattle.ipc_model.specs.history.History.{space_after}
 use Rattle.store_fault.specs.declared.fault.StoreFault.{StoreFault}
 use Rattle.store_fault.specs.declared.fault.StoreFault.TheVariants.{Device, Failed}
-use Rattle.ipc_model.specs.store.Recovery.{Recovered}
-use Rattle.store_layout.specs.Standing.{as_written}
+use Rattle.store_layout.specs.Gates.{StandForState}
 use Rattle.system.specs.GoingOn.{GoesOn, TakesMemory}
 use Rattle.system.specs.Passed.{StoreValue, store_code}
 use Rattle.frame_service.specs.Serving.{StepOrShortage}
@@ -45,15 +44,15 @@ pub record IsCounted {D : Type 0} (old : StoreValue D) (call : Call) (answer : R
 
 -- this state is recovered from whatever a crash leaves
 abbrev pub IsHeld : View → State → Type 0
-IsHeld disk state = (c : Slots) → MayLeave disk c → Recovered (as_written c) state
+IsHeld disk state = (c : Slots) → MayLeave disk c → StandForState state c
 
 -- The state before a call is recovered from the slots; or the state after it, which a step of the call that has a
 -- record leaves.
 abbrev pub IsBeforeOrAfter : State → ℕ → Call → State → Slots → Type 0
 IsBeforeOrAfter before space call after c =
-    Recovered (as_written c) before
+    StandForState before c
     ⊎ ((reply : Reply) × Step before space call reply after × (has_record call reply ≡ true)
-    × Recovered (as_written c) after)
+    × StandForState after c)
 
 -- What a single-connection caller may answer: what the machine does in the space that the caller is attached to. If the
 -- call attached it to another space, it is attached there from now on. It didn't fail.
@@ -93,7 +92,7 @@ module _ {D : Type 0} (honest : Type 0) (view : D → View) where
     pub same : new ≡ record old { store = new.store }
     pub goes : GoesOn honest view CHECKPOINT_RECORDS old.kernel old.store.checkpoint old.store new.store
         ⊎ IsShortOf old new
-    pub passes : honest → Passes (view old.store.disk) (view new.store.disk) (λ c. Recovered (as_written c) old.kernel)
+    pub passes : honest → Passes (view old.store.disk) (view new.store.disk) (StandForState old.kernel)
     pub held : honest → IsHeld (view new.store.disk) new.kernel
 
   -- Time after a reply that ends with a fault of the store: the device failed, or it did before. The caller can't be
@@ -104,4 +103,4 @@ module _ {D : Type 0} (honest : Type 0) (view : D → View) where
     pub kernel : new.kernel ≡ old.kernel
     pub space : new.space ≡ old.space
     pub failed_before : old.failed ≡ true → (fault ≡ Failed) × (new ≡ old)
-    pub passes : honest → Passes (view old.store.disk) (view new.store.disk) (λ c. Recovered (as_written c) old.kernel)
+    pub passes : honest → Passes (view old.store.disk) (view new.store.disk) (StandForState old.kernel)

@@ -1,8 +1,7 @@
 ghost use Rattle.std.specs.Prelude.{◌≡◌, ◌+◌, ◌<◌, ◌≤◌, true, false, if◌then◌else◌, length, IfErr, IfOk, MatchBool, OnOk, OnErr, IsErrOf};
 ghost use Rattle.disk.specs.Moments.{LeftSince, Passes};
 ghost use Rattle.disk.specs.Slots.{Slots};
-ghost use Rattle.ipc_model.specs.store.Recovery.{Recovered};
-ghost use Rattle.store_layout.specs.Standing.{as_written};
+ghost use Rattle.store_layout.specs.Gates.{StandForState};
 ghost use Rattle.system.specs.Calling.{IsResting};
 ghost use Rattle.system.specs.Core.{first_system};
 ghost use Rattle.system.specs.Counting.{counted};
@@ -115,8 +114,8 @@ impl<D: Disk> Caller for Alone<D> {
     /// caller is of no further use, and answers `Failed`, so that no reply shows a call that was made and not stored.
     /// Running out of memory or of room is a reply.
     ///
-    /// If a state is recovered from the slots (`Recovered`), `recover::open` returns that state, and doesn't find them
-    /// damaged or of another version.
+    /// Of slots that stand for a state (`StandForState`), `recover::open` returns that state, and doesn't find them
+    /// damaged or of another version; a crash while it runs leaves slots that stand for it too.
     fn call(&mut self, call: Call) -> Result<Reply, StoreFault>
         ensures answers { IfOk result (λ reply. AnswersKept D.honest D.view self.old call reply self.new) }
         ensures fits { IfOk result (λ reply. length (reply_encoding reply) ≤ MAX_FRAME_CONTENT) }
@@ -167,7 +166,7 @@ impl<D: Disk> Caller for Alone<D> {
         // fails.
         ensures any_moment { D.honest → self.old.failed ≡ false → (c : Slots)
             → LeftSince (D.view self.new.store.disk) (D.view self.old.store.disk).moment c
-            → Recovered (as_written c) self.old.kernel }
+            → StandForState self.old.kernel c }
         ensures failed { self.old.failed ≡ true → (IsErrOf result StoreFault.Failed) × (self.new ≡ self.old) }
     {
         if self.failed {

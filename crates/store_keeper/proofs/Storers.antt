@@ -16,13 +16,12 @@ use Rattle.ipc_model.specs.declared.record.Record.{Record}
 use Rattle.ipc_model.specs.state.Circular.{Acyclic}
 use Rattle.ipc_model.specs.state.Lawful.{Lawful}
 use Rattle.ipc_model.specs.state.State.{State}
-use Rattle.ipc_model.specs.store.Recovery.{Recovered}
 use Rattle.ipc_model.specs.store.Store.{IsMidAppend}
 use Rattle.journal.specs.Batch.{Holds, content_of}
 use Rattle.store_fault.specs.declared.fault.StoreFault.{StoreFault}
 use Rattle.store_fault.specs.declared.fault.StoreFault.TheVariants.{Device, Failed, Full}
 use Rattle.journal.specs.declared.segment.Segment.{Segment}
-use Rattle.checkpoint_phases.proofs.Appends.{append_keeps, append_mid, begin_keeps, kept_recovered, kept_synced}
+use Rattle.checkpoint_phases.proofs.Appends.{append_keeps, append_mid, begin_keeps, kept_stands, kept_synced}
 use Rattle.checkpoint_phases.proofs.Passed.{run_join}
 use Rattle.checkpoint_phases.specs.Batches.{IsReadyBatch, with_more}
 use Rattle.checkpoint_phases.specs.Passed.{IsKept}
@@ -32,7 +31,7 @@ use Rattle.store_keeper.specs.declared.fault.NotStored.TheVariants.{Store}
 use Rattle.store_keeper.specs.Storing.{CanBegin, EndValue, IsEnd, IsLoad, IsNext, IsRecorded, IsStoreKeeper, KeptAt, LoadValue, LosesNothing, StandsFor, StoreKeeperValue}
 use Rattle.disk.proofs.Moments.{left_now, passes_as}
 use Rattle.slot_steps.specs.Steps.{segment_slot}
-use Rattle.store_layout.specs.Standing.{as_written}
+use Rattle.store_layout.specs.Gates.{StandForState}
 use Rattle.store_half.specs.Changes.{IsAppended, PassesAppend}
 use Rattle.store_half.specs.Values.{CheckpointValue, StoreValue, begun}
 use Rattle.system.proofs.Lists.{take_long, take_sum, drop_long}
@@ -103,10 +102,10 @@ module _ {D : Type 0} (honest : Type 0) (view : D → View) (base : State) where
   }
 
   -- A crash leaves at least the stored records.
-  pub kept_stands : (keeper : StoreKeeperValue D) → IsStoreKeeper honest view base keeper
+  pub stored_stands : (keeper : StoreKeeperValue D) → IsStoreKeeper honest view base keeper
       → (kept : KeptAt view keeper.store base keeper.stored keeper.earlier (records_of keeper.entries)) → (c : Slots)
-      → Recovered (as_written c) kept.state → StandsFor base keeper.stored (records_of keeper.entries) c
-  kept_stands keeper is kept c recovered = (keeper.stored, omega arith, is.within, (kept.state, kept.before, recovered))
+      → StandForState kept.state c → StandsFor base keeper.stored (records_of keeper.entries) c
+  stored_stands keeper is kept c recovered = (keeper.stored, omega arith, is.within, (kept.state, kept.before, recovered))
 
   pub storer_left : (keeper : StoreKeeperValue D) → IsStoreKeeper honest view base keeper → honest → (failed : Bool)
       → keeper.store.failed ≡ failed → (c : Slots) → MayLeave (view keeper.store.disk) c
@@ -114,7 +113,7 @@ module _ {D : Type 0} (honest : Type 0) (view : D → View) (base : State) where
   storer_left keeper is is_honest true failed c may = is.left is_honest failed c may
   storer_left keeper is is_honest false unfailed c may =
       let kept = is.kept is_honest unfailed in
-      kept_stands keeper is kept c (kept_recovered
+      stored_stands keeper is kept c (kept_stands
       (view keeper.store.disk) keeper.store.segment keeper.store.checkpoint kept.mid kept.state kept.kept c may)
 
   -- A step in which the device failed.
@@ -216,7 +215,7 @@ module _ {D : Type 0} (honest : Type 0) (view : D → View) (base : State) where
     during_append c mid =
         elim (append_mid (view keeper.store.disk) keeper.store.segment keeper.store.checkpoint kept.mid kept.state
         beyond.0 records load.batch kept.kept ready c mid) [
-          | inl before ↦ kept_stands keeper is kept c before
+          | inl before ↦ stored_stands keeper is kept c before
           | inr after ↦ (keeper.stored + load.batch.count, omega arith, enough, (beyond.0, run_after, after))
         ]
 
@@ -247,12 +246,12 @@ module _ {D : Type 0} (honest : Type 0) (view : D → View) (base : State) where
   Goes old new = (old.store.failed ≡ false) × (new.failed ≡ false)
       × (honest → (kept : KeptAt view old.store base old.stored old.earlier (records_of old.entries))
       → Keeps (view new.disk) new.segment new.checkpoint kept.mid kept.state
-      × Passes (view old.store.disk) (view new.disk) (λ c. Recovered (as_written c) kept.state))
+      × Passes (view old.store.disk) (view new.disk) (StandForState kept.state))
 
   abbrev pub Breaks : StoreKeeperValue D → StoreValue D → Type 0
   Breaks old new = (old.store.failed ≡ false) × (new.failed ≡ true)
       × (honest → (kept : KeptAt view old.store base old.stored old.earlier (records_of old.entries))
-      → Passes (view old.store.disk) (view new.disk) (λ c. Recovered (as_written c) kept.state))
+      → Passes (view old.store.disk) (view new.disk) (StandForState kept.state))
 
   abbrev pub with_store : StoreKeeperValue D → StoreValue D → StoreKeeperValue D
   with_store old new = record old { store = new }
@@ -262,14 +261,14 @@ module _ {D : Type 0} (honest : Type 0) (view : D → View) (base : State) where
   goes_loses old new is goes is_honest =
       let kept = is.kept is_honest goes.0 in
       passes_as (view old.store.disk) (view new.disk) _ (StandsFor base old.stored (records_of old.entries))
-      (goes.2 is_honest kept).1 (λ c recovered. kept_stands old is kept c recovered)
+      (goes.2 is_honest kept).1 (λ c recovered. stored_stands old is kept c recovered)
 
   breaks_loses : (old : StoreKeeperValue D) (new : StoreValue D) → IsStoreKeeper honest view base old → Breaks old new
       → honest → LosesNothing view base old (with_store old new)
   breaks_loses old new is breaks is_honest =
       let kept = is.kept is_honest breaks.0 in
       passes_as (view old.store.disk) (view new.disk) _ (StandsFor base old.stored (records_of old.entries))
-      (breaks.2 is_honest kept) (λ c recovered. kept_stands old is kept c recovered)
+      (breaks.2 is_honest kept) (λ c recovered. stored_stands old is kept c recovered)
 
   goes_storer : (old : StoreKeeperValue D) (new : StoreValue D) → IsStoreKeeper honest view base old → Goes old new
       → IsStoreKeeper honest view base (with_store old new)

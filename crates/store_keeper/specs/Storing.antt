@@ -12,12 +12,12 @@ use Rattle.ipc_model.specs.declared.record.Record.{Record}
 use Rattle.ipc_model.specs.state.Circular.{Acyclic}
 use Rattle.ipc_model.specs.state.Lawful.{Lawful}
 use Rattle.ipc_model.specs.state.State.{State}
-use Rattle.ipc_model.specs.store.Recovery.{IsImageOf, Recovered}
+use Rattle.ipc_model.specs.store.Recovery.{IsImageOf}
 use Rattle.ipc_model.specs.store.Store.{AreRecords}
 use Rattle.ipc_model.specs.encodings.Encodings.{canonical_record}
 use Rattle.journal.specs.Batch.{BatchValue, Holds, batch_code}
 use Rattle.checkpoint_phases.specs.Phases.{Keeps}
-use Rattle.store_layout.specs.Standing.{as_written}
+use Rattle.store_layout.specs.Gates.{StandForState}
 use Rattle.store_half.specs.Values.{CutValue, StoreValue, cut_code, store_code}
 
 -- A history whose records a store can hold: a run from the base, of calls and replies that records can hold.
@@ -74,7 +74,7 @@ pub record IsEnd (base : State) (end : EndValue) : Type 0 where
 abbrev pub StandsFor : State → ℕ → List Record → Slots → Type 0
 StandsFor base least records c =
     (k : ℕ) × (least ≤ k) × (k ≤ length records)
-    × ((state : State) × Run base (take k records) state × Recovered (as_written c) state)
+    × ((state : State) × Run base (take k records) state × StandForState state c)
 
 -- The half that stores, and what it knows of the history: `stored` of its records are stored, and a checkpoint under
 -- way is of the state after `earlier` of them.

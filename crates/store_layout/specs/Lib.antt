@@ -2,3 +2,4 @@ pub mod Standing
 pub mod Slots
 pub mod Changes
 pub mod Encoded
+pub mod Gates

@@ -7,7 +7,6 @@ use Rattle.ipc_model.specs.calls.Step.{Run}
 use Rattle.ipc_model.specs.declared.record.Record.{Record}
 use Rattle.ipc_model.specs.state.State.{State}
 use Rattle.ipc_model.specs.encodings.Images.{image_encoding}
-use Rattle.ipc_model.specs.store.Recovery.{Recovered}
 use Rattle.ipc_model.specs.store.Faults as fault
 use Rattle.ipc_model.specs.world.World as world
 use Rattle.ipc_model.specs.world.World.{World, After, after_cut, of_finish, one_imaged, one_rolled, pieces_of, acknowledged}
@@ -18,7 +17,7 @@ use Rattle.checkpoint_phases.proofs.Appends.{begin_keeps}
 use Rattle.checkpoint_phases.proofs.Images.{finish_fails, finish_keeps, finish_passes, image_close_fails, image_close_keeps, image_close_passes, piece_fails, piece_keeps, piece_passes}
 use Rattle.checkpoint_phases.proofs.Rolls.{roll_close_fails, roll_close_keeps, roll_close_passes, roll_head_fails, roll_head_keeps, roll_head_passes, roll_open_fails, roll_open_keeps, roll_open_passes}
 use Rattle.disk.proofs.Moments.{passes_as}
-use Rattle.store_layout.specs.Standing.{as_written}
+use Rattle.store_layout.specs.Gates.{StandForState}
 use Rattle.store_half.specs.Changes.{CanFinish, CanOpen, ClosesImage, FailsToCloseImage, FailsToFinish, FailsToRollClose, FailsToRollHead, FailsToRollOpen, FailsToWritePiece, HasImaged, HasPieceLeft, IsNotNow, IsRolled, RollsClose, RollsHead, RollsOpen, WritesPiece}
 use Rattle.store_half.specs.Values.{CheckpointValue, CutValue, StoreValue, begun}
 use Rattle.system.specs.Changes.{BeginsEpoch, FinishesImage}
@@ -124,7 +123,7 @@ module _ {D : Type 0} (honest : Type 0) (view : D → View) (base : State) where
       → ((kept : KeepsStored view old.store base old.core.kernel w.stored w.earlier w.applied) → honest
       → Keeps (view store.disk) store.segment store.checkpoint kept.mid kept.state)
       → ((kept : KeepsStored view old.store base old.core.kernel w.stored w.earlier w.applied) → honest
-      → Passes (view old.store.disk) (view store.disk) (λ c. Recovered (as_written c) kept.state))
+      → Passes (view old.store.disk) (view store.disk) (StandForState kept.state))
       → Shows honest view base w event world.done old new
   stepped w event old new written store stands unfailed after rest working checkpoint in_use keeps passes = record {
     next = record w { checkpoint = Some written };
@@ -159,7 +158,7 @@ module _ {D : Type 0} (honest : Type 0) (view : D → View) (base : State) where
         subst (λ (s : SystemValue D). Passes (view old.store.disk) (view s.store.disk)
         (StandsFrom base (acknowledged w) (record w { checkpoint = Some written }))) (sym rest)
         (passes_as (view old.store.disk) (view store.disk)
-        (λ c. Recovered (as_written c) kept.state) (StandsFrom base (acknowledged w) w) (passes kept is_honest)
+        (StandForState kept.state) (StandsFrom base (acknowledged w) w) (passes kept is_honest)
         (λ c recovered. from_acknowledged honest view base w old stands c
         (from_stored honest view base w old stands kept c recovered)));
   }
@@ -169,13 +168,13 @@ module _ {D : Type 0} (honest : Type 0) (view : D → View) (base : State) where
       → w.failed ≡ false → After base w event (world.store fault.device) (record w { failed = true })
       → new ≡ record old { store = record old.store { disk = new.store.disk; failed = true } }
       → ((kept : KeepsStored view old.store base old.core.kernel w.stored w.earlier w.applied) → honest
-      → Passes (view old.store.disk) (view new.store.disk) (λ c. Recovered (as_written c) kept.state))
+      → Passes (view old.store.disk) (view new.store.disk) (StandForState kept.state))
       → Shows honest view base w event (world.store fault.device) old new
   fails w event old new stands unfailed after rest passes =
       shows_device honest view base w event old new stands unfailed after rest (λ is_honest.
       let kept = stands.kept is_honest unfailed in
       passes_as (view old.store.disk) (view new.store.disk)
-      (λ c. Recovered (as_written c) kept.state) (StandsFrom base w.stored w) (passes kept is_honest)
+      (StandForState kept.state) (StandsFrom base w.stored w) (passes kept is_honest)
       (λ c recovered. from_stored honest view base w old stands kept c recovered))
 
   -- how a failure changes a core, by how it changes the store
@@ -236,7 +235,7 @@ module _ {D : Type 0} (honest : Type 0) (view : D → View) (base : State) where
       → ((kept : KeepsStored view old.store base old.core.kernel w.stored w.earlier w.applied) → honest
       → Keeps (view new.store.disk) new.store.segment new.store.checkpoint kept.mid kept.state)
       → ((kept : KeepsStored view old.store base old.core.kernel w.stored w.earlier w.applied) → honest
-      → Passes (view old.store.disk) (view new.store.disk) (λ c. Recovered (as_written c) kept.state))
+      → Passes (view old.store.disk) (view new.store.disk) (StandForState kept.state))
       → Shows honest view base w event world.done old new
   step_done w event old new c d segment change stands there unfailed written after rest store_is in_use keeps passes =
       let found = under w old c stands there in
@@ -518,7 +517,7 @@ module _ {D : Type 0} (honest : Type 0) (view : D → View) (base : State) where
         passes = λ is_honest.
             let kept = stands.kept is_honest unfailed in
             passes_as (view old.store.disk) (view new.store.disk)
-            (λ c. Recovered (as_written c) kept.state) (StandsFrom base (acknowledged w) w2)
+            (StandForState kept.state) (StandsFrom base (acknowledged w) w2)
             (finish_passes honest view is_honest old.store new.store kept.mid kept.state kept.kept done)
             (λ c recovered. from_acknowledged honest view base w old stands c
             (from_stored honest view base w old stands kept c recovered));

@@ -14,10 +14,11 @@ use Rattle.checkpoint_phases.proofs.Rolls.{roll_close_fails, roll_close_keeps, r
 use Rattle.disk.proofs.Moments.{passes_then}
 use Rattle.store_half.specs.Changes.{CanOpen, ClosesImage, FailsToCloseImage, FailsToFinish, FailsToRollClose, FailsToRollHead, FailsToRollOpen, FailsToWritePiece, Finishes, HasImaged, HasPieceLeft, IsFault, IsFaultOrShortage, IsNotNow, IsRolled, RollsClose, RollsHead, RollsOpen, WritesPiece}
 use Rattle.store_half.specs.Values.{CheckpointValue, StoreValue, begun}
+use Rattle.store_layout.specs.Gates.{StandForState}
 use Rattle.system.specs.Calling.{IsResting}
 use Rattle.system.specs.Changes.{BeginsEpoch, FinishesImage, HandsIn}
 use Rattle.system.specs.Core.{SystemValue}
-use Rattle.system.specs.GoingOn.{GoesOn, GoesOnImage, IsFirstStep, IsRolledOver, IsStanding, Recovers, RollsOver}
+use Rattle.system.specs.GoingOn.{GoesOn, GoesOnImage, IsFirstStep, IsRolledOver, IsStanding, RollsOver}
 use Rattle.system.specs.Halves.{KernelValue}
 use Rattle.system.proofs.Between.{some_is}
 use Rattle.system.proofs.Simulation.{no_time}
@@ -28,13 +29,13 @@ module _ {D : Type 0} (honest : Type 0) (view : D → View) where
     pub kept : honest → Keeps (view old.disk) old.segment old.checkpoint mid state
         → Keeps (view new.disk) new.segment new.checkpoint mid state
     pub passes : honest → Keeps (view old.disk) old.segment old.checkpoint mid state
-        → Passes (view old.disk) (view new.disk) (Recovers state)
+        → Passes (view old.disk) (view new.disk) (StandForState state)
 
   -- A crash leaves the state of a store that was kept.
   abbrev pub Leaves : StoreValue D → StoreValue D → State → State → Type 0
   Leaves old new mid state =
       honest → Keeps (view old.disk) old.segment old.checkpoint mid state
-      → Passes (view old.disk) (view new.disk) (Recovers state)
+      → Passes (view old.disk) (view new.disk) (StandForState state)
 
   pub moves_none : (old new : StoreValue D) (mid state : State) → new ≡ old → Moves old new mid state
   moves_none old new mid state same = record {
@@ -42,14 +43,14 @@ module _ {D : Type 0} (honest : Type 0) (view : D → View) where
         λ is_honest kept. subst (λ (s : StoreValue D). Keeps (view s.disk) s.segment s.checkpoint mid state)
         (sym same) kept;
     passes =
-        λ is_honest kept. no_time (view old.disk) (view new.disk) (Recovers state)
+        λ is_honest kept. no_time (view old.disk) (view new.disk) (StandForState state)
         (ap (λ (s : StoreValue D). view s.disk) (sym same));
   }
 
   pub leaves_then : (old between new : StoreValue D) (mid state : State) → Moves old between mid state
       → Leaves between new mid state → Leaves old new mid state
   leaves_then old between new mid state first second is_honest kept =
-      passes_then (view old.disk) (view between.disk) (view new.disk) (Recovers state) (Recovers state) (Recovers state)
+      passes_then (view old.disk) (view between.disk) (view new.disk) (StandForState state) (StandForState state) (StandForState state)
       (first.passes is_honest kept) (second is_honest (first.kept is_honest kept)) (λ c r. r) (λ c r. r)
 
   pub moves_then : (old between new : StoreValue D) (mid state : State) → Moves old between mid state
@@ -404,10 +405,10 @@ module _ {D : Type 0} (honest : Type 0) (view : D → View) where
   begins_disk old new begins = ap (λ (s : SystemValue D). s.store.disk) begins.rest
 
   pub from_begun : (old between new : SystemValue D) (state : State) → BeginsEpoch old between
-      → Passes (view between.store.disk) (view new.store.disk) (Recovers state)
-      → Passes (view old.store.disk) (view new.store.disk) (Recovers state)
+      → Passes (view between.store.disk) (view new.store.disk) (StandForState state)
+      → Passes (view old.store.disk) (view new.store.disk) (StandForState state)
   from_begun old between new state begins time =
-      subst (λ (d : D). Passes (view d) (view new.store.disk) (Recovers state)) (begins_disk old between begins) time
+      subst (λ (d : D). Passes (view d) (view new.store.disk) (StandForState state)) (begins_disk old between begins) time
 
   -- What the functions of a step answer.
 
@@ -465,7 +466,7 @@ module _ {D : Type 0} (honest : Type 0) (view : D → View) where
   )
 
   pub passes_after : (old new : StoreValue D) (state : State) → ((mid : State) → Leaves old new mid state) → honest
-      → IsStanding view old state → Passes (view old.disk) (view new.disk) (Recovers state)
+      → IsStanding view old state → Passes (view old.disk) (view new.disk) (StandForState state)
   passes_after old new state leaves is_honest standing = leaves standing.0 is_honest standing.1
 
   pub kernel_same : (old new : SystemValue D) → new ≡ record old { store = new.store }

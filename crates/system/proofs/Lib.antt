@@ -3,6 +3,7 @@ mod Between
 mod Calls
 mod Checkpoints
 mod Counting
+mod Crashes
 mod Going
 pub mod Lists
 mod OrderLaws

@@ -11,14 +11,13 @@ use Rattle.ipc_model.specs.declared.call.Call.{Call}
 use Rattle.ipc_model.specs.declared.call.Reply.{Reply}
 use Rattle.ipc_model.specs.declared.record.Record.{Record}
 use Rattle.ipc_model.specs.state.State.{State}
-use Rattle.ipc_model.specs.store.Recovery.{Recovered}
 use Rattle.ipc_model.specs.store.Faults as fault
 use Rattle.ipc_model.specs.world.World as world
 use Rattle.ipc_model.specs.world.World.{World, Ticket, After, after_durable, after_submit, after_take, greatest_seen, of_append, of_finish, record_of, acknowledged, with_answered}
 use Rattle.journal.specs.Batch.{BatchValue, Holds, empty_batch}
-use Rattle.checkpoint_phases.proofs.Appends.{kept_recovered}
+use Rattle.checkpoint_phases.proofs.Appends.{kept_stands}
 use Rattle.disk.proofs.Moments.{left_now, passes_as}
-use Rattle.store_layout.specs.Standing.{as_written}
+use Rattle.store_layout.specs.Gates.{StandForState}
 use Rattle.store_half.specs.Values.{CheckpointValue}
 use Rattle.system.specs.Changes.{Answers, HandsFinished, HandsReceipt, HandsIn, IsFullNow, IsNotDue, Submits, Takes}
 use Rattle.system.specs.Core.{AreTickets, Between, Checkpoints, HasPlace, IsApplied, KeepsStored, NothingBetween, StandsFor, StandsFrom, Steps, SystemValue, Wait, in_turn, kept_ticket, unanswered}
@@ -79,7 +78,7 @@ module _ {D : Type 0} (honest : Type 0) (view : D → View) (base : State) where
   -- a crash that leaves the state after what is stored
   pub from_stored : (w : World) (system : SystemValue D) → (stands : StandsFor honest view base w system)
       → (kept : KeepsStored view system.store base system.core.kernel w.stored w.earlier w.applied) → (c : Slots)
-      → Recovered (as_written c) kept.state
+      → StandForState kept.state c
       → StandsFrom base w.stored w c
   from_stored w system stands kept c recovered =
       (w.stored, omega arith, stored_within w system stands, (kept.state, kept.before, recovered))
@@ -102,7 +101,7 @@ module _ {D : Type 0} (honest : Type 0) (view : D → View) (base : State) where
         | false ↦ λ (unfailed : _).
             let kept = stands.kept is_honest unfailed in
             from_stored w system stands kept c
-            (kept_recovered (view system.store.disk) system.store.segment system.store.checkpoint kept.mid kept.state
+            (kept_stands (view system.store.disk) system.store.segment system.store.checkpoint kept.mid kept.state
             kept.kept c may)
       ] refl
 

@@ -12,7 +12,6 @@ use Rattle.ipc_model.specs.state.Circular.{Acyclic}
 use Rattle.ipc_model.specs.state.Lawful.{Lawful}
 use Rattle.ipc_model.specs.state.State.{State}
 use Rattle.ipc_model.specs.encodings.Encodings.{canonical_record}
-use Rattle.ipc_model.specs.store.Recovery.{Recovered}
 use Rattle.ipc_model.specs.store.Store.{AreRecords}
 use Rattle.ipc_model.specs.world.World.{World, Ticket, Receipt, After, greatest_seen, of_append, of_finish, pieces_of, acknowledged}
 use Rattle.ipc_model.specs.world.World as world
@@ -20,7 +19,7 @@ use Rattle.ipc_laws.specs.StepsKeep.{FitCalls}
 use Rattle.journal.specs.Batch.{BatchValue, Holds}
 use Rattle.journal.specs.declared.segment.Segment.{Segment}
 use Rattle.checkpoint_phases.specs.Phases.{Keeps}
-use Rattle.store_layout.specs.Standing.{as_written}
+use Rattle.store_layout.specs.Gates.{StandForState}
 use Rattle.store_half.specs.Values.{CheckpointValue, StoreValue}
 use Rattle.system.specs.Events.{event_of, outcome_of}
 use Rattle.system.specs.Halves.{KernelValue, TakenValue, TicketValue, first_half}
@@ -186,7 +185,7 @@ pub record AreTickets (tickets : List Ticket) (handed : ℕ) (value : TicketsVal
 
 -- Slots that stand for the state after the first k calls that were applied.
 abbrev pub Stands : State → World → ℕ → Slots → Type 0
-Stands base world k c = (state : State) × Run base (take k world.applied) state × Recovered (as_written c) state
+Stands base world k c = (state : State) × Run base (take k world.applied) state × StandForState state c
 
 -- Slots that stand for the state after a prefix of the calls that were applied, of at least this length.
 abbrev pub StandsFrom : State → ℕ → World → Slots → Type 0

@@ -1,18 +1,13 @@
 -- A checkpoint between the calls of a single connection.
 use Rattle.std.specs.Prelude.{◌≡◌, ◌⊎◌, ℕ, ◌+◌, ◌-◌, ◌^◌, ◌<◌, ◌≤◌, true, false, Option, None, Some, Result, OnOk, is_some}
 use Rattle.disk.specs.Moments.{View, Passes}
-use Rattle.disk.specs.Slots.{Slots}
 use Rattle.ipc_model.specs.state.State.{State}
-use Rattle.ipc_model.specs.store.Recovery.{IsImageOf, Recovered}
+use Rattle.ipc_model.specs.store.Recovery.{IsImageOf}
 use Rattle.checkpoint_phases.specs.Phases.{Keeps}
-use Rattle.store_layout.specs.Standing.{as_written}
+use Rattle.store_layout.specs.Gates.{StandForState}
 use Rattle.store_half.specs.Changes.{CanFinish, ClosesImage, Finishes, HasImaged, HasPieceLeft, RollsClose, RollsHead, RollsOpen, WritesPiece}
 use Rattle.store_half.specs.Values.{CheckpointValue, CutValue, StoreValue, begun}
 use Rattle.system.specs.Core.{SystemValue}
-
--- slots from which this state is recovered
-abbrev pub Recovers : State → Slots → Type 0
-Recovers state c = Recovered (as_written c) state
 
 -- a store that is kept with this state, whatever state a checkpoint under way is of
 abbrev pub IsStanding : {D : Type 0} → (D → View) → StoreValue D → State → Type 0
@@ -23,11 +18,12 @@ abbrev pub StaysStanding : {D T E : Type 0} → (D → View) → SystemValue D �
 StaysStanding view old new result =
     IsStanding view old.store old.core.kernel → OnOk result (IsStanding view new.store new.core.kernel)
 
--- If the store is kept with the core's state before, a crash leaves that state at each moment since then.
+-- If the store is kept with the core's state before, a crash leaves what stands for that state at each moment since
+-- then.
 abbrev pub RecoversSince : {D : Type 0} → (D → View) → SystemValue D → SystemValue D → Type 0
 RecoversSince view old new =
     IsStanding view old.store old.core.kernel
-    → Passes (view old.store.disk) (view new.store.disk) (Recovers old.core.kernel)
+    → Passes (view old.store.disk) (view new.store.disk) (StandForState old.core.kernel)
 
 -- No step of a checkpoint's rotation is done, and the segment in use holds the whole log of its epoch.
 pub record IsFirstStep {D : Type 0} (store : StoreValue D) : Type 0 where

@@ -6,8 +6,9 @@ ghost use Rattle.checkpoint_phases.specs.Phases.{Keeps};
 ghost use Rattle.system.specs.Calling.{IsResting};
 ghost use Rattle.store_fault.specs.declared.fault.StoreFault.{StoreFault};
 ghost use Rattle.store_half.specs.Changes.{HasImaged};
+ghost use Rattle.store_layout.specs.Gates.{StandForState};
 ghost use Rattle.system.specs.Counting.{counted};
-ghost use Rattle.system.specs.GoingOn.{GoesOn, GoesOnImage, GoesOnPieces, IsFirstStep, IsRolledOver, Recovers, RecoversSince, RollsOver, StaysStanding, TakesMemory};
+ghost use Rattle.system.specs.GoingOn.{GoesOn, GoesOnImage, GoesOnPieces, IsFirstStep, IsRolledOver, RecoversSince, RollsOver, StaysStanding, TakesMemory};
 
 use crate::system::System;
 use disk::Disk;
@@ -59,7 +60,7 @@ impl<D: Disk> System<D> {
             state) }
         ensures passes { D.honest → (state : State)
             → Keeps (D.view self.old.store.disk) self.old.store.segment self.old.store.checkpoint state state
-            → Passes (D.view self.old.store.disk) (D.view self.new.store.disk) (Recovers state) }
+            → Passes (D.view self.old.store.disk) (D.view self.new.store.disk) (StandForState state) }
         ensures faults { IfErr result (λ fault. fault ≡ StoreFault.Device) }
         ensures failures { D.failed_calls self.new.store.disk ≡ counted result (D.failed_calls self.old.store.disk) }
     {

@@ -7,7 +7,7 @@ use Rattle.ipc_model.specs.state.State.{State}
 use Rattle.ipc_model.specs.store.Recovery.{HoldsImage, IsNew, Recovered}
 use Rattle.ipc_model.specs.encodings.Images.{image_encoding}
 use Rattle.recover.specs.Kept.{IsKept}
-use Rattle.recover.specs.Crashing.{HaveLastGates}
+use Rattle.store_layout.specs.Gates.{HaveLastGates}
 use Rattle.recover.specs.Surveyed.{IsUnused}
 use Rattle.store_layout.specs.Standing.{as_written}
 use Rattle.recover.proofs.Faults.{counts_device, counts_memory, counts_ok, counts_passed, device_no_damage, memory_no_damage, of_device, of_memory, opens_as, opens_device, opens_nothing}

@@ -3,7 +3,7 @@ use Rattle.std.proofs.lemmas.Result.{err_from_is_err_and}
 use Rattle.disk.specs.Slots.{Slots}
 use Rattle.ipc_model.specs.store.Recovery.{Recovered}
 use Rattle.recover.specs.Headers.{Says}
-use Rattle.recover.specs.Crashing.{HaveLastGates}
+use Rattle.store_layout.specs.Gates.{HaveLastGates}
 use Rattle.recover.specs.Surveyed.{IsInUse as Uses, IsUnused, Surveys}
 use Rattle.store_layout.specs.Standing.{as_written}
 use Rattle.recover.proofs.Faults.{counts_device, counts_other, counts_then, device_no_damage, never_version, one_of_four, opens_device, opens_nothing, opens_then}

@@ -2,12 +2,12 @@ use Rattle.std.proofs.Common.{Err, ap}
 use Rattle.ipc_laws.specs.RecoveryLaws.{recovers_once, recovers_version_one}
 use Rattle.store_layout.specs.Standing.{as_written}
 use Rattle.recover.proofs.Faults.{other_fault}
-use Rattle.recover.proofs.Joined.{kept_recovered}
+use Rattle.recover.proofs.Joined.{kept_stands}
 use Rattle.recover.proofs.opening.open.Goals as goal
 
 pub returns-in-Ok-clause-stands : goal.returns-in-Ok-clause-stands
 returns-in-Ok-clause-stands g c =
-    λ honest left may. kept_recovered (g.D.Disk.view c.load.new.disk) c.in-Ok.segment c.in-Ok.kernel
+    λ honest left may. kept_stands (g.D.Disk.view c.load.new.disk) c.in-Ok.segment c.in-Ok.kernel
     (c.in-Ok.ensures.opened honest).kept left may
 
 pub returns-in-Ok-clause-same : goal.returns-in-Ok-clause-same

@@ -1,6 +1,7 @@
 use Rattle.std.proofs.Common.{inl, inr, subst, sym}
 use Rattle.disk.specs.Moments.{Passes}
-use Rattle.system.specs.GoingOn.{IsStanding, Recovers}
+use Rattle.store_layout.specs.Gates.{StandForState}
+use Rattle.system.specs.GoingOn.{IsStanding}
 use Rattle.system.proofs.Calls.{match_false, match_true}
 use Rattle.system.proofs.Going.{image_breaks, image_moves, kernel_same, moves_none, passes_after, standing_after, system_same}
 use Rattle.system.proofs.system.System.go_on_image.Goals as goal
@@ -11,7 +12,7 @@ returns-in_err-close_image-clause-passes g c = λ is_honest standing.
     let new = c.close_image.new.self in
     elim (image_breaks g.D.Disk.honest g.D.Disk.view old.store new.store _ c.requires.unfailed
     c.in_err-close_image.ensures.faults)
-    as (λ _. Passes (g.D.Disk.view old.store.disk) (g.D.Disk.view new.store.disk) (Recovers old.core.kernel)) [
+    as (λ _. Passes (g.D.Disk.view old.store.disk) (g.D.Disk.view new.store.disk) (StandForState old.core.kernel)) [
       | inl device ↦ passes_after g.D.Disk.honest g.D.Disk.view old.store new.store old.core.kernel
           (λ mid. device.1 mid old.core.kernel) is_honest standing
       | inr short ↦ passes_after g.D.Disk.honest g.D.Disk.view old.store new.store old.core.kernel
@@ -52,6 +53,6 @@ returns-clause-passes g c = λ is_honest standing.
     system_same g.D.Disk.honest g.D.Disk.view c.args.self.now c.close_image.new.self
     c.in_ok-close_image.ensures.rest none.2 in
     subst (λ s. Passes (g.D.Disk.view s.store.disk) (g.D.Disk.view c.go_on_pieces.new.self.store.disk)
-    (Recovers s.core.kernel)) same
+    (StandForState s.core.kernel)) same
     (c.go_on_pieces.ensures.passes is_honest
     (subst (λ s. IsStanding g.D.Disk.view s.store s.core.kernel) (sym same) standing))
