@@ -99,5 +99,5 @@ impl<'a, D: Disk> Disk for Watched<'a, D> {
         Ok(())
     }
 
-    ghost lasts = { λ never watched. never };
+    ghost lasts = { λ never watched. absurd never };
 }

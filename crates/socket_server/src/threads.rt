@@ -4,7 +4,7 @@ use crate::watch::Watch;
 use codes::CHECKPOINT_RECORDS;
 use disk::Disk;
 use sessions::{Founding, OpenGate, Shared};
-use socket_session::{Connection, ConnectionEnd, SocketPeer, serve_connection};
+use socket_session::{Connection, SocketPeer, serve_connection};
 use std::alloc::{AllocGlobal, Global};
 use std::io::{self, BufReader, BufWriter};
 use std::net::{Net, Shutdown, TcpListener, TcpStream};
@@ -89,11 +89,12 @@ fn serve_stream<L: Founding, D: Disk, R: Wait + Clock + AllocGlobal>(
     let mut reader = BufReader::with_capacity(rt.alloc(), READ_BYTES, stream)?;
     let mut writer = BufWriter::new(rt.alloc(), stream)?;
     let accepted = Accepted { stream, watch };
-    match serve_connection(rt, shared, &accepted, &mut reader, &mut writer) {
+    let served = serve_connection(rt, shared, &accepted, &mut reader, &mut writer);
+    if let Some(Err(_)) = served {
         // What the writer still holds then fails at once when it is dropped, and isn't waited for.
-        ConnectionEnd::Fault(_) => stream.shutdown(Shutdown::Both),
-        _ => Ok(()),
+        return stream.shutdown(Shutdown::Both);
     }
+    Ok(())
 }
 
 /// Starts the loops that store and make images. Returns whether both run.

@@ -1,13 +1,11 @@
 -- A connection served as one session: which calls it makes, and what it writes.
-use Rattle.std.specs.Prelude.{◌≡◌, ℕ, List, [], Option, Some, Result, Ok, Err}
+use Rattle.std.specs.Prelude.{◌≡◌, ℕ, List, [], Option, None, Some, Result}
 use Rattle.codes.specs.declared.name.TheConstants.{FIRST_SPACE}
 use Rattle.frame_service.specs.Asking.{EndsAsked}
 use Rattle.frame_service.specs.declared.service.ServeFault.{ServeFault}
 use Rattle.ipc_model.specs.state.State.{State}
 use Rattle.kernel_keeper.specs.Tokens.{SessionValue}
 use Rattle.socket_session.specs.Connecting.{AcknowledgesOne, LacksOne, MakesOne}
-use Rattle.socket_session.specs.declared.serving.ConnectionEnd.{ConnectionEnd}
-use Rattle.socket_session.specs.declared.serving.ConnectionEnd.TheVariants.{Refused, Served, Fault}
 use Rattle.system.specs.Halves.{TicketValue}
 
 -- a session that has made no call
@@ -27,7 +25,7 @@ module _ (base : State) (input before : List ℕ) (left written : Option (List �
         (AcknowledgesOne base) (λ old ticket fault after. after ≡ old) (Some session) [] last input before left written
         result
 
-  abbrev pub EndsConnection : ConnectionEnd → Type 0
-  EndsConnection Refused = (left ≡ Some input) × (written ≡ Some before)
-  EndsConnection Served = ServesNew (Ok tt)
-  EndsConnection (Fault fault) = ServesNew (Err fault)
+  -- where no session was left for it, nothing was read or written
+  abbrev pub EndsConnection : Option (Result (Unit {0}) ServeFault) → Type 0
+  EndsConnection None = (left ≡ Some input) × (written ≡ Some before)
+  EndsConnection (Some result) = ServesNew result

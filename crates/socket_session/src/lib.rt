@@ -8,4 +8,4 @@ mod serving;
 
 pub use connected::Connected;
 pub use patience::{Patience, SocketPeer};
-pub use serving::{Connection, ConnectionEnd, serve_connection};
+pub use serving::{Connection, serve_connection};

@@ -18,17 +18,6 @@ pub trait Connection {
     fn peer(&self, session: u32) -> Self::Peer;
 }
 
-/// How a connection ended.
-#[derive(Clone, Copy, Debug, PartialEq, Eq)]
-pub enum ConnectionEnd {
-    /// No session or no memory was left for it, and nothing was read or written.
-    Refused,
-    /// Its input ended.
-    Served,
-    /// A frame couldn't be read, a reply couldn't be written, or the store failed.
-    Fault(ServeFault),
-}
-
 /// Serves a connection to its end, as one new session of a shared store: of a task that is attached to space 1. It
 /// makes no calls but those of the frames that it reads, and writes nothing but their replies, in their order.
 pub fn serve_connection<
@@ -39,19 +28,24 @@ pub fn serve_connection<
     C: Connection,
     I: Ahead,
     W: Write,
->(rt: &R, shared: &Shared<L, D, G>, connection: &C, reader: &mut I, writer: &mut W) -> ConnectionEnd
+>(
+    rt: &R,
+    shared: &Shared<L, D, G>,
+    connection: &C,
+    reader: &mut I,
+    writer: &mut W,
+) -> Option<Result<(), ServeFault>>
     ensures served { IfSome (I.remaining reader.old) (λ input. IfSome (W.contents writer.old)
         (λ before. EndsConnection L.base input before (I.remaining reader.new) (W.contents writer.new) result)) }
 {
     let Ok(session) = shared.session(rt) else {
-        return ConnectionEnd::Refused;
+        return None;
     };
     let Ok(seat) = Seat::new(rt.alloc(), connection.peer(session.number())) else {
-        return ConnectionEnd::Refused;
+        return None;
     };
     let mut asker = Connected::new(rt, shared, seat, session);
-    match serve_asked(rt.alloc(), reader, writer, &mut asker) {
-        Ok(()) => ConnectionEnd::Served,
-        Err(fault) => ConnectionEnd::Fault(fault),
-    }
+    let served = serve_asked(rt.alloc(), reader, writer, &mut asker);
+    drop(asker);
+    Some(served)
 }
