@@ -65,6 +65,7 @@ fn begin<
 }
 
 /// A connection that was accepted, and who watches its other side.
+#[derive(Drop)]
 struct Accepted<'a> {
     stream: &'a UnixStream,
     watch: &'a Watch,
