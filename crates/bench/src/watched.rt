@@ -66,6 +66,8 @@ impl<'a, D: Disk> Disk for Watched<'a, D> {
 
     ghost failed_calls = { λ watched. D.failed_calls watched.disk };
 
+    ghost calls = { λ watched. D.calls watched.disk };
+
     fn failures(&self) -> u64 {
         self.disk.failures()
     }

@@ -1,11 +1,11 @@
 -- Replies by the content of their frames: a call has at most one with each content.
-use Rattle.std.proofs.Common.{◌≡◌, ℕ, ◌+◌, ◌<◌, ◌≤◌, ◌^◌, Bool, true, false, ◌&&◌, ◌==◌, List, [], ◌∷◌, ◌++◌, length, drop, flat_map, cond, Option, Some, None, refl, sym, ap, subst, ◌∙◌, arith, length-append}
-use Rattle.std.specs.Prelude.{◌≢◌, IfNone, IfSome, IsTrue, find, not}
-use Rattle.std.proofs.lemmas.Bool.Decides.{nat_tests}
+use Rattle.std.proofs.Common.{◌≡◌, ℕ, ◌+◌, ◌<◌, ◌≤◌, ◌^◌, Bool, true, false, ◌&&◌, List, [], ◌++◌, length, drop, flat_map, Option, Some, None, refl, sym, ap, subst, ◌∙◌, arith, length-append}
+use Rattle.std.specs.Prelude.{◌≢◌, IfNone, IsTrue, not}
 use Rattle.codes.specs.declared.call_number.TheConstants.{MACH_MSG, MACH_PORT_NAMES, MACH_PORT_GET_SET_STATUS}
 use Rattle.codes.specs.KernReturn.{number_of}
 use Rattle.codes.specs.declared.kern_return.KernReturn.{KernReturn}
 use Rattle.codes.specs.declared.kern_return.KernReturn.TheVariants as kern
+use Rattle.codes.proofs.Numbers.{code_again, code_found}
 use Rattle.ipc_model.specs.declared.call.Call.{Call}
 use Rattle.ipc_model.specs.declared.call.Call.TheVariants as call
 use Rattle.ipc_model.specs.declared.call.NamedType.{NamedType}
@@ -15,67 +15,9 @@ use Rattle.ipc_model.specs.calls.Step.{number_of_call, is_recorded, has_record}
 use Rattle.ipc_laws.specs.EncodingLaws.{reply_encoding_once, word_once}
 use Rattle.ipc_model.specs.encodings.Encodings.{reply_encoding, done_encoding, number_of_reply, has_no_results, FitsReply, IsRecordedReply}
 use Rattle.words.specs.Words.{word}
-use Rattle.calls.specs.Codes.{all_codes}
 use Rattle.calls.specs.Replies.{has_results, is_done, HasResults, Answers, IsWellFormed}
 use Rattle.calls.specs.Rows.{names_encoding}
 use Rattle.calls.proofs.Lengths.{length-names_encoding, length-words_text}
-
--- codes by their numbers
-abbrev code_with : ℕ → Option KernReturn
-code_with n = find (λ code. number_of code == n) all_codes
-
-holds_of_found : {X : Type 0} (p : X → Bool) (xs : List X) (x : X) → find p xs ≡ Some x → p x ≡ true
-holds_of_found p [] x is = absurd cc
-holds_of_found p (y ∷ ys) x is =
-    elim (p y) as (λ (b : Bool). p y ≡ b → cond b (Some y) (find p ys) ≡ Some x → p x ≡ true) [
-      | true ↦ λ (holds : _) (found : _). let same : y ≡ x = cc in subst (λ z. p z ≡ true) same holds
-      | false ↦ λ (_ : _) (found : _). holds_of_found p ys x found
-    ] refl is
-
-code_holds : (code : KernReturn) (n : ℕ) → code_with n ≡ Some code → number_of code ≡ n
-code_holds code n is =
-    let test : (number_of code == n) ≡ true = holds_of_found (λ c. number_of c == n) all_codes code is in
-    grind (arith, nat_tests)
-
-pub code_if_found : (r : Option KernReturn) (n : ℕ) → r ≡ code_with n → IfSome r (λ code. number_of code ≡ n)
-code_if_found (Some code) n is = code_holds code n (sym is)
-code_if_found None n is = tt
-
-code_again : (c : KernReturn) → code_with (number_of c) ≡ Some c
-code_again kern.Success = refl
-code_again kern.NoSpace = refl
-code_again kern.InvalidArgument = refl
-code_again kern.Failure = refl
-code_again kern.ResourceShortage = refl
-code_again kern.NotInSet = refl
-code_again kern.NameExists = refl
-code_again kern.InvalidName = refl
-code_again kern.InvalidTask = refl
-code_again kern.InvalidRight = refl
-code_again kern.InvalidValue = refl
-code_again kern.UrefsOverflow = refl
-code_again kern.InvalidCapability = refl
-code_again kern.RightExists = refl
-code_again kern.SendInvalidDest = refl
-code_again kern.SendTimedOut = refl
-code_again kern.SendMsgTooSmall = refl
-code_again kern.SendInvalidReply = refl
-code_again kern.SendInvalidRight = refl
-code_again kern.SendInvalidMemory = refl
-code_again kern.SendNoBuffer = refl
-code_again kern.SendInvalidType = refl
-code_again kern.SendInvalidHeader = refl
-code_again kern.RcvInvalidName = refl
-code_again kern.RcvTimedOut = refl
-code_again kern.RcvTooLarge = refl
-code_again kern.RcvPortChanged = refl
-code_again kern.RcvPortDied = refl
-code_again kern.RcvInSet = refl
-code_again kern.RcvHeaderErrorKernel = refl
-code_again kern.RcvHeaderErrorSpace = refl
-
-pub code_found : (code : KernReturn) (n : ℕ) → number_of code ≡ n → code_with n ≡ Some code
-code_found code n is = ap code_with (sym is) ∙ code_again code
 
 pub one_code : (a b : KernReturn) → number_of a ≡ number_of b → a ≡ b
 one_code a b is =

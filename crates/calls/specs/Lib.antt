@@ -1,4 +1,3 @@
-pub mod Codes
 pub mod Replies
 pub mod Requests
 pub mod Rows

@@ -3,7 +3,6 @@
 
 mod arguments;
 mod canonical_message;
-mod code;
 mod encode;
 mod frame;
 mod read;

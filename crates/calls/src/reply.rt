@@ -8,7 +8,6 @@ ghost use Rattle.words.specs.Words.{AreBytes, word};
 ghost use Rattle.calls.specs.Replies.{has_results, HasResults, Answers, IsWellFormed};
 ghost use Rattle.calls.specs.Rows.{names_encoding};
 
-use crate::code::code_of_number;
 use crate::reply_rows::{read_members, read_names, read_status};
 use crate::word_rows::{one_word, two_words};
 use codes::{
@@ -274,7 +273,7 @@ pub fn read_reply(alloc: Global, number: u32, content: &[u8]) -> Result<Option<R
     if front != number {
         return Ok(None);
     }
-    match code_of_number(code) {
+    match KernReturn::from_number(code) {
         Some(code) => read_answer(alloc, number, code, results),
         None => Ok(None),
     }

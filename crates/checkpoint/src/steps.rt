@@ -40,6 +40,7 @@ fn write_zeros<D: Disk>(disk: &mut D, slot: Slot) -> Result<(), DiskFault>
     ensures any_moment { D.honest → IsShut (D.view disk.old) slot
         → Passes (D.view disk.old) (D.view disk.new) (Follows (D.view disk.old) slot IsStillClosed) }
     ensures failures { CountsFailure (D.failed_calls disk.old) (D.failed_calls disk.new) result }
+    ensures calls { D.calls disk.new ≤ D.calls disk.old + 1 }
 {
     write_after(disk, slot, 1, &[0; 23])
 }
@@ -53,6 +54,7 @@ pub(crate) fn clear<D: Disk>(disk: &mut D, slot: Slot) -> Result<(), DiskFault>
     ensures any_moment { D.honest → IsSynced (D.view disk.old) slot
         → Passes (D.view disk.old) (D.view disk.new) (Follows (D.view disk.old) slot (IsClosing 24)) }
     ensures failures { CountsFailure (D.failed_calls disk.old) (D.failed_calls disk.new) result }
+    ensures calls { D.calls disk.new ≤ D.calls disk.old + 5 }
 {
     close_slot(disk, slot, IMAGE_HEADER)?;
     write_zeros(disk, slot)?;
@@ -84,6 +86,7 @@ pub(crate) fn push_piece<D: Disk>(disk: &mut D, slot: Slot, piece: &[u8]) -> Res
     ensures any_moment { D.honest → IsShut (D.view disk.old) slot
         → Passes (D.view disk.old) (D.view disk.new) (Follows (D.view disk.old) slot IsStillClosed) }
     ensures failures { CountsFailure (D.failed_calls disk.old) (D.failed_calls disk.new) result }
+    ensures calls { D.calls disk.new ≤ D.calls disk.old + 1 }
 {
     let end = disk.length(slot).max(1);
     write_after(disk, slot, end, piece)
@@ -116,6 +119,7 @@ fn write_header<D: Disk>(disk: &mut D, slot: Slot, epoch: u64, size: u64) -> Res
     ensures any_moment { D.honest → IsShut (D.view disk.old) slot
         → Passes (D.view disk.old) (D.view disk.new) (Follows (D.view disk.old) slot IsStillClosed) }
     ensures failures { CountsFailure (D.failed_calls disk.old) (D.failed_calls disk.new) result }
+    ensures calls { D.calls disk.new ≤ D.calls disk.old + 2 }
 {
     write_after(disk, slot, 1, &image_start(epoch, size))?;
     sync_after(disk, slot)
@@ -135,6 +139,7 @@ pub(crate) fn finish<D: Disk>(
     ensures any_moment { D.honest → IsShut (D.view disk.old) slot
         → Passes (D.view disk.old) (D.view disk.new) (Follows (D.view disk.old) slot (IsFinishing epoch encoding.now)) }
     ensures failures { CountsFailure (D.failed_calls disk.old) (D.failed_calls disk.new) result }
+    ensures calls { D.calls disk.new ≤ D.calls disk.old + 4 }
 {
     write_header(disk, slot, epoch, encoding.len() as u64)?;
     write_gate(disk, slot, OPEN_GATE)

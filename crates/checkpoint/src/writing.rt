@@ -85,6 +85,7 @@ impl Image {
             → Passes (D.view disk.old) (D.view disk.new)
             (Follows (D.view disk.old) (slot_of_epoch self.now.epoch) (IsClosing 24)) }
         ensures failures { CountsFailure (D.failed_calls disk.old) (D.failed_calls disk.new) result }
+        ensures calls { D.calls disk.new ≤ D.calls disk.old + 5 }
     {
         steps::clear(disk, image_slot(self.epoch))
     }
@@ -108,6 +109,7 @@ impl Image {
             → Passes (D.view disk.old) (D.view disk.new)
             (Follows (D.view disk.old) (slot_of_epoch self.old.epoch) IsStillClosed) }
         ensures failures { CountsFailure (D.failed_calls disk.old) (D.failed_calls disk.new) result }
+        ensures calls { D.calls disk.new ≤ D.calls disk.old + 1 }
     {
         let piece = steps::piece_at(&self.encoding, self.written);
         steps::push_piece(disk, image_slot(self.epoch), piece)?;
@@ -129,6 +131,7 @@ impl Image {
             (Follows (D.view disk.old) (slot_of_epoch self.now.epoch)
             (IsFinishing self.now.epoch self.now.encoding)) }
         ensures failures { CountsFailure (D.failed_calls disk.old) (D.failed_calls disk.new) result }
+        ensures calls { D.calls disk.new ≤ D.calls disk.old + 4 }
     {
         steps::finish(disk, image_slot(self.epoch), self.epoch, &self.encoding)
     }

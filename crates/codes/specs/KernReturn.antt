@@ -1,5 +1,5 @@
 -- The numbers of the return codes, as Mach's headers have them.
-use Rattle.std.specs.Prelude.{ℕ}
+use Rattle.std.specs.Prelude.{List, [], ℕ, ◌∷◌}
 use Rattle.codes.specs.declared.kern_return.KernReturn.{KernReturn}
 use Rattle.codes.specs.declared.kern_return.KernReturn.TheVariants.{Success, NoSpace, InvalidArgument, Failure, ResourceShortage, NotInSet, NameExists, InvalidName, InvalidTask, InvalidRight, InvalidValue, UrefsOverflow, InvalidCapability, RightExists, SendInvalidDest, SendTimedOut, SendMsgTooSmall, SendInvalidReply, SendInvalidRight, SendInvalidMemory, SendNoBuffer, SendInvalidType, SendInvalidHeader, RcvInvalidName, RcvTimedOut, RcvTooLarge, RcvPortChanged, RcvPortDied, RcvInSet, RcvHeaderErrorKernel, RcvHeaderErrorSpace}
 
@@ -35,3 +35,15 @@ number_of RcvPortDied = 0x1000_4009
 number_of RcvInSet = 0x1000_400a
 number_of RcvHeaderErrorKernel = 0x1000_480b
 number_of RcvHeaderErrorSpace = 0x1000_600b
+
+-- the return codes, in the order of their numbers
+abbrev pub all_codes : List KernReturn
+all_codes =
+    Success ∷ NoSpace ∷ InvalidArgument ∷ Failure ∷ ResourceShortage ∷ NotInSet ∷
+    NameExists ∷ InvalidName
+    ∷ InvalidTask ∷ InvalidRight ∷ InvalidValue ∷ UrefsOverflow ∷ InvalidCapability ∷
+    RightExists ∷ SendInvalidDest ∷ SendTimedOut
+    ∷ SendMsgTooSmall ∷ SendInvalidReply ∷ SendInvalidRight ∷ SendInvalidMemory ∷ SendNoBuffer
+    ∷ SendInvalidType ∷ SendInvalidHeader ∷ RcvInvalidName
+    ∷ RcvTimedOut ∷ RcvTooLarge ∷ RcvPortChanged ∷ RcvPortDied ∷ RcvInSet ∷
+    RcvHeaderErrorKernel ∷ RcvHeaderErrorSpace ∷ []

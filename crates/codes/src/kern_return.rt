@@ -1,5 +1,6 @@
-ghost use Rattle.std.specs.Prelude.{◌≡◌};
-ghost use Rattle.codes.specs.KernReturn.{number_of};
+ghost use Rattle.std.specs.Prelude.{◌≡◌, ◌==◌, find, Some, IfSome};
+ghost use Rattle.codes.specs.KernReturn.{all_codes, number_of};
+ghost use Rattle.codes.specs.declared.kern_return.KernReturn.{KernReturn};
 
 /// A return code of the kernel interfaces or of `mach_msg`, under Mach's name for it: `KERN_NO_SPACE`
 /// is `NoSpace`, `MACH_SEND_INVALID_DEST` is `SendInvalidDest`, and so on.
@@ -47,4 +48,58 @@ impl KernReturn {
     {
         self as u32
     }
+
+    /// All codes, in the order of their numbers.
+    pub fn all() -> [KernReturn; 31]
+        ensures { result ≡ all_codes }
+    {
+        [
+            KernReturn::Success,
+            KernReturn::NoSpace,
+            KernReturn::InvalidArgument,
+            KernReturn::Failure,
+            KernReturn::ResourceShortage,
+            KernReturn::NotInSet,
+            KernReturn::NameExists,
+            KernReturn::InvalidName,
+            KernReturn::InvalidTask,
+            KernReturn::InvalidRight,
+            KernReturn::InvalidValue,
+            KernReturn::UrefsOverflow,
+            KernReturn::InvalidCapability,
+            KernReturn::RightExists,
+            KernReturn::SendInvalidDest,
+            KernReturn::SendTimedOut,
+            KernReturn::SendMsgTooSmall,
+            KernReturn::SendInvalidReply,
+            KernReturn::SendInvalidRight,
+            KernReturn::SendInvalidMemory,
+            KernReturn::SendNoBuffer,
+            KernReturn::SendInvalidType,
+            KernReturn::SendInvalidHeader,
+            KernReturn::RcvInvalidName,
+            KernReturn::RcvTimedOut,
+            KernReturn::RcvTooLarge,
+            KernReturn::RcvPortChanged,
+            KernReturn::RcvPortDied,
+            KernReturn::RcvInSet,
+            KernReturn::RcvHeaderErrorKernel,
+            KernReturn::RcvHeaderErrorSpace,
+        ]
+    }
+
+    /// The code with this number.
+    pub fn from_number(number: u32) -> Option<KernReturn>
+        ensures found { IfSome result (λ code. number_of code ≡ number) }
+        ensures only { (code : KernReturn) → number_of code ≡ number → result ≡ Some code }
+    {
+        find_number(number)
+    }
+}
+
+fn find_number(number: u32) -> Option<KernReturn>
+    ensures { result ≡ find (λ code. number_of code == number) all_codes }
+{
+    let all = KernReturn::all();
+    all.iter().copied().find(|code| code.number() == number)
 }

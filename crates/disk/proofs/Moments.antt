@@ -3,7 +3,7 @@ use Rattle.std.proofs.Common.{◌≡◌, ◌⊎◌, inl, inr, ℕ, ◌<◌, ◌�
 use Rattle.std.proofs.lemmas.Bool.{cases_lt}
 use Rattle.disk.specs.declared.slot.Slot.{Slot}
 use Rattle.disk.specs.declared.slot.Slot.TheVariants.{Image0, Image1, Segment0, Segment1}
-use Rattle.disk.specs.Moments.{View, MayLeave, Passes, IsSynced}
+use Rattle.disk.specs.Moments.{View, MayLeave, Passes, ReadsOnly, IsSynced}
 use Rattle.disk.specs.Slots.{Slots, slot_of, with_slot}
 
 pub later_or_now : (m n : ℕ) → m ≤ n → (m < n) ⊎ (n ≡ m)
@@ -74,3 +74,22 @@ pub unchanged_then : (old mid new : View) → Passes old mid (MayLeave old) → 
 unchanged_then old mid new first second =
     passes_then old mid new (MayLeave old) (MayLeave mid) (MayLeave old) first second
     (λ c left. left) (left_before old mid first)
+
+pub reads_only : (old new : View) → new.seen ≡ old.seen → Passes old new (MayLeave old) → ReadsOnly old new
+reads_only old new seen time = record { seen = seen; time = time }
+
+-- no call at all
+pub reads_nothing : (disk : View) → ReadsOnly disk disk
+reads_nothing disk = record {
+  seen = refl;
+  time = record {
+    later = omega arith;
+    past = λ k c le. (λ left. left, λ left. left);
+    since = λ k c after le left. absurd (omega arith);
+  };
+}
+
+-- calls that only read, one after another
+pub reads_then : (old mid new : View) → ReadsOnly old mid → ReadsOnly mid new → ReadsOnly old new
+reads_then old mid new first second =
+    reads_only old new (second.seen ∙ first.seen) (unchanged_then old mid new first.time second.time)

@@ -24,6 +24,11 @@ pub record Passes (old new : View) (P : Slots → Type 0) : Type 0 where
   pub past : (k : ℕ) (c : Slots) → k ≤ old.moment → new.left_at k c ↔ old.left_at k c
   pub since : (k : ℕ) (c : Slots) → old.moment < k → k ≤ new.moment → new.left_at k c → P c
 
+-- Nothing was written: the slots are as they were, and a crash leaves nothing that it might not have left before.
+pub record ReadsOnly (old new : View) : Type 0 where
+  pub seen : new.seen ≡ old.seen
+  pub time : Passes old new (MayLeave old)
+
 -- what a step on the bytes of one slot may make of the post-crash contents before it; the other slots stay
 abbrev pub Follows : View → Slot → (List ℕ → List ℕ → Type 0) → Slots → Type 0
 Follows old slot step c =

@@ -31,6 +31,9 @@ pub trait Disk {
     /// How many calls have failed.
     ghost failed_calls: { Self → ℕ };
 
+    /// How many calls have been made, by a count that each of them raises by one at most.
+    ghost calls: { Self → ℕ };
+
     /// How many calls have failed, as far as the count's range goes.
     fn failures(&self) -> u64
         ensures { result ≡ failed_calls self.now };
@@ -49,7 +52,8 @@ pub trait Disk {
             (λ n. buffer.new ≡ take n (drop at (slot_of (view self.old).seen slot)) ++ drop n buffer.old) }
         ensures seen { honest → (view self.new).seen ≡ (view self.old).seen }
         ensures time { honest → Passes (view self.old) (view self.new) (MayLeave (view self.old)) }
-        ensures failures { CountsFailure (failed_calls self.old) (failed_calls self.new) result };
+        ensures failures { CountsFailure (failed_calls self.old) (failed_calls self.new) result }
+        ensures calls { calls self.new ≤ calls self.old + 1 };
 
     /// Writes over the bytes from `at` on, and past the end. Until the slot is synced, a crash may leave any bytes in
     /// that range.
@@ -59,7 +63,8 @@ pub trait Disk {
             ≡ with_slot (view self.old).seen slot (written_at (slot_of (view self.old).seen slot) at bytes.now)) }
         ensures time { honest → Passes (view self.old) (view self.new)
             (Follows (view self.old) slot (TornWrite at (length bytes.now))) }
-        ensures failures { CountsFailure (failed_calls self.old) (failed_calls self.new) result };
+        ensures failures { CountsFailure (failed_calls self.old) (failed_calls self.new) result }
+        ensures calls { calls self.new ≤ calls self.old + 1 };
 
     /// Truncates a slot to a length.
     fn cut(&mut self, slot: Slot, len: u64) -> Result<(), DiskFault>
@@ -67,14 +72,16 @@ pub trait Disk {
         ensures cut { honest → OnOk result ((view self.new).seen
             ≡ with_slot (view self.old).seen slot (take len (slot_of (view self.old).seen slot))) }
         ensures time { honest → Passes (view self.old) (view self.new) (Follows (view self.old) slot (TornCut len)) }
-        ensures failures { CountsFailure (failed_calls self.old) (failed_calls self.new) result };
+        ensures failures { CountsFailure (failed_calls self.old) (failed_calls self.new) result }
+        ensures calls { calls self.new ≤ calls self.old + 1 };
 
     /// Once this is done, a crash leaves of this slot what a read returns.
     fn sync(&mut self, slot: Slot) -> Result<(), DiskFault>
         ensures synced { honest → OnOk result (IsSynced (view self.new) slot) }
         ensures seen { honest → (view self.new).seen ≡ (view self.old).seen }
         ensures time { honest → Passes (view self.old) (view self.new) (MayLeave (view self.old)) }
-        ensures failures { CountsFailure (failed_calls self.old) (failed_calls self.new) result };
+        ensures failures { CountsFailure (failed_calls self.old) (failed_calls self.new) result }
+        ensures calls { calls self.new ≤ calls self.old + 1 };
 
     /// What a read returns now is among what a crash may leave.
     ghost lasts: { honest → (disk : Self) → MayLeave (view disk) (view disk).seen };

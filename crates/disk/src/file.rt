@@ -198,6 +198,8 @@ impl<F: Folder> Disk for FileDisk<F> {
 
     ghost failed_calls = { λ disk. disk.failures };
 
+    ghost calls = { λ disk. 0 };
+
     fn failures(&self) -> u64 {
         self.failures
     }

@@ -196,6 +196,7 @@ impl MemDisk {
             → Follows (memory_view self.old) slot (TornWrite at (length bytes.now)) c
             → MayLeave (memory_view self.new) c) }
         ensures failures { self.new.failures ≡ self.old.failures }
+        ensures plan { self.new.plan ≡ self.old.plan }
     {
         let written = overwritten(self.alloc, self.seen.slot(slot), at, bytes)?;
         let bytes = bytes.to_vec(self.alloc)?;
@@ -221,6 +222,7 @@ impl MemDisk {
         ensures whole { OnOk result ((c : Slots) → Follows (memory_view self.old) slot (TornCut len) c
             → MayLeave (memory_view self.new) c) }
         ensures failures { self.new.failures ≡ self.old.failures }
+        ensures plan { self.new.plan ≡ self.old.plan }
     {
         let left = front(self.alloc, self.seen.slot(slot), len)?;
         self.log.push(LoggedCall::Cut { slot, len, is_done })?;
@@ -237,6 +239,7 @@ impl MemDisk {
         ensures whole { OnOk result ((c : Slots) → MayLeave (memory_view self.old) c
             → slot_of c slot ≡ slot_of (slots_of self.old.seen) slot → MayLeave (memory_view self.new) c) }
         ensures failures { self.new.failures ≡ self.old.failures }
+        ensures plan { self.new.plan ≡ self.old.plan }
     {
         self.log.push(LoggedCall::Sync { slot })?;
         Ok(())
@@ -252,6 +255,8 @@ impl Disk for MemDisk {
     ghost view = { memory_view };
 
     ghost failed_calls = { λ disk. disk.failures };
+
+    ghost calls = { λ disk. disk.plan.calls };
 
     fn failures(&self) -> u64 {
         self.failures

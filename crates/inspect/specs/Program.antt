@@ -1,9 +1,9 @@
 -- How a run of an inspector ends: its status and its line of errors.
 use Rattle.std.specs.Prelude.{◌≡◌, ◌≢◌, ℕ, List, [], ◌++◌, Option, Some, codes}
 use Rattle.std.specs.Io.KnownBytes.{Appends, Keeps}
+use Rattle.disk.specs.Moments.{View}
+use Rattle.inspect.specs.Printed.{IsTextOf}
 use Rattle.ipc_model.specs.state.State.{State}
-use Rattle.listing.specs.Drawing.{drawing}
-use Rattle.listing.specs.Listing.{listing}
 use Rattle.wire.specs.Writing.{AppendsPart}
 use Rattle.inspect.specs.declared.fault.ListFault.TheVariants.{Store, Busy, Write}
 use Rattle.inspect.specs.declared.program.ShowEnd.{ShowEnd}
@@ -32,12 +32,9 @@ line_of name Shown = []
 line_of name CommandLine = name ++ words_of CommandLine
 line_of name (Fault fault) = name ++ words_of (Fault fault)
 
--- the lines of some state, and the drawing of one
-abbrev pub IsSomeListing : List ℕ → Type 0
-IsSomeListing text = (state : State) × (epoch records : ℕ) × (text ≡ listing epoch records state)
-
-abbrev pub IsSomeDrawing : List ℕ → Type 0
-IsSomeDrawing text = (state : State) × (text ≡ drawing state)
+-- the text of a state, which a disk's slots encode if the disk is honest
+abbrev pub IsOfDisk : {D : Type 0} → (ℕ → ℕ → State → List ℕ) → Type 0 → (D → View) → List ℕ → Type 0
+IsOfDisk {D} text_of honest view text = (disk : D) × IsTextOf text_of honest (view disk).seen text
 
 -- What was written by a run with this end, for this many arguments, or for arguments that can't be read: the whole
 -- text, a prefix of it where the output can't be written, or nothing.

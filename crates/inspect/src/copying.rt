@@ -1,6 +1,6 @@
 // A new store that begins in the state of another one.
 ghost use Rattle.std.specs.Prelude.{◌≡◌, ◌≢◌, Err, IfErr, IfOk, IsErrOf, OnErr, OnOk};
-ghost use Rattle.disk.specs.Moments.{CountsFailure, MayLeave, Passes, one_more};
+ghost use Rattle.disk.specs.Moments.{CountsFailure, MayLeave, Passes, ReadsOnly, one_more};
 ghost use Rattle.disk.specs.Slots.{empty_slots};
 ghost use Rattle.inspect.specs.Copied.{IsCopyOf, IsImageOfRows, IsOfCopy, store_of};
 ghost use Rattle.ipc_model.specs.store.Recovery.{IsDamaged, IsOtherVersion};
@@ -111,7 +111,7 @@ fn write_store<E: Disk>(to: &mut E, image: &Image) -> Result<(), DiskFault>
 pub fn copy<D: Disk, E: Disk>(alloc: Global, from: &mut D, to: &mut E) -> Result<(), CopyStoreFault>
     ensures copied { D.honest → E.honest → (E.view to.old).seen ≡ empty_slots
         → OnOk result (IsCopyOf (D.view from.old).seen (E.view to.new)) }
-    ensures seen { D.honest → (D.view from.new).seen ≡ (D.view from.old).seen }
+    ensures reads_only { D.honest → ReadsOnly (D.view from.old) (D.view from.new) }
     ensures version { D.honest → IsErrOf result (CopyStoreFault.Store StoreFault.Version)
         → IsOtherVersion (as_written (D.view from.old).seen) }
     ensures damaged { D.honest → IsErrOf result (CopyStoreFault.Store StoreFault.Damaged)

@@ -1,6 +1,6 @@
 // A look at a store that may be in use.
 ghost use Rattle.std.specs.Prelude.{◌≡◌, ◌≢◌, ◌⊎◌, Err, IfErr, IfOk, IsErrOf, OnErr, OnOk};
-ghost use Rattle.disk.specs.Moments.{one_more};
+ghost use Rattle.disk.specs.Moments.{ReadsOnly, one_more};
 ghost use Rattle.inspect.specs.Looked.{of_looking};
 ghost use Rattle.inspect.specs.Printed.{IsOfLook};
 ghost use Rattle.ipc_model.specs.store.Recovery.{IsDamaged, IsOtherVersion};
@@ -42,13 +42,15 @@ fn look_at_copy(alloc: Global, copy: StillDisk) -> Result<Looked, StoreFault>
 /// Looks at a copy of a store, so that a server may go on with the store meanwhile. Nothing is written to the store.
 pub(crate) fn look_still<D: Disk>(alloc: Global, disk: &mut D) -> Result<Looked, ListFault>
     ensures state { IfOk result (IsLook D.honest (D.view disk.old).seen) }
-    ensures seen { D.honest → (D.view disk.new).seen ≡ (D.view disk.old).seen }
+    ensures reads_only { D.honest → ReadsOnly (D.view disk.old) (D.view disk.new) }
     ensures version { D.honest → IsErrOf result (ListFault.Store StoreFault.Version)
         → IsOtherVersion (as_written (D.view disk.old).seen) }
     ensures damaged { D.honest → IsErrOf result (ListFault.Store StoreFault.Damaged)
         → IsDamaged (as_written (D.view disk.old).seen) }
     ensures faults { IfErr result IsOfLook }
     ensures quiet { OnOk result (D.failed_calls disk.new ≡ D.failed_calls disk.old) }
+    ensures same { result ≢ Err (ListFault.Store StoreFault.Device)
+        → D.failed_calls disk.new ≡ D.failed_calls disk.old }
     ensures device { IsErrOf result (ListFault.Store StoreFault.Device)
         → D.failed_calls disk.new ≡ one_more (D.failed_calls disk.old) }
     ensures still { D.honest → IsErrOf result ListFault.Busy → ⊥ }

@@ -1,10 +1,13 @@
-ghost use Rattle.std.specs.Prelude.{◌≡◌, ◌≢◌, ◌++◌, ℕ, List, codes, length, option_map, IfErr, IsErrOf, OnErr, OnOk};
-ghost use Rattle.std.specs.Io.KnownBytes.{Appends, Keeps};
-ghost use Rattle.inspect.specs.Program.{IsSomeDrawing, IsSomeListing, Prints, line_of, status_of, words_of};
+ghost use Rattle.std.specs.Prelude.{◌≡◌, ◌++◌, codes, length, option_map, IfErr, OnErr, OnOk};
+ghost use Rattle.std.specs.Io.KnownBytes.{Appends};
+ghost use Rattle.inspect.specs.Printed.{PrintsText, drawing_of};
+ghost use Rattle.inspect.specs.Program.{IsOfDisk, Prints, line_of, status_of, words_of};
+ghost use Rattle.listing.specs.Listing.{listing};
 ghost use Rattle.wire.specs.Writing.{AppendsPart};
 
-use crate::{ListFault, list, sketch};
-use disk::FileDisk;
+use crate::ListFault;
+use crate::printing::{Drawing, Form, Lines, print};
+use disk::{Disk, FileDisk, HostFolder};
 use std::alloc::Global;
 use std::io::Write;
 use std::rt::Files;
@@ -79,17 +82,18 @@ pub(crate) fn write_line<E: Write>(errors: &mut E, name: &str, words: &str) -> R
 ///
 /// The one word is the store's folder; its files are opened only for reading. 0: its lines were written. 1: after a
 /// fault, with a line of errors. 2: there isn't exactly one word or the words can't be read, with a line of errors too.
-pub fn show<F: Files, W: Write, E: Write>(
+pub fn show<'a, F: Files, W: Write, E: Write>(
     alloc: Global,
-    files: &F,
+    files: &'a F,
     words: Option<&[String]>,
     output: &mut W,
     errors: &mut E,
 ) -> u8
     ensures ended { (end : ShowEnd) × (result ≡ status_of end)
         × AppendsPart (E.contents errors.old) (E.contents errors.new) (line_of (codes "machls: ") end)
-        × Prints IsSomeListing (option_map (λ texts. length texts.now) words.entry) (W.contents output.old)
-        (W.contents output.new) end }
+        × Prints (IsOfDisk listing ⟦<FileDisk<HostFolder<&'a F>> as Disk>⟧.honest
+        ⟦<FileDisk<HostFolder<&'a F>> as Disk>⟧.view) (option_map (λ texts. length texts.now) words.entry)
+        (W.contents output.old) (W.contents output.new) end }
 {
     let end = run_show(alloc, files, words, output);
     let _ = end.tell("machls: ", errors);
@@ -97,56 +101,32 @@ pub fn show<F: Files, W: Write, E: Write>(
 }
 
 /// What `show` does except for its line of errors.
-pub fn run_show<F: Files, W: Write>(
+pub fn run_show<'a, F: Files, W: Write>(
     alloc: Global,
-    files: &F,
+    files: &'a F,
     words: Option<&[String]>,
     output: &mut W,
 ) -> ShowEnd
-    ensures ended { Prints IsSomeListing (option_map (λ texts. length texts.now) words.entry) (W.contents output.old)
-        (W.contents output.new) result }
+    ensures ended { Prints (IsOfDisk listing ⟦<FileDisk<HostFolder<&'a F>> as Disk>⟧.honest
+        ⟦<FileDisk<HostFolder<&'a F>> as Disk>⟧.view) (option_map (λ texts. length texts.now) words.entry)
+        (W.contents output.old) (W.contents output.new) result }
 {
-    let Some([store]) = words else {
-        return ShowEnd::CommandLine;
-    };
-    match list_folder(alloc, files, store.as_str(), output) {
-        Ok(()) => ShowEnd::Shown,
-        Err(fault) => ShowEnd::Fault(fault),
-    }
-}
-
-/// Writes the lines of the store in a folder.
-fn list_folder<F: Files, W: Write>(
-    alloc: Global,
-    files: &F,
-    folder: &str,
-    output: &mut W,
-) -> Result<(), ListFault>
-    ensures ok { OnOk result ((text : List ℕ) × IsSomeListing text
-        × Appends (W.contents output.old) (W.contents output.new) text) }
-    ensures part { IsErrOf result ListFault.Write → (text : List ℕ) × IsSomeListing text
-        × AppendsPart (W.contents output.old) (W.contents output.new) text }
-    ensures unwritten { IfErr result
-        (λ fault. fault ≢ ListFault.Write → Keeps (W.contents output.old) (W.contents output.new)) }
-{
-    let Ok(mut disk) = FileDisk::at(alloc, files, folder) else {
-        return Err(ListFault::Store(StoreFault::Device));
-    };
-    list(alloc, &mut disk, output)
+    run(alloc, files, words, &Lines, output)
 }
 
 /// The whole of `machmap`, which is `machls` with a drawing in place of the lines.
-pub fn show_drawing<F: Files, W: Write, E: Write>(
+pub fn show_drawing<'a, F: Files, W: Write, E: Write>(
     alloc: Global,
-    files: &F,
+    files: &'a F,
     words: Option<&[String]>,
     output: &mut W,
     errors: &mut E,
 ) -> u8
     ensures ended { (end : ShowEnd) × (result ≡ status_of end)
         × AppendsPart (E.contents errors.old) (E.contents errors.new) (line_of (codes "machmap: ") end)
-        × Prints IsSomeDrawing (option_map (λ texts. length texts.now) words.entry) (W.contents output.old)
-        (W.contents output.new) end }
+        × Prints (IsOfDisk drawing_of ⟦<FileDisk<HostFolder<&'a F>> as Disk>⟧.honest
+        ⟦<FileDisk<HostFolder<&'a F>> as Disk>⟧.view) (option_map (λ texts. length texts.now) words.entry)
+        (W.contents output.old) (W.contents output.new) end }
 {
     let end = run_drawing(alloc, files, words, output);
     let _ = end.tell("machmap: ", errors);
@@ -154,40 +134,53 @@ pub fn show_drawing<F: Files, W: Write, E: Write>(
 }
 
 /// What `show_drawing` does except for its line of errors.
-pub fn run_drawing<F: Files, W: Write>(
+pub fn run_drawing<'a, F: Files, W: Write>(
     alloc: Global,
-    files: &F,
+    files: &'a F,
     words: Option<&[String]>,
     output: &mut W,
 ) -> ShowEnd
-    ensures ended { Prints IsSomeDrawing (option_map (λ texts. length texts.now) words.entry) (W.contents output.old)
-        (W.contents output.new) result }
+    ensures ended { Prints (IsOfDisk drawing_of ⟦<FileDisk<HostFolder<&'a F>> as Disk>⟧.honest
+        ⟦<FileDisk<HostFolder<&'a F>> as Disk>⟧.view) (option_map (λ texts. length texts.now) words.entry)
+        (W.contents output.old) (W.contents output.new) result }
+{
+    run(alloc, files, words, &Drawing, output)
+}
+
+/// Prints the store in the folder that the one word names.
+fn run<'a, F: Files, P: Form, W: Write>(
+    alloc: Global,
+    files: &'a F,
+    words: Option<&[String]>,
+    form: &P,
+    output: &mut W,
+) -> ShowEnd
+    ensures ended { Prints (IsOfDisk P.text_of ⟦<FileDisk<HostFolder<&'a F>> as Disk>⟧.honest
+        ⟦<FileDisk<HostFolder<&'a F>> as Disk>⟧.view) (option_map (λ texts. length texts.now) words.entry)
+        (W.contents output.old) (W.contents output.new) result }
 {
     let Some([store]) = words else {
         return ShowEnd::CommandLine;
     };
-    match draw_folder(alloc, files, store.as_str(), output) {
+    match print_folder(alloc, files, store.as_str(), form, output) {
         Ok(()) => ShowEnd::Shown,
         Err(fault) => ShowEnd::Fault(fault),
     }
 }
 
-/// Writes the drawing of the store in a folder.
-fn draw_folder<F: Files, W: Write>(
+/// Prints the store in a folder.
+fn print_folder<'a, F: Files, P: Form, W: Write>(
     alloc: Global,
-    files: &F,
+    files: &'a F,
     folder: &str,
+    form: &P,
     output: &mut W,
 ) -> Result<(), ListFault>
-    ensures ok { OnOk result ((text : List ℕ) × IsSomeDrawing text
-        × Appends (W.contents output.old) (W.contents output.new) text) }
-    ensures part { IsErrOf result ListFault.Write → (text : List ℕ) × IsSomeDrawing text
-        × AppendsPart (W.contents output.old) (W.contents output.new) text }
-    ensures unwritten { IfErr result
-        (λ fault. fault ≢ ListFault.Write → Keeps (W.contents output.old) (W.contents output.new)) }
+    ensures prints { PrintsText (IsOfDisk P.text_of ⟦<FileDisk<HostFolder<&'a F>> as Disk>⟧.honest
+        ⟦<FileDisk<HostFolder<&'a F>> as Disk>⟧.view) (W.contents output.old) (W.contents output.new) result }
 {
     let Ok(mut disk) = FileDisk::at(alloc, files, folder) else {
         return Err(ListFault::Store(StoreFault::Device));
     };
-    sketch(alloc, &mut disk, output)
+    print(alloc, &mut disk, form, output)
 }

@@ -1,6 +1,6 @@
 // The three steps by which a new segment is made in the slot of an epoch: the slot is closed, the header is written
 // after the gate, and the gate is opened.
-ghost use Rattle.std.specs.Prelude.{◌≡◌, ◌<◌, ◌++◌, ◌∷◌, [], length, take, drop, IfOk, OnOk};
+ghost use Rattle.std.specs.Prelude.{◌≡◌, ◌<◌, ◌++◌, ◌∷◌, [], length, take, drop, IfOk, OnOk, ◌≤◌, ◌+◌};
 ghost use Rattle.disk.specs.Slots.{slot_of, with_slot};
 ghost use Rattle.disk.specs.Moments.{IsSynced, Passes, Follows, CountsFailure};
 ghost use Rattle.ipc_model.specs.store.Store.{epoch_encoding, open_gate, closed_gate, IsClosed};
@@ -30,6 +30,7 @@ fn write_header<D: Disk>(disk: &mut D, slot: Slot, epoch: u64) -> Result<(), Dis
     ensures any_moment { D.honest → IsShut (D.view disk.old) slot
         → Passes (D.view disk.old) (D.view disk.new) (Follows (D.view disk.old) slot IsStillClosed) }
     ensures failures { CountsFailure (D.failed_calls disk.old) (D.failed_calls disk.new) result }
+    ensures calls { D.calls disk.new ≤ D.calls disk.old + 3 }
 {
     cut_after(disk, slot, 1)?;
     write_after(disk, slot, 1, &segment_start(epoch))?;
@@ -47,6 +48,7 @@ pub fn roll_close<D: Disk>(disk: &mut D, epoch: u64) -> Result<(), DiskFault>
     ensures any_moment { D.honest → IsSynced (D.view disk.old) (slot_of_epoch epoch)
         → Passes (D.view disk.old) (D.view disk.new) (Follows (D.view disk.old) (slot_of_epoch epoch) (IsClosing 16)) }
     ensures failures { CountsFailure (D.failed_calls disk.old) (D.failed_calls disk.new) result }
+    ensures calls { D.calls disk.new ≤ D.calls disk.old + 3 }
 {
     close_slot(disk, segment_slot(epoch), SEGMENT_HEADER)
 }
@@ -62,6 +64,7 @@ pub fn roll_head<D: Disk>(disk: &mut D, epoch: u64) -> Result<(), DiskFault>
     ensures any_moment { D.honest → IsShut (D.view disk.old) (slot_of_epoch epoch)
         → Passes (D.view disk.old) (D.view disk.new) (Follows (D.view disk.old) (slot_of_epoch epoch) IsStillClosed) }
     ensures failures { CountsFailure (D.failed_calls disk.old) (D.failed_calls disk.new) result }
+    ensures calls { D.calls disk.new ≤ D.calls disk.old + 3 }
 {
     write_header(disk, segment_slot(epoch), epoch)
 }
@@ -76,6 +79,7 @@ pub fn roll_open<D: Disk>(disk: &mut D, epoch: u64) -> Result<Segment, DiskFault
         → Passes (D.view disk.old) (D.view disk.new) (Follows (D.view disk.old) (slot_of_epoch epoch) HasSomeGate) }
     ensures segment { IfOk result (λ segment. segment ≡ record { epoch = epoch; records = 0 }) }
     ensures failures { CountsFailure (D.failed_calls disk.old) (D.failed_calls disk.new) result }
+    ensures calls { D.calls disk.new ≤ D.calls disk.old + 2 }
 {
     write_gate(disk, segment_slot(epoch), OPEN_GATE)?;
     Ok(Segment { epoch, records: 0 })

@@ -30,6 +30,7 @@ fn store<D: Disk>(disk: &mut D, slot: Slot, encoding: &[u8]) -> Result<(), DiskF
     ensures any_moment { D.honest → IsSynced (D.view disk.old) slot
         → Passes (D.view disk.old) (D.view disk.new) (Follows (D.view disk.old) slot (IsMidStore encoding.now)) }
     ensures failures { CountsFailure (D.failed_calls disk.old) (D.failed_calls disk.new) result }
+    ensures calls { D.calls disk.new ≤ D.calls disk.old + 4 }
 {
     let gate = disk.length(slot).saturating_sub(1);
     disk.write_at(slot, gate + 1, encoding)?;
@@ -59,6 +60,7 @@ impl Segment {
         ensures counted { OnOk result (self.new ≡ record self.old { records = self.old.records + batch.now.count }) }
         ensures room { OnOk result (self.old.records + batch.now.count ≤ MAX_RECORDS) }
         ensures quiet { OnOk result (D.failed_calls disk.new ≡ D.failed_calls disk.old) }
+        ensures calls { D.calls disk.new ≤ D.calls disk.old + 4 }
 
         ensures full { IsErrOf result StoreFault.Full ↔ (MAX_RECORDS < self.old.records + batch.now.count) }
         ensures unchanged { IsErrOf result StoreFault.Full → disk.new ≡ disk.old }

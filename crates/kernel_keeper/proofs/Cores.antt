@@ -13,7 +13,7 @@ use Rattle.ipc_model.specs.declared.record.Record.{Record}
 use Rattle.ipc_model.specs.history.History.{IsAcknowledgedUpTo, Leads, Session, has_ticket, redeemed, redeemed_for_another, redemption}
 use Rattle.ipc_model.specs.state.State.{State}
 use Rattle.kernel_keeper.specs.Keeping.{Applies, BothPastsValue, KernelCoreValue, IsKernelCore, Learns, both_learned, entries_of_call}
-use Rattle.kernel_keeper.specs.Tokens.{IsHistory, entry_by, SessionValue, IsSession, session_of}
+use Rattle.kernel_keeper.specs.Tokens.{IsHistory, entry_by, SessionValue, IsSession, session_of, KeepsRead}
 use Rattle.kernel_keeper.proofs.Calling.{applies, core_after}
 use Rattle.kernel_keeper.proofs.Histories.{did_session}
 use Rattle.system.specs.Halves.{Gives, KernelValue, TicketValue}
@@ -126,6 +126,18 @@ module _ (old new : BothPastsValue) (space : ℕ) (c : Call) where
   both_kept (Ok ticket) kept same learned unlearned =
       kept_by ticket.answer kept (has_record c ticket.answer) refl same learned unlearned
   both_kept (Err fault) kept same learned unlearned = tt
+
+  pub both_reads : {E : Type 0} (P : Type 0) (r : Result TicketValue E) (seen : PastValue) → KeepsRead seen old.mine
+      → IfOk r (λ ticket. has_record c ticket.answer ≡ true → new ≡ both_learned old space c ticket.answer)
+      → IfOk r (λ ticket. has_record c ticket.answer ≡ false → new ≡ old) → OnErr r (P × (new ≡ old))
+      → KeepsRead seen new.mine
+  both_reads P (Ok ticket) seen keeps learned unlearned err =
+      elim (learned_or_not ticket.answer (has_record c ticket.answer) refl learned unlearned) [
+        | inl is ↦ subst (λ (v : BothPastsValue). KeepsRead seen v.mine) (sym is) (record { reads = keeps.reads })
+        | inr is ↦ subst (λ (v : BothPastsValue). KeepsRead seen v.mine) (sym is) keeps
+      ]
+  both_reads P (Err fault) seen keeps learned unlearned err =
+      subst (λ (v : BothPastsValue). KeepsRead seen v.mine) (sym err.1) keeps
 
   pub both_back : {E : Type 0} (P : Type 0) (r : Result TicketValue E) (kept : PastValue) (seen : List Entry)
       → old.kept ≡ kept → old.mine.entries ≡ kept.entries → OnErr r (P × (new ≡ old))

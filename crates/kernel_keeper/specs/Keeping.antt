@@ -59,15 +59,13 @@ first_core kernel epoch records past =
       older = 0;
     }
 
--- What lies under the lock of the kernel: this, and how many sessions were made.
+-- what lies under the lock of the kernel
 pub record KernelKeeperValue : Type 0 where
   pub core : KernelCoreValue
-  pub given : ℕ
 
 abbrev pub keeper_code : Coded KernelKeeperValue
 keeper_code =
-    code_by (KernelCoreValue × ℕ) (coded× kernel_core_code coded_ℕ) (λ k. (k.core, k.given))
-    (λ p. record { core = p.0; given = p.1 }) (λ _. refl)
+    code_by KernelCoreValue kernel_core_code (λ k. k.core) (λ core. record { core = core }) (λ _. refl)
 
 -- the entries of the history that is kept
 abbrev pub entries_in : KernelCoreValue → Option (List Entry)

@@ -89,6 +89,10 @@ pub record Did (base : State) (old : SessionValue) (operation : Operation) (new 
 abbrev pub HasRead : SessionValue → ℕ → SessionValue → Type 0
 HasRead old count new = new ≡ record old { past = record old.past { read = count } }
 
+-- What was read of an entry block stays read as long as the session stays in the block.
+pub record KeepsRead (old new : PastValue) : Type 0 where
+  pub reads : new.blocks ≡ old.blocks → old.read ≤ new.read
+
 -- Two sessions met. Both have then seen the same, of which what either had seen is a prefix, and no place belongs to
 -- both.
 pub record Meets (one other one_after other_after : SessionValue) : Type 0 where

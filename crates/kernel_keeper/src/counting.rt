@@ -5,6 +5,7 @@ ghost use Rattle.ipc_model.specs.history.History.{places_of};
 ghost use Rattle.kernel_keeper.specs.Belonging.{AllBelong, AllCanBelong, Belongs, CanBelong, Match, tasks_of};
 ghost use Rattle.kernel_keeper.specs.Tokens.{IsHistory};
 
+use crate::admissions::Admissions;
 use crate::keeper::KernelKeeper;
 use crate::session::{Session, SessionState};
 use history::{Founding, Past};
@@ -12,8 +13,8 @@ use std::sync::ledger;
 use std::sync::ledger::Share;
 
 impl<L: Founding> KernelKeeper<L> {
-    /// The history and how many sessions were made, if the prefix of it that the store's half knows and all of these
-    /// sessions, by their numbers, belong to it. It takes no memory.
+    /// The history, if the prefix of it that the store's half knows and all of these sessions, by their numbers, belong
+    /// to it. It takes no memory. The admissions tell how many sessions there are.
     ///
     /// `None`: the numbers don't ascend; a session or the store's half is ahead, or isn't seen to be in a prefix of the
     /// history; or more was acknowledged to a session than is stored.
@@ -22,54 +23,46 @@ impl<L: Founding> KernelKeeper<L> {
         known: Past<L>,
         stored: u64,
         sessions: Vec<Session<L>>,
-    ) -> Option<(Past<L>, u32)>
+        admissions: Admissions<L>,
+    ) -> Option<Past<L>>
         ensures matched { IfSome result
-            (λ matched. Match L.base known.entries matched.0.entries stored matched.1 sessions.items) }
-        ensures own { IfSome result (λ matched. (self.core.past ≡ Some matched.0) × (matched.1 ≡ self.given)) }
+            (λ past. Match L.base known.entries past.entries stored admissions sessions.items) }
+        ensures own { IfSome result (λ past. self.core.past ≡ Some past) }
         ensures seen { (past : PastValue) → self.core.past ≡ Some past → known.blocks ≡ past.blocks
             → length known.entries ≤ length past.entries → AllCanBelong past stored 0 sessions.items
             → is_some result ≡ true }
     {
-        match_all(self.into_tally(), known, stored, sessions)
+        match_all(self.into_tally(), known, stored, sessions, admissions)
     }
 }
 
-/// The whole history, how many sessions were made, the book that counts its records, and a share of the ledger: what no
-/// session got, and those of the sessions that were counted.
+/// The whole history, and the book that counts its records.
 #[derive(Drop)]
 pub(crate) struct Tally<L: Founding> {
     pub(crate) past: Past<L>,
-    pub(crate) made: u32,
     pub(crate) book: ledger::Book<L>,
-    pub(crate) share: Share<L>,
 }
 
-/// The history and how many sessions were made, if what the store's half knows and all of these sessions belong to it.
+/// The history, if what the store's half knows and all of these sessions belong to it.
 fn match_all<L: Founding>(
     tally: Tally<L>,
     known: Past<L>,
     stored: u64,
     sessions: Vec<Session<L>>,
-) -> Option<(Past<L>, u32)>
+    admissions: Admissions<L>,
+) -> Option<Past<L>>
     requires history { IsHistory L.base tally.past.entries }
     requires counted { tally.book.total ≡ length tally.past.entries }
-    requires parts { tally.made + tally.share.parts ≡ L.parts }
-    requires amount { tally.share.amount ≡ 0 }
     ensures matched { IfSome result
-        (λ matched. Match L.base known.entries matched.0.entries stored matched.1 sessions.items) }
-    ensures own { IfSome result (λ matched. (matched.0 ≡ tally.past) × (matched.1 ≡ tally.made)) }
+        (λ past. Match L.base known.entries past.entries stored admissions sessions.items) }
+    ensures own { IfSome result (λ past. past ≡ tally.past) }
     ensures seen { known.blocks ≡ tally.past.blocks → length known.entries ≤ length tally.past.entries
         → AllCanBelong tally.past stored 0 sessions.items → is_some result ≡ true }
 {
-    let Tally {
-        past,
-        made,
-        book,
-        share,
-    } = tally;
+    let Tally { past, book } = tally;
     let mut past = past;
     let mut known = known;
-    let mut share = share;
+    let mut share = admissions.into_rest();
     let is_known = begins(&mut known, &mut past);
     drop(known);
     if !is_known || !count_all(sessions, stored, &mut past, &mut share) {
@@ -77,7 +70,7 @@ fn match_all<L: Founding>(
         return None;
     }
     audit(book, share);
-    Some((past, made))
+    Some(past)
 }
 
 /// Says how a share relates to its ledger. It does nothing when it runs.
@@ -158,7 +151,7 @@ fn count<L: Founding>(
         places: _,
         share: own,
     } = own_state;
-    if number <= last || stored < acknowledged {
+    if number <= last || stored < acknowledged.count() {
         return false;
     }
     if !begins(&mut seen, past) {

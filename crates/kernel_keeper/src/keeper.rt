@@ -1,58 +1,46 @@
 ghost use Rattle.std.specs.Prelude.{◌≡◌, ◌⊎◌, ◌+◌, ◌<◌, ◌≤◌, ◌∷◌, [], ◌++◌, Some, false, length, IfOk, IfErr, IfSome, IfNone, IsErrOf, MatchBool, OnErr};
-ghost use Rattle.codes.specs.declared.limits.TheConstants.{MAX_FRAME_CONTENT};
 ghost use Rattle.codes.specs.declared.name.TheConstants.{FIRST_SPACE};
-ghost use Rattle.ipc_model.specs.history.History.{called, looked, redemption, space_after};
-ghost use Rattle.ipc_model.specs.encodings.Encodings.{reply_encoding};
+ghost use Rattle.ipc_model.specs.history.History.{called, looked, space_after};
 ghost use Rattle.ipc_model.specs.state.Circular.{Acyclic};
 ghost use Rattle.ipc_model.specs.state.Lawful.{Lawful};
 ghost use Rattle.kernel_keeper.specs.Keeping.{Ends, IsApart, IsSame, Loads, Makes, entries_in, first_core};
-ghost use Rattle.kernel_keeper.specs.Tokens.{Did, IsHistory};
-ghost use Rattle.kernel_keeper.specs.declared.keeper.TheConstants.{MOST_SESSIONS};
+ghost use Rattle.kernel_keeper.specs.Tokens.{Did, IsHistory, KeepsRead};
 ghost use Rattle.system.specs.Halves.{CanCut, CannotTake, IsFullFor, with_receipt};
 ghost use Rattle.waiting.specs.Places.{names};
 ghost use Rattle.waiting.specs.Waiting.{Wakes, places_of_call};
 
+use crate::acknowledged::Acknowledged;
+use crate::admissions::Admission;
 use crate::counting::Tally;
-use crate::fault::SessionFault;
 use crate::making::KernelCore;
-use crate::numbers::Numbers;
 use crate::session::{Session, SessionState};
-use crate::stored::StoredCount;
 use boxcar::tag::{Names, Tag};
 use codes::FIRST_SPACE;
 use history::{EntryBlock, Founding, Past};
-use ipc_model::{Call, Reply};
+use ipc_model::Call;
 use std::alloc::{AllocError, Global};
 use std::marker::Model;
 use std::sync::Arc;
-use std::sync::ledger::{Blank, Book};
+use std::sync::ledger::Book;
 use store_half::{Finished, Receipt};
 use store_keeper::{End, Load};
+use stored_mark::Stored;
 use system::{Kernel, SubmitFault, Ticket};
 use waiting::Places;
 
-/// How many sessions one history gives at most.
-pub const MOST_SESSIONS: u32 = u32::MAX;
-
-/// What lies under the lock of the kernel: the half that makes calls together with the history, the book that counts
-/// all sessions' records, and the sessions' numbers.
+/// What lies under the lock of the kernel: the half that makes calls together with the history, and the book that counts
+/// all sessions' records.
 pub struct KernelKeeper<L: Founding> {
     core: KernelCore<L>,
     book: Book<L>,
-    numbers: Numbers<L>,
 }
 
 // Written out, so that proofs above know one function and not its parts.
 impl<L: Founding> Drop for KernelKeeper<L> {
     fn drop(self) {
-        let KernelKeeper {
-            core,
-            book,
-            numbers,
-        } = self;
+        let KernelKeeper { core, book } = self;
         drop(core);
         drop(book);
-        drop(numbers);
     }
 }
 
@@ -64,7 +52,7 @@ impl<L: Founding> Model for KernelKeeper<L> {
 
     ghost coded = { keeper_code };
 
-    ghost view = { λ k. record { core = k.core; given = k.numbers } };
+    ghost view = { λ k. record { core = k.core } };
 
     ghost invariant = { λ k. k.book.total ≡ k.core.half.log.made };
 }
@@ -77,18 +65,15 @@ impl<L: Founding> KernelKeeper<L> {
         epoch: u64,
         records: u64,
         past: Past<L>,
-        blank: Blank,
+        book: Book<L>,
     ) -> Self
         requires base { (kernel ≡ L.base) × Lawful L.base × Acyclic L.base }
-        requires none { past.entries ≡ [] }
-        requires blank { (blank.name ≡ L.name) × (blank.parts ≡ L.parts) × (L.parts ≡ MOST_SESSIONS) }
-        ensures { result ≡ record { core = first_core kernel epoch records past; given = 0 } }
+        requires none { (past.entries ≡ []) × (book.total ≡ 0) }
+        ensures { result ≡ record { core = first_core kernel epoch records past } }
     {
-        let (book, rest) = blank.open::<L>();
         KernelKeeper {
             core: KernelCore::new(alloc, kernel, epoch, records, past),
             book,
-            numbers: Numbers::new(rest),
         }
     }
 
@@ -110,11 +95,11 @@ impl<L: Founding> KernelKeeper<L> {
         ensures given { IfOk result.1 (λ ticket. Did L.base session (called call.now ticket.answer) result.0
             × (ticket.seen ≡ result.0.task.seen)) }
         ensures makes { IfOk result.1
-            (λ ticket. Makes self.old.core session.number session.task.space call.now ticket self.new.core
-            × (self.new.given ≡ self.old.given)) }
+            (λ ticket. Makes self.old.core session.number session.task.space call.now ticket self.new.core) }
         ensures full { IsErrOf result.1 SubmitFault.EpochFull → IsFullFor self.old.core.half session.task.space call.now
             ⊎ IsApart self.old.core.past session.past }
         ensures err { OnErr result.1 (Did L.base session looked result.0 × (self.new ≡ self.old)) }
+        ensures reads { KeepsRead session.past result.0.past }
     {
         let Session { own_state, past } = session;
         let before = self.core.made();
@@ -151,66 +136,47 @@ impl<L: Founding> KernelKeeper<L> {
             .places_of_call(session.own_state.space, call)
     }
 
-    /// A new session, of a task that is attached to space 1. It has seen all of the history. `NoMemory`: an allocation
-    /// failed. `Spent`: no number is left.
-    pub fn session(&mut self) -> Result<Session<L>, SessionFault>
+    /// A new session, of a task that is attached to space 1. It has seen all of the history. If an allocation fails, the
+    /// admission comes back.
+    pub fn session(
+        &mut self,
+        admission: Admission<L>,
+        stored: Stored<L>,
+    ) -> Result<Session<L>, Admission<L>>
         ensures new { IfOk result (λ session. (session.task.space ≡ FIRST_SPACE) × (session.task.acknowledged ≡ 0)
             × (session.task.tickets ≡ []) × (session.task.places ≡ [])) }
-        ensures next { IfOk result (λ session. (session.number ≡ self.old.given + 1)
-            × (entries_in self.old.core ≡ Some session.past.entries)
-            × (self.new ≡ record self.old { given = self.old.given + 1 })) }
-        ensures spent { IsErrOf result SessionFault.Spent → self.old.given ≡ MOST_SESSIONS }
-        ensures err { OnErr result (self.new ≡ self.old) }
+        ensures next { IfOk result (λ session. (session.number ≡ admission)
+            × (entries_in self.old.core ≡ Some session.past.entries)) }
+        ensures same { self.new ≡ self.old }
+        ensures err { IfErr result (λ back. back ≡ admission) }
     {
-        let past = self.core.again()?;
-        let Some((number, share)) = self.numbers.next() else {
-            drop(past);
-            return Err(SessionFault::Spent);
+        let Ok(past) = self.core.again() else {
+            return Err(admission);
         };
+        let Admission { number, share } = admission;
         let own_state = SessionState {
             number,
             space: FIRST_SPACE,
-            acknowledged: 0,
+            acknowledged: Acknowledged::none(stored),
             tickets: Tag::empty(),
             places: Tag::empty(),
             share,
         };
         Ok(Session { own_state, past })
     }
-
-    /// The reply of a ticket of this session, once all that its call saw is stored; else the ticket comes back.
-    pub fn redeem(&self, session: Session<L>, ticket: Ticket) -> (Session<L>, Result<Reply, Ticket>)
-        ensures redeemed { IfOk result.1
-            (λ reply. (reply ≡ ticket.answer) × Did L.base session (redemption session.task ticket.seen) result.0) }
-        ensures stored { IfOk result.1 (λ reply. ticket.seen ≤ self.now.core.half.handed) }
-        ensures fits { IfOk result.1 (λ reply. length (reply_encoding reply) ≤ MAX_FRAME_CONTENT) }
-        ensures back { IfErr result.1 (λ kept. (kept ≡ ticket) × (result.0 ≡ session)) }
-        ensures early { OnErr result.1 ((session.task.seen < ticket.seen) ⊎ (self.now.core.half.handed < ticket.seen)) }
-    {
-        session.redeem(ticket, &self.stored())
-    }
 }
 
 impl<L: Founding> KernelKeeper<L> {
-    /// All of the history, and the ledger that counts its records.
+    /// All of the history, and the book that counts its records.
     pub(crate) fn into_tally(self) -> Tally<L>
-        ensures past { (self.core.past ≡ Some result.past) × (result.made ≡ self.given) }
+        ensures past { self.core.past ≡ Some result.past }
         ensures history { IsHistory L.base result.past.entries }
         ensures counted { result.book.total ≡ length result.past.entries }
-        ensures parts { result.made + result.share.parts ≡ L.parts }
-        ensures amount { result.share.amount ≡ 0 }
     {
-        let KernelKeeper {
-            core,
-            book,
-            numbers,
-        } = self;
-        let (made, share) = numbers.into_rest();
+        let KernelKeeper { core, book } = self;
         Tally {
             past: core.into_past(),
-            made,
             book,
-            share,
         }
     }
 
@@ -218,7 +184,7 @@ impl<L: Founding> KernelKeeper<L> {
     /// waits. If an allocation fails, nothing changed.
     pub fn take(&mut self) -> Result<Option<Load<L>>, AllocError>
         ensures taken { IfOk result (λ load. IfSome load
-            (λ load. Loads self.old.core load self.new.core × (self.new.given ≡ self.old.given))) }
+            (λ load. Loads self.old.core load self.new.core)) }
         ensures none { IfOk result (λ load. IfNone load (CannotTake self.old.core.half × (self.new ≡ self.old))) }
         ensures err { OnErr result (self.new ≡ self.old) }
     {
@@ -245,7 +211,6 @@ impl<L: Founding> KernelKeeper<L> {
         ensures not_now { IfOk result
             (λ end. IfNone end ((CanCut self.old.core.half → ⊥) × IsSame self.old.core self.new.core)) }
         ensures err { OnErr result (IsSame self.old.core self.new.core) }
-        ensures given { self.new.given ≡ self.old.given }
     {
         self.core.cut(block)
     }
@@ -263,13 +228,6 @@ impl<L: Founding> KernelKeeper<L> {
         ensures { result ≡ self.now.core.half.log.made }
     {
         self.core.made()
-    }
-
-    /// How many records are stored, according to receipts.
-    pub fn stored(&self) -> StoredCount<L>
-        ensures { result ≡ self.now.core.half.handed }
-    {
-        StoredCount::new(self.core.handed())
     }
 
     /// Whether records wait to be taken.

@@ -2,21 +2,21 @@
 //! history of what it made, and the ledger that counts each session's records. There is no thread and no lock here.
 #![tactic(auto)]
 
+mod acknowledged;
+mod admissions;
 mod both_pasts;
 mod copies;
 mod counting;
-mod fault;
 mod keeper;
 mod making;
 mod meeting;
-mod numbers;
 mod session;
-mod stored;
+mod showing;
 
-pub use fault::SessionFault;
+pub use admissions::{Admission, Admissions, MOST_SESSIONS};
 pub use history::{EntryBlock, Founding, Past};
-pub use keeper::{KernelKeeper, MOST_SESSIONS};
+pub use keeper::KernelKeeper;
 pub use meeting::{Unmet, meet};
 pub use session::Session;
+pub use showing::show_stored;
 pub use store_keeper::{End, Load};
-pub use stored::StoredCount;

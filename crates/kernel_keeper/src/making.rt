@@ -3,7 +3,7 @@ ghost use Rattle.history.specs.Entries.{Begins};
 ghost use Rattle.ipc_model.specs.state.Circular.{Acyclic};
 ghost use Rattle.ipc_model.specs.state.Lawful.{Lawful};
 ghost use Rattle.kernel_keeper.specs.Keeping.{Applies, Ends, IsApart, IsSame, Learns, Loads, Makes, entries_in, entries_of_call, first_core, first_number};
-ghost use Rattle.kernel_keeper.specs.Tokens.{IsHistory};
+ghost use Rattle.kernel_keeper.specs.Tokens.{IsHistory, KeepsRead};
 ghost use Rattle.system.specs.Halves.{CanCut, CannotTake, Gives, IsFullFor, with_receipt};
 ghost use Rattle.waiting.specs.Places.{names};
 ghost use Rattle.waiting.specs.Waiting.{Wakes};
@@ -116,6 +116,7 @@ impl<L: Founding> KernelCore<L> {
         ensures full { IsErrOf result.1 SubmitFault.EpochFull → IsFullFor self.old.half space call.now
             ⊎ IsApart self.old.past seen }
         ensures err { OnErr result.1 (Learns L.base seen.entries result.0.entries × (self.new ≡ self.old)) }
+        ensures reads { KeepsRead seen result.0 }
     {
         let Some(kept) = self.past.take() else {
             unreachable!()
@@ -186,13 +187,6 @@ impl<L: Founding> KernelCore<L> {
         ensures { self.new ≡ record self.old { half = record self.old.half { is_cut = false } } }
     {
         self.half.finished(receipt);
-    }
-
-    /// How many records are stored, according to receipts.
-    pub(crate) fn handed(&self) -> u64
-        ensures { result ≡ self.now.half.handed }
-    {
-        self.handed
     }
 
     /// Whether records wait to be taken.
@@ -310,6 +304,7 @@ fn apply_with_witness<L: Founding>(
         ++ entries_of_call number space call.now ticket) }
     ensures seen { OnOk result.2 (result.1.entries ≡ result.0.entries) }
     ensures begins { Begins seen.entries result.1.entries }
+    ensures reads { KeepsRead seen result.1 }
     ensures more { OnOk result.2 (Begins seen.entries kept.entries) }
     ensures full { IsErrOf result.2 SubmitFault.EpochFull → IsFullFor half.old space call.now
         ⊎ IsApart (Some kept) seen }
@@ -358,6 +353,7 @@ fn level<L: Founding>(mine: &mut Past<L>, kept: &mut Past<L>) -> Result<(), Subm
     ensures blocks { OnOk result (mine.new.blocks ≡ kept.old.blocks) }
     ensures level { OnOk result (mine.new.entries ≡ kept.old.entries) }
     ensures begins { Begins mine.old.entries mine.new.entries }
+    ensures reads { KeepsRead mine.old mine.new }
     ensures full { IsErrOf result SubmitFault.EpochFull → IsApart (Some kept.old) mine.old }
     ensures err { OnErr result ((mine.new.entries ≡ mine.old.entries) ⊎ (mine.new.entries ≡ kept.old.entries)) }
 {

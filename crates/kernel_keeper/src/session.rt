@@ -2,15 +2,16 @@ ghost use Rattle.std.specs.Prelude.{◌≡◌, ◌⊎◌, ◌+◌, ◌≤◌, �
 ghost use Rattle.codes.specs.declared.limits.TheConstants.{MAX_FRAME_CONTENT};
 ghost use Rattle.ipc_model.specs.history.History.{looked, redemption};
 ghost use Rattle.ipc_model.specs.encodings.Encodings.{reply_encoding};
-ghost use Rattle.kernel_keeper.specs.Tokens.{Did, HasRead};
+ghost use Rattle.kernel_keeper.specs.Tokens.{Did, HasRead, KeepsRead};
 
-use crate::stored::StoredCount;
+use crate::acknowledged::Acknowledged;
 use boxcar::tag::Tag;
 use history::{Founding, Past};
 use ipc_model::{Record, Reply};
 use std::alloc::AllocError;
 use std::marker::Model;
 use std::sync::ledger::Share;
+use stored_mark::{Mark, Stored};
 use system::Ticket;
 
 /// A session without what it has seen.
@@ -18,7 +19,7 @@ use system::Ticket;
 pub(crate) struct SessionState<L: Founding> {
     pub(crate) number: u32,
     pub(crate) space: u32,
-    pub(crate) acknowledged: u64,
+    pub(crate) acknowledged: Acknowledged<L>,
 
     // Ghost: for each ticket that its calls were given, how many records its reply saw, and where its own records
     // stand. The share's amount counts these.
@@ -78,17 +79,27 @@ impl<L: Founding> Session<L> {
     pub fn acknowledged(&self) -> u64
         ensures { result ≡ self.now.task.acknowledged }
     {
-        self.own_state.acknowledged
+        self.own_state.acknowledged.count()
     }
 
-    /// The reply of a ticket of this session, if its call saw only records that are stored; else the ticket comes back.
-    pub fn redeem(self, ticket: Ticket, stored: &StoredCount<L>) -> (Self, Result<Reply, Ticket>)
+    /// That as many are stored as were acknowledged to its task.
+    pub fn stored(&mut self, mark: &Mark<L>) -> Stored<L>
+        ensures same { self.new ≡ self.old }
+        ensures stored { self.old.task.acknowledged ≤ result }
+    {
+        self.own_state.acknowledged.stored(mark)
+    }
+
+    /// The reply of a ticket of this session, if its call saw only records that are known to be stored; else the ticket
+    /// comes back. What was acknowledged to the session is stored (`stored`, and `StoreKeeper::covers`).
+    pub fn redeem(self, ticket: Ticket, stored: Stored<L>) -> (Self, Result<Reply, Ticket>)
         ensures redeemed { IfOk result.1
             (λ reply. (reply ≡ ticket.answer) × Did L.base self (redemption self.task ticket.seen) result.0) }
-        ensures stored { IfOk result.1 (λ reply. ticket.seen ≤ stored.now) }
+        ensures stored { IfOk result.1 (λ reply. ticket.seen ≤ stored) }
         ensures fits { IfOk result.1 (λ reply. length (reply_encoding reply) ≤ MAX_FRAME_CONTENT) }
         ensures back { IfErr result.1 (λ kept. (kept ≡ ticket) × (result.0 ≡ self)) }
-        ensures early { OnErr result.1 ((self.task.seen < ticket.seen) ⊎ (stored.now < ticket.seen)) }
+        ensures early { OnErr result.1 ((self.task.seen < ticket.seen) ⊎ (stored < ticket.seen)) }
+        ensures reads { KeepsRead self.past result.0.past }
     {
         let mut session = self;
         let seen = ticket.seen();
@@ -97,7 +108,7 @@ impl<L: Founding> Session<L> {
         }
         match ticket.redeem(stored.count()) {
             Ok(reply) => {
-                session.own_state.acknowledged = session.own_state.acknowledged.max(seen);
+                session.own_state.acknowledged.add(seen, stored);
                 (session, Ok(reply))
             }
             Err(ticket) => (session, Err(ticket)),

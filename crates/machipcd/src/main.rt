@@ -3,7 +3,7 @@
 #![tactic(auto)]
 
 use command_line::{question_in, read_words, tell_about};
-use server::{lone, open_locked};
+use server::{lock_disk, lone};
 use socket_server::serve_locked;
 use std::io::{self, BufReader, BufWriter};
 use std::process::ExitCode;
@@ -33,7 +33,7 @@ fn main(rt: HostRuntime) -> ExitCode {
     if let Some([option, path, store]) = words.as_deref() {
         if option.as_str() == "--socket" {
             let mut output = io::writer(&rt);
-            let locked = open_locked(rt.alloc(), rt, store.as_str());
+            let locked = lock_disk(rt.alloc(), rt, store.as_str());
             let end = serve_locked(rt, path.as_str(), locked, &mut output);
             let mut errors = rt.stderr();
             let _ = end.tell(&mut errors);

@@ -71,6 +71,8 @@ impl Disk for PlainDisk {
 
     ghost failed_calls = { λ plain. plain.failures };
 
+    ghost calls = { λ disk. 0 };
+
     fn failures(&self) -> u64 {
         self.failures
     }

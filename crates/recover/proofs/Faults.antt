@@ -1,13 +1,13 @@
 -- The faults of the functions that open a store.
-use Rattle.std.proofs.Common.{◌≡◌, ◌⊎◌, inl, inr, ℕ, Result, Ok, Err, IfOk, OnErr, OnOk, refl, ap, subst, arith, ◌∙◌}
+use Rattle.std.proofs.Common.{◌≡◌, ◌⊎◌, inl, inr, ℕ, Result, Ok, Err, IfOk, OnErr, OnOk, ap, subst, ◌∙◌}
 use Rattle.std.specs.Prelude.{IsErrOf}
-use Rattle.disk.specs.Moments.{View, one_more}
+use Rattle.disk.specs.Moments.{ReadsOnly, View, one_more}
 use Rattle.disk.specs.Slots.{Slots}
 use Rattle.ipc_model.specs.state.State.{State}
 use Rattle.ipc_model.specs.store.Recovery.{Recovered}
 use Rattle.journal.specs.declared.segment.Segment.{Segment}
 use Rattle.recover.specs.Kept.{IsKept}
-use Rattle.recover.specs.Outcomes.{CountsDevice, OnlyOpeningFaults, OnlyReadingFaults, Opens, ReadsOnly}
+use Rattle.recover.specs.Outcomes.{CountsDevice, OnlyOpeningFaults, OnlyReadingFaults, Opens}
 use Rattle.disk.proofs.Moments.{unchanged_then}
 use Rattle.store_fault.specs.declared.fault.StoreFault.{StoreFault}
 use Rattle.store_fault.specs.declared.fault.StoreFault.TheVariants as fault
@@ -33,22 +33,6 @@ one_of_four (Err f) faults = elim faults [
     | inr memory ↦ inr (inr (inl memory))
   ]
 ]
-
--- no step at all
-pub reads_nothing : (disk : View) → ReadsOnly disk disk
-reads_nothing disk = record {
-  seen = refl;
-  time = record {
-    later = omega arith;
-    past = λ k c le. (λ left. left, λ left. left);
-    since = λ k c after le left. absurd (omega arith);
-  };
-}
-
--- steps that only read, one after the other
-pub reads_then : (old mid new : View) → ReadsOnly old mid → ReadsOnly mid new → ReadsOnly old new
-reads_then old mid new first second =
-    record { seen = second.seen ∙ first.seen; time = unchanged_then old mid new first.time second.time }
 
 -- a fault at an exit
 pub of_memory : {T : Type 0} (r : Result T StoreFault) → r ≡ Err fault.NoMemory → OnlyReadingFaults r

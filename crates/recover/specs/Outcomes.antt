@@ -12,11 +12,6 @@ use Rattle.store_layout.specs.Gates.{HaveLastGates}
 use Rattle.recover.specs.Crashing.{StandForSame}
 use Rattle.recover.specs.Kept.{IsKept}
 
--- Nothing was written: the slots are as they were, and a crash leaves nothing that it might not have left before.
-pub record ReadsOnly (old new : View) : Type 0 where
-  pub seen : new.seen ≡ old.seen
-  pub time : Passes old new (MayLeave old)
-
 -- The device's count of failed calls grows by one at the fault `Device`, and stays otherwise.
 pub record CountsDevice {T : Type 0} (before now : ℕ) (result : Result T StoreFault) : Type 0 where
   pub quiet : OnOk result (now ≡ before)

@@ -1,6 +1,6 @@
 // What a store in use holds, read from its slots.
 ghost use Rattle.std.specs.Prelude.{◌≡◌, ◌⊎◌, List, drop, Err, IfOk, IsErrOf, OnErr, OnOk, MatchBool};
-ghost use Rattle.disk.specs.Moments.{CountsFailure, MayLeave, Passes};
+ghost use Rattle.disk.specs.Moments.{CountsFailure, MayLeave, Passes, ReadsOnly};
 ghost use Rattle.disk.specs.Slots.{slot_of};
 ghost use Rattle.ipc_model.specs.calls.Step.{Run};
 ghost use Rattle.ipc_model.specs.declared.record.Record.{Record};
@@ -9,7 +9,7 @@ ghost use Rattle.ipc_model.specs.store.Recovery.{HoldsImage, IsNew};
 ghost use Rattle.ipc_model.specs.store.Store.{IsClosed, EncodesSegment};
 ghost use Rattle.recover.specs.Found.{HasOwn, ReadsOne};
 ghost use Rattle.recover.specs.Headers.{Says};
-ghost use Rattle.recover.specs.Outcomes.{CountsDevice, OnlyReadingFaults, ReadsOnly};
+ghost use Rattle.recover.specs.Outcomes.{CountsDevice, OnlyReadingFaults};
 ghost use Rattle.recover.specs.Surveyed.{IsUnused};
 ghost use Rattle.slot_steps.specs.Steps.{image_slot as slot_of_image, segment_slot as slot_of_segment};
 ghost use Rattle.store_layout.specs.Standing.{as_written};

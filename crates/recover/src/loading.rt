@@ -1,12 +1,12 @@
 // The state whose image stands in a slot.
 ghost use Rattle.std.specs.Prelude.{◌≡◌, ◌⊎◌, ◌^◌, ◌<◌, ◌++◌, ℕ, List, IfOk, OnErr, IsErrOf, drop, length};
-ghost use Rattle.disk.specs.Moments.{CountsFailure, MayLeave, Passes};
+ghost use Rattle.disk.specs.Moments.{CountsFailure, MayLeave, Passes, ReadsOnly};
 ghost use Rattle.disk.specs.Slots.{slot_of};
 ghost use Rattle.ipc_model.specs.state.State.{State};
 ghost use Rattle.ipc_model.specs.store.Recovery.{HoldsImage, IsImageOf, IsOfEpoch, IsOpen};
 ghost use Rattle.words.specs.Words.{long_word};
 ghost use Rattle.recover.specs.Loaded.{HoldsEncoding};
-ghost use Rattle.recover.specs.Outcomes.{CountsDevice, OnlyReadingFaults, ReadsOnly};
+ghost use Rattle.recover.specs.Outcomes.{CountsDevice, OnlyReadingFaults};
 
 use disk::{Disk, DiskFault, Slot};
 use image::{ImageFault, read};

@@ -1,11 +1,11 @@
 //! What a store holds, as it is found.
 ghost use Rattle.std.specs.Prelude.{◌≡◌, ◌+◌, ◌<◌, IfOk, IsErrOf, OnOk};
-ghost use Rattle.disk.specs.Moments.{one_more};
+ghost use Rattle.disk.specs.Moments.{ReadsOnly, one_more};
 ghost use Rattle.ipc_model.specs.store.Recovery.{IsDamaged, IsOtherVersion};
 ghost use Rattle.recover.specs.Found.{Reads};
 ghost use Rattle.recover.specs.Headers.{Says};
 ghost use Rattle.recover.specs.Looked.{IsLook};
-ghost use Rattle.recover.specs.Outcomes.{CountsDevice, OnlyOpeningFaults, OnlyReadingFaults, ReadsOnly, StandForNone};
+ghost use Rattle.recover.specs.Outcomes.{CountsDevice, OnlyOpeningFaults, OnlyReadingFaults, StandForNone};
 ghost use Rattle.recover.specs.Surveyed.{FitsNext, IsInUse, IsUnused};
 ghost use Rattle.snapshot.specs.Snapshots.{snapshot_of};
 ghost use Rattle.store_layout.specs.Standing.{as_written};
@@ -72,7 +72,7 @@ fn look_in_use<D: Disk>(
 /// The epoch of a store's image, how many records its segments hold, and the state after them.
 fn find<D: Disk>(alloc: Global, disk: &mut D) -> Result<(u64, u64, Kernel), StoreFault>
     ensures reads { D.honest → IfOk result (λ r. Reads (D.view disk.old).seen r.0 r.1 r.2) }
-    ensures seen { D.honest → (D.view disk.new).seen ≡ (D.view disk.old).seen }
+    ensures reads_only { D.honest → ReadsOnly (D.view disk.old) (D.view disk.new) }
     ensures version { D.honest → IsErrOf result StoreFault.Version
         → IsOtherVersion (as_written (D.view disk.old).seen) }
     ensures damaged { D.honest → IsErrOf result StoreFault.Damaged → IsDamaged (as_written (D.view disk.old).seen) }
@@ -108,7 +108,7 @@ fn into_rows(alloc: Global, kernel: Kernel) -> Result<Snapshot, AllocError>
 /// another version. `NoMemory`: out of memory.
 pub fn look<D: Disk>(alloc: Global, disk: &mut D) -> Result<Looked, StoreFault>
     ensures state { IfOk result (λ look. IsLook D.honest (D.view disk.old).seen look) }
-    ensures seen { D.honest → (D.view disk.new).seen ≡ (D.view disk.old).seen }
+    ensures reads_only { D.honest → ReadsOnly (D.view disk.old) (D.view disk.new) }
     ensures version { D.honest → IsErrOf result StoreFault.Version
         → IsOtherVersion (as_written (D.view disk.old).seen) }
     ensures damaged { D.honest → IsErrOf result StoreFault.Damaged → IsDamaged (as_written (D.view disk.old).seen) }

@@ -1,5 +1,6 @@
 ghost use Rattle.std.specs.Prelude.{◌≡◌, ◌⊎◌, ◌≤◌, ℕ, List, IfOk, OnErr, IsErrOf, drop, length};
 ghost use Rattle.disk.specs.Slots.{slot_of};
+ghost use Rattle.disk.specs.Moments.{ReadsOnly};
 ghost use Rattle.ipc_model.specs.calls.Step.{Run, Step};
 ghost use Rattle.ipc_model.specs.declared.record.Record.{Record};
 ghost use Rattle.ipc_model.specs.state.State.{State};
@@ -7,7 +8,7 @@ ghost use Rattle.ipc_model.specs.store.Store.{EncodesBatches};
 ghost use Rattle.journal.specs.Readers.{place_of};
 ghost use Rattle.journal.specs.Windows.{IsOver};
 ghost use Rattle.recover.specs.Replayed.{Replays, ReplaysAll};
-ghost use Rattle.recover.specs.Outcomes.{CountsDevice, OnlyReadingFaults, ReadsOnly};
+ghost use Rattle.recover.specs.Outcomes.{CountsDevice, OnlyReadingFaults};
 
 use crate::value_after::both;
 use disk::{Disk, Slot};

@@ -8,6 +8,7 @@ use Rattle.std.proofs.lemmas.List.Elements.{All-head, All-tail}
 use Rattle.codes.specs.declared.call_number.TheConstants.{MACH_MSG}
 use Rattle.codes.specs.declared.kern_return.KernReturn.{KernReturn}
 use Rattle.codes.specs.declared.kern_return.KernReturn.TheVariants as code
+use Rattle.codes.specs.KernReturn.{all_codes}
 use Rattle.ipc_model.specs.declared.call.NamedType.{NamedType}
 use Rattle.ipc_model.specs.declared.call.ReceiveStatus.{ReceiveStatus}
 use Rattle.ipc_model.specs.declared.call.Reply.{Reply}
@@ -18,7 +19,7 @@ use Rattle.ipc_model.specs.encodings.Encodings.{number_of_reply, FitsReply}
 use Rattle.words.specs.Words.{AreBytes}
 use Rattle.script_words.specs.declared.kind.Kind.{Kind}
 use Rattle.script_words.specs.declared.kind.Kind.TheVariants.{Hexadecimal, Decimal}
-use Rattle.script_words.specs.Codes.{code_word, all_codes}
+use Rattle.script_words.specs.Codes.{code_word}
 use Rattle.script_words.specs.Kinds.{value_word}
 use Rattle.script_printing.specs.Messages.{message_words, optional_words}
 use Rattle.script_printing.specs.Replies.{yes_or_no, kind_word, count_words, status_words, names_words, members_words, outcome_words, received_words, message_reply_words, result_words, reply_words}

@@ -4,6 +4,7 @@ use Rattle.std.specs.Str.{bytes_eq}
 use Rattle.codes.specs.declared.call_number.TheConstants.{MACH_PORT_NAMES, MACH_PORT_TYPE, MACH_PORT_ALLOCATE, MACH_PORT_GET_REFS, MACH_PORT_GET_RECEIVE_STATUS, MACH_PORT_GET_SET_STATUS, MACH_PORT_REQUEST_NOTIFICATION, MACH_PORT_EXTRACT_RIGHT, MACH_MSG, SPACE_CREATE}
 use Rattle.codes.specs.declared.kern_return.KernReturn.{KernReturn}
 use Rattle.codes.specs.declared.kern_return.KernReturn.TheVariants.{Success}
+use Rattle.codes.specs.KernReturn.{all_codes}
 use Rattle.ipc_model.specs.declared.call.NamedType.{NamedType}
 use Rattle.ipc_model.specs.declared.call.ReceiveStatus.{ReceiveStatus}
 use Rattle.ipc_model.specs.declared.call.Reply.{Reply}
@@ -12,7 +13,7 @@ use Rattle.ipc_model.specs.declared.message.RightKind.{RightKind}
 use Rattle.ipc_model.specs.declared.message.RightKind.TheVariants as right
 use Rattle.script_words.specs.declared.kind.Kind.{Kind}
 use Rattle.script_words.specs.declared.kind.Kind.TheVariants.{Hexadecimal, Decimal}
-use Rattle.script_words.specs.Codes.{code_word, all_codes}
+use Rattle.script_words.specs.Codes.{code_word}
 use Rattle.script.specs.Messages.{message_at}
 use Rattle.script.specs.declared.fault.Expected.TheVariants as expected
 use Rattle.script.specs.Reading.{Reading, ◌>>=◌, stop, wanted, value_at, label_at, labelled_at, optional_at, last}

@@ -1,5 +1,5 @@
 -- The names of the return codes in Mach's headers.
-use Rattle.std.specs.Prelude.{ℕ, List, [], ◌∷◌, codes}
+use Rattle.std.specs.Prelude.{ℕ, List, codes}
 use Rattle.codes.specs.declared.kern_return.KernReturn.{KernReturn}
 use Rattle.codes.specs.declared.kern_return.KernReturn.TheVariants as code
 
@@ -35,15 +35,3 @@ code_word code.RcvPortDied = codes "MACH_RCV_PORT_DIED"
 code_word code.RcvInSet = codes "MACH_RCV_IN_SET"
 code_word code.RcvHeaderErrorKernel = codes "MACH_RCV_HEADER_ERROR|MACH_MSG_IPC_KERNEL"
 code_word code.RcvHeaderErrorSpace = codes "MACH_RCV_HEADER_ERROR|MACH_MSG_IPC_SPACE"
-
-abbrev pub all_codes : List KernReturn
-all_codes =
-    code.Success ∷ code.NoSpace ∷ code.InvalidArgument ∷ code.Failure ∷ code.ResourceShortage ∷ code.NotInSet
-    ∷ code.NameExists ∷ code.InvalidName ∷ code.InvalidTask ∷ code.InvalidRight ∷ code.InvalidValue ∷ code.UrefsOverflow
-    ∷ code.InvalidCapability ∷ code.RightExists ∷ code.SendInvalidDest ∷ code.SendTimedOut ∷ code.SendMsgTooSmall ∷
-    code.SendInvalidReply
-    ∷ code.SendInvalidRight ∷ code.SendInvalidMemory ∷ code.SendNoBuffer ∷ code.SendInvalidType ∷ code.SendInvalidHeader
-    ∷ code.RcvInvalidName
-    ∷ code.RcvTimedOut ∷ code.RcvTooLarge ∷ code.RcvPortChanged ∷ code.RcvPortDied ∷ code.RcvInSet ∷
-    code.RcvHeaderErrorKernel
-    ∷ code.RcvHeaderErrorSpace ∷ []

@@ -1,42 +1,9 @@
+ghost use Rattle.codes.specs.KernReturn.{all_codes};
 ghost use Rattle.std.specs.Prelude.{◌≡◌, find};
 ghost use Rattle.std.specs.Str.{bytes_eq};
-ghost use Rattle.script_words.specs.Codes.{code_word, all_codes};
+ghost use Rattle.script_words.specs.Codes.{code_word};
 
 use codes::KernReturn;
-
-const ALL_CODES: [KernReturn; 31] = [
-    KernReturn::Success,
-    KernReturn::NoSpace,
-    KernReturn::InvalidArgument,
-    KernReturn::Failure,
-    KernReturn::ResourceShortage,
-    KernReturn::NotInSet,
-    KernReturn::NameExists,
-    KernReturn::InvalidName,
-    KernReturn::InvalidTask,
-    KernReturn::InvalidRight,
-    KernReturn::InvalidValue,
-    KernReturn::UrefsOverflow,
-    KernReturn::InvalidCapability,
-    KernReturn::RightExists,
-    KernReturn::SendInvalidDest,
-    KernReturn::SendTimedOut,
-    KernReturn::SendMsgTooSmall,
-    KernReturn::SendInvalidReply,
-    KernReturn::SendInvalidRight,
-    KernReturn::SendInvalidMemory,
-    KernReturn::SendNoBuffer,
-    KernReturn::SendInvalidType,
-    KernReturn::SendInvalidHeader,
-    KernReturn::RcvInvalidName,
-    KernReturn::RcvTimedOut,
-    KernReturn::RcvTooLarge,
-    KernReturn::RcvPortChanged,
-    KernReturn::RcvPortDied,
-    KernReturn::RcvInSet,
-    KernReturn::RcvHeaderErrorKernel,
-    KernReturn::RcvHeaderErrorSpace,
-];
 
 /// The name of a code in Mach's headers.
 pub fn code_word(code: KernReturn) -> &'static [u8]
@@ -81,8 +48,6 @@ pub fn code_word(code: KernReturn) -> &'static [u8]
 pub fn code_of_word(word: &[u8]) -> Option<KernReturn>
     ensures { result ≡ find (λ code. bytes_eq (code_word code) word.now) all_codes }
 {
-    ALL_CODES
-        .iter()
-        .copied()
-        .find(|code| code_word(*code) == word)
+    let all = KernReturn::all();
+    all.iter().copied().find(|code| code_word(*code) == word)
 }

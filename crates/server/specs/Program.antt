@@ -1,9 +1,10 @@
 -- How a run of the program for one connection ends: its status, its line of errors, and what was read and written.
 use Rattle.std.specs.Prelude.{◌≡◌, ◌≢◌, ◌⊎◌, ℕ, false, List, [], ◌++◌, Option, Some, Result, Ok, Err, codes}
-use Rattle.disk.specs.Moments.{View}
+use Rattle.disk.specs.Moments.{ReadsOnly, View}
+use Rattle.disk.specs.Slots.{Slots}
 use Rattle.store_fault.specs.Fault as store
 use Rattle.store_fault.specs.declared.fault.StoreFault.{StoreFault}
-use Rattle.store_fault.specs.declared.fault.StoreFault.TheVariants.{Device}
+use Rattle.store_fault.specs.declared.fault.StoreFault.TheVariants.{Damaged, Device, NoMemory, Version}
 use Rattle.server.specs.Keeping.{AloneValue, AnswersKept, BreaksKept, FailsKept, IsHeld, RestsKept}
 use Rattle.frame_service.specs.Serving.{Ends}
 use Rattle.server.specs.declared.program.LoneEnd.{LoneEnd}
@@ -12,6 +13,10 @@ use Rattle.server.specs.declared.lock.LockFault.{LockFault}
 use Rattle.server.specs.declared.lock.LockFault.TheVariants as lock
 use Rattle.frame_service.specs.declared.service.ServeFault.{ServeFault}
 use Rattle.frame_service.specs.declared.service.ServeFault.TheVariants.{Wire, Store}
+use Rattle.ipc_model.specs.store.Recovery.{IsDamaged, IsOtherVersion, Recovered}
+use Rattle.recover.specs.Crashing.{OpensUntil}
+use Rattle.recover.specs.Opened.{OpenedValue}
+use Rattle.store_layout.specs.Standing.{as_written}
 use Rattle.wire.specs.Fault as wire
 
 -- 0: the input was served to its end; 1: a fault, or the store's folder isn't locked; 2: the arguments are not exactly
@@ -45,32 +50,71 @@ unlocked_end lock.InUse = InUse
 unlocked_end lock.Unlockable = Unlockable
 unlocked_end lock.Device = Fault (Store Device)
 
--- the store can't be opened; nothing was read or written
-pub record Unopened (input before : List ℕ) (left written : Option (List ℕ))
+-- why the store on a disk with these slots can't be opened
+pub record IsUnopenable (honest : Type 0) (slots : Slots) (fault : StoreFault) : Type 0 where
+  pub kind : (fault ≡ Device) ⊎ ((fault ≡ Damaged) ⊎ ((fault ≡ NoMemory) ⊎ (fault ≡ Version)))
+  pub damaged : honest → fault ≡ Damaged → IsDamaged (as_written slots)
+  pub version : honest → fault ≡ Version → IsOtherVersion (as_written slots)
+
+-- the store's folder can't be opened; nothing was read or written
+pub record HasNoFolder (input before : List ℕ) (left written : Option (List ℕ))
     (result : Result (Unit {0}) ServeFault) : Type 0 where
-  pub fault : StoreFault
-  pub fault_is : result ≡ Err (Store fault)
+  pub fault : result ≡ Err (Store Device)
   pub unread : left ≡ Some input
   pub unwritten : written ≡ Some before
 
 module _ {D : Type 0} (honest : Type 0) (view : D → View) (input before : List ℕ) (left written : Option (List ℕ)) where
-  -- the store was opened, and a caller that is attached to space 1 was served
-  pub record ServesOpened (result : Result (Unit {0}) ServeFault) : Type 0 where
-    pub old : AloneValue D
-    pub new : AloneValue D
+  -- The store on a disk can't be opened; nothing was read or written. A crash meanwhile leaves what stands for the same
+  -- state, and only a fault of the device may have written anything.
+  pub record Unopened (disk last : D) (result : Result (Unit {0}) ServeFault) : Type 0 where
+    pub fault : StoreFault
+    pub fault_is : result ≡ Err (Store fault)
+    pub why : IsUnopenable honest (view disk).seen fault
+    pub any_moment : honest → OpensUntil (view disk) (view last)
+    pub unchanged : honest → fault ≢ Device → ReadsOnly (view disk) (view last)
+    pub unread : left ≡ Some input
+    pub unwritten : written ≡ Some before
+
+  -- A caller that begins with an opened store, attached to space 1, was served. Unless the store failed, a crash at the
+  -- end leaves the state that it came to.
+  pub record Serves (old new : AloneValue D) (last : D) (result : Result (Unit {0}) ServeFault) : Type 0 where
     pub attached : old.space ≡ 1
     pub works : old.failed ≡ false
     pub held : honest → IsHeld (view old.store.disk) old.kernel
     pub ends : Ends (AnswersKept honest view) (FailsKept honest view) (RestsKept honest view)
         (BreaksKept honest view) old new input before left written result
+    pub closed : last ≡ new.store.disk
+    pub held_at_end : honest → new.failed ≡ false → IsHeld (view last) new.kernel
 
-  abbrev pub IsRun : Result (Unit {0}) ServeFault → Type 0
-  IsRun result = Unopened input before left written result ⊎ ServesOpened result
+  -- an opened store was served by such a caller
+  pub record ServesFrom (opened : OpenedValue D) (last : D) (result : Result (Unit {0}) ServeFault) : Type 0 where
+    pub old : AloneValue D
+    pub new : AloneValue D
+    pub kernel : old.kernel ≡ opened.kernel
+    pub disk : old.store.disk ≡ opened.disk
+    pub serves : Serves old new last result
+
+  -- The store on a disk was opened in the state that its slots stood for, and served from there. A crash during the
+  -- opening leaves what stands for the same state.
+  pub record ServesDisk (disk last : D) (result : Result (Unit {0}) ServeFault) : Type 0 where
+    pub old : AloneValue D
+    pub new : AloneValue D
+    pub recovered : honest → Recovered (as_written (view disk).seen) old.kernel
+    pub any_moment : honest → OpensUntil (view disk) (view old.store.disk)
+    pub serves : Serves old new last result
+
+  -- what a run on a disk comes to, and the disk that it leaves
+  abbrev pub IsRun : D → D → Result (Unit {0}) ServeFault → Type 0
+  IsRun disk last result = Unopened disk last result ⊎ ServesDisk disk last result
+
+  -- what a run in a folder comes to: there is no such folder, or it is a run on the disk of its files
+  abbrev pub RunsInFolder : Result (Unit {0}) ServeFault → Type 0
+  RunsInFolder result = HasNoFolder input before left written result ⊎ ((disk last : D) × IsRun disk last result)
 
   -- how the program ends for this many arguments, or for arguments that can't be read
   abbrev pub EndsAlone : Option ℕ → LoneEnd → Type 0
   EndsAlone words CommandLine = (words ≢ Some 1) × (left ≡ Some input) × (written ≡ Some before)
   EndsAlone words InUse = (words ≡ Some 1) × (left ≡ Some input) × (written ≡ Some before)
   EndsAlone words Unlockable = (words ≡ Some 1) × (left ≡ Some input) × (written ≡ Some before)
-  EndsAlone words Served = (words ≡ Some 1) × IsRun (Ok tt)
-  EndsAlone words (Fault fault) = (words ≡ Some 1) × IsRun (Err fault)
+  EndsAlone words Served = (words ≡ Some 1) × RunsInFolder (Ok tt)
+  EndsAlone words (Fault fault) = (words ≡ Some 1) × RunsInFolder (Err fault)

@@ -13,6 +13,6 @@ pub use frame_service::{Caller, ServeFault, serve, shortage};
 pub use laws::{
     answered_is_stored, breaking_loses_nothing, failure_loses_nothing, frame_is_stored,
 };
-pub use lock::{LockFault, LockFile, lock_folder, open_locked};
-pub use program::{LoneEnd, lone, run_alone};
+pub use lock::{LockFault, LockFile, lock_disk, lock_folder};
+pub use program::{LoneEnd, lone, run_alone, serve_disk};
 pub use system::{Event, Kernel, Opened, Outcome, SubmitFault, System, open};

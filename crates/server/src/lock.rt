@@ -1,5 +1,5 @@
 //! One server at a time: the lock on a store's folder.
-ghost use Rattle.std.specs.Prelude.{◌≡◌, ◌≢◌, IfErr};
+ghost use Rattle.std.specs.Prelude.{◌≡◌, ◌⊎◌, IfErr};
 ghost use Rattle.server.specs.Program.{unlocked_end};
 ghost use Rattle.server.specs.Ending as socket;
 
@@ -9,7 +9,6 @@ use std::alloc::Global;
 use std::fs::{File, TryLockError};
 use std::rt::Files;
 use store_fault::StoreFault;
-use system::{Opened, open};
 
 /// An open file that can be locked against other processes. The lock goes with the file, and with the process.
 pub trait LockFile {
@@ -76,29 +75,25 @@ where
     }
 }
 
-/// Locks a store's folder, and then opens the store. The error is how a run for many connections ends: `InUse` and
-/// `Unlockable`, and nothing of the store was read or written; or `Store`, and it can't be opened.
-pub fn open_locked<F: Files + Drop + Copy>(
+/// Locks a store's folder, and then opens its files as a disk. The error is how a run for many connections ends:
+/// `InUse`, `Unlockable`, or `Store(Device)` if the folder or its files can't be opened. Nothing of the store was read
+/// or written.
+pub fn lock_disk<F: Files + Drop + Copy>(
     alloc: Global,
     files: F,
     folder: &str,
-) -> Result<(F::File, Opened<FileDisk<HostFolder<F>>>), SocketEnd>
+) -> Result<(F::File, FileDisk<HostFolder<F>>), SocketEnd>
 where
     F::File: LockFile,
-    ensures unopened { IfErr result (λ end. end ≢ SocketEnd.Socket) }
+    ensures faults { IfErr result (λ end. (end ≡ SocketEnd.InUse) ⊎ ((end ≡ SocketEnd.Unlockable)
+        ⊎ (end ≡ SocketEnd.Store StoreFault.Device))) }
 {
     let lock = match lock_folder(&files, folder) {
         Ok(lock) => lock,
         Err(fault) => return Err(fault.socket_end()),
     };
-    let Ok(disk) = FileDisk::at(alloc, files, folder) else {
-        return Err(SocketEnd::Store(StoreFault::Device));
-    };
-    match open(alloc, disk) {
-        Ok(opened) => Ok((lock, opened)),
-        Err((fault, disk)) => {
-            drop(disk);
-            Err(SocketEnd::Store(fault))
-        }
+    match FileDisk::at(alloc, files, folder) {
+        Ok(disk) => Ok((lock, disk)),
+        Err(_) => Err(SocketEnd::Store(StoreFault::Device)),
     }
 }

@@ -1,6 +1,6 @@
 ghost use Rattle.std.specs.Prelude.{◌≡◌, ◌++◌, Some, length, codes, option_map, IfErr, IfSome, OnErr, OnOk};
 ghost use Rattle.std.specs.Io.KnownBytes.{Appends};
-ghost use Rattle.server.specs.Program.{EndsAlone, IsRun, ServesOpened, line_of, status_of, words_of};
+ghost use Rattle.server.specs.Program.{EndsAlone, IsRun, RunsInFolder, ServesFrom, line_of, status_of, words_of};
 ghost use Rattle.wire.specs.Writing.{AppendsPart};
 
 use crate::{Alone, LockFile, ServeFault, lock_folder, serve};
@@ -169,46 +169,49 @@ fn serve_folder<'a, F: Files, I: Read, O: Write>(
     output: &mut O,
 ) -> Result<(), ServeFault>
     ensures run { IfSome (I.remaining input.old) (λ bytes. IfSome (O.contents output.old) (λ before.
-        IsRun ⟦<FileDisk<HostFolder<&'a F>> as Disk>⟧.honest ⟦<FileDisk<HostFolder<&'a F>> as Disk>⟧.view bytes before
-        (I.remaining input.new) (O.contents output.new) result)) }
+        RunsInFolder ⟦<FileDisk<HostFolder<&'a F>> as Disk>⟧.honest ⟦<FileDisk<HostFolder<&'a F>> as Disk>⟧.view bytes
+        before (I.remaining input.new) (O.contents output.new) result)) }
 {
     let Ok(disk) = FileDisk::at(alloc, files, folder) else {
         return Err(ServeFault::Store(StoreFault::Device));
     };
-    serve_disk(alloc, disk, input, output)
+    let (served, disk) = serve_disk(alloc, disk, input, output);
+    drop(disk);
+    served
 }
 
-/// Opens the store on a disk, and serves one connection on it.
-fn serve_disk<D: Disk + Drop, I: Read, O: Write>(
+/// Opens the store on a disk, and serves one connection on it: what `lone` does once it has locked the store's folder
+/// and opened its files. The disk comes back.
+///
+/// The state is the one that the disk's slots stood for. `Store`: the store can't be opened (`recover::open` says why),
+/// and then nothing is read or written; or it failed. `Wire`: the connection failed.
+pub fn serve_disk<D: Disk, I: Read, O: Write>(
     alloc: Global,
     disk: D,
     input: &mut I,
     output: &mut O,
-) -> Result<(), ServeFault>
+) -> (Result<(), ServeFault>, D)
     ensures run { IfSome (I.remaining input.old) (λ bytes. IfSome (O.contents output.old) (λ before.
-        IsRun D.honest D.view bytes before (I.remaining input.new) (O.contents output.new) result)) }
+        IsRun D.honest D.view bytes before (I.remaining input.new) (O.contents output.new) disk result.1 result.0)) }
 {
     match open(alloc, disk) {
-        Ok(opened) => {
-            serve_opened(alloc, opened, input, output)?;
-            Ok(())
-        }
-        Err((fault, _)) => Err(ServeFault::Store(fault)),
+        Ok(opened) => serve_opened(alloc, opened, input, output),
+        Err((fault, disk)) => (Err(ServeFault::Store(fault)), disk),
     }
 }
 
-/// Serves one connection on an opened store.
-fn serve_opened<D: Disk + Drop, I: Read, O: Write>(
+/// Serves one connection on an opened store, and returns its disk.
+fn serve_opened<D: Disk, I: Read, O: Write>(
     alloc: Global,
     opened: Opened<D>,
     input: &mut I,
     output: &mut O,
-) -> Result<(), ServeFault>
+) -> (Result<(), ServeFault>, D)
     ensures run { IfSome (I.remaining input.old) (λ bytes. IfSome (O.contents output.old) (λ before.
-        ServesOpened D.honest D.view bytes before (I.remaining input.new) (O.contents output.new) result)) }
+        ServesFrom D.honest D.view bytes before (I.remaining input.new) (O.contents output.new) opened result.1
+        result.0)) }
 {
     let mut caller = Alone::new(alloc, opened);
     let served = serve(alloc, input, output, &mut caller);
-    drop(caller);
-    served
+    (served, caller.into_disk())
 }

@@ -11,16 +11,15 @@ ghost use Rattle.store_keeper.specs.Storing.{StandsFor};
 use crate::guarded::KernelGuarded;
 use crate::shared::Shared;
 use disk::Disk;
-use kernel_keeper::{Founding, KernelKeeper, Past, Session};
+use kernel_keeper::{Admissions, Founding, KernelKeeper, Past, Session};
 use store_keeper::StoreKeeper;
 
-/// What is left once both halves are closed: the disk, how many records of the history are stored there, how many
-/// sessions were made, and the history itself, with the entry blocks that are left of it.
+/// What is left once both halves are closed: the disk, how many records of the history are stored there, and the history
+/// itself, with the entry blocks that are left of it.
 #[derive(Drop)]
 pub struct Book<L: Founding, D: Disk> {
     pub disk: D,
     pub stored: u64,
-    pub made: u32,
     pub past: Past<L>,
 }
 
@@ -33,21 +32,23 @@ pub struct Unmatched<D: Disk> {
 }
 
 /// Closes both halves, and compares what they and these sessions know of the history. It takes no lock and no memory.
-/// The sessions must be in the order of their numbers, the least first.
+/// The sessions must be in the order of their numbers, the least first. The admissions that are left tell whether these
+/// are all sessions: whoever began them held the admissions, so none can have been begun besides.
 ///
 /// `Unmatched`: the numbers don't ascend; a session or the store's half is ahead of the kernel's half, or isn't seen to
 /// be in a prefix of its history; or more was acknowledged to a session than is stored.
 pub fn close<L: Founding, D: Disk, G: Drop>(
     shared: Shared<L, D, G>,
     sessions: Vec<Session<L>>,
+    admissions: Admissions<L>,
 ) -> Result<Book<L, D>, Unmatched<D>>
     ensures history { IfOk result (λ book. IsHistory L.base book.past.entries) }
     ensures seen { IfOk result (λ book. All (λ session. Begins session.past.entries book.past.entries) sessions.items) }
     ensures ascend { IfOk result (λ book. AllPairs (λ one other. one.number < other.number) sessions.items) }
     ensures apart { IfOk result (λ book. AreApart (tasks_of sessions.items)) }
     ensures legal { IfOk result (λ book. AreLegal L.base book.past.entries sessions.items) }
-    ensures most { IfOk result (λ book. length sessions.items ≤ book.made) }
-    ensures all { IfOk result (λ book. length sessions.items ≡ book.made
+    ensures most { IfOk result (λ book. length sessions.items ≤ admissions) }
+    ensures all { IfOk result (λ book. length sessions.items ≡ admissions
         → AreAll (records_of book.past.entries) (tasks_of sessions.items)) }
     ensures acknowledged { IfOk result
         (λ book. All (λ session. session.task.acknowledged ≤ book.stored) sessions.items) }
@@ -58,15 +59,10 @@ pub fn close<L: Founding, D: Disk, G: Drop>(
     let (keeper, store_keeper) = into_halves(shared);
     let stored = store_keeper.stored();
     let (disk, known) = store_keeper.into_parts();
-    let Some((past, made)) = keeper.into_matched(known, stored, sessions) else {
+    let Some(past) = keeper.into_matched(known, stored, sessions, admissions) else {
         return Err(Unmatched { disk, stored });
     };
-    Ok(Book {
-        disk,
-        stored,
-        made,
-        past,
-    })
+    Ok(Book { disk, stored, past })
 }
 
 /// What lies under the two locks.

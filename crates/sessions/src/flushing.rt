@@ -79,12 +79,12 @@ impl<L: Founding, D: Disk, G: Gate> Shared<L, D, G> {
     /// Stores a load as `store` does, unless it comes back to be tried once more.
     fn try_to_store<R: Wait + Clock>(&self, rt: &R, load: Load<L>) -> Result<bool, Load<L>> {
         self.gate.pass(rt, LoopStep::Append);
-        let stored = self.store_keeper.lock(rt).append(load);
-        match stored {
-            Ok(receipt) => {
+        let appended = self.store_keeper.lock(rt).append(rt, &self.mark, load);
+        match appended {
+            Ok((receipt, stored)) => {
                 self.store_changed.notify_all();
                 self.gate.pass(rt, LoopStep::Durable);
-                let stored = self.guarded.lock(rt).learn(receipt);
+                self.guarded.lock(rt).learn(receipt);
                 let side = self.replies.lock(rt).store(stored);
                 self.replies_at(side).notify_all();
                 Ok(true)

@@ -1,13 +1,13 @@
 ghost use Rattle.std.specs.Prelude.{◌≡◌, IfOk, OnErr};
 ghost use Rattle.ipc_model.specs.history.History.{called, looked};
-ghost use Rattle.kernel_keeper.specs.Tokens.{Did};
+ghost use Rattle.kernel_keeper.specs.Tokens.{Did, KeepsRead};
 
 use crate::seat::Bell;
 use crate::waiters::{Waiter, Waiters};
 use codes::{KernReturn, MAX_RECORDS};
 use history::Founding;
 use ipc_model::Call;
-use kernel_keeper::{KernelKeeper, Load, Session, StoredCount};
+use kernel_keeper::{KernelKeeper, Load, Session};
 use std::alloc::Global;
 use store_fault::StoreFault;
 use store_half::Receipt;
@@ -76,6 +76,7 @@ impl<L: Founding> KernelGuarded<L> {
         ensures given { IfOk result.1 (λ ticket. Did L.base session (called call.now ticket.answer) result.0
             × (ticket.seen ≡ result.0.task.seen)) }
         ensures err { OnErr result.1 (Did L.base session looked result.0) }
+        ensures reads { KeepsRead session.past result.0.past }
     {
         let waiter = self.waiters.take(session.number());
         // If no call waits, no place needs to be looked for.
@@ -174,10 +175,9 @@ impl<L: Founding> KernelGuarded<L> {
         self.fault.is_some() || self.is_ended
     }
 
-    /// Learns that the load that was out is stored. Returns how many records are.
-    pub(crate) fn learn(&mut self, receipt: Receipt) -> StoredCount<L> {
+    /// Learns that the load that was out is stored.
+    pub(crate) fn learn(&mut self, receipt: Receipt) {
         self.keeper.durable(receipt);
-        self.keeper.stored()
     }
 
     /// The bell of a call whose turn has come, if it hasn't been rung yet.

@@ -16,6 +16,9 @@ mod waiters;
 pub use closing::{Book, Unmatched, close};
 pub use gate::{Gate, LoopStep, OpenGate};
 pub use guarded::Waited;
-pub use kernel_keeper::{EntryBlock, Founding, MOST_SESSIONS, Session, SessionFault, Unmet, meet};
+pub use kernel_keeper::{
+    Admission, Admissions, EntryBlock, Founding, MOST_SESSIONS, Session, Unmet, meet,
+};
 pub use seat::{Peer, Seat};
 pub use shared::{NotMade, Shared};
+pub use stored_mark::NewMark;

@@ -1,12 +1,13 @@
 //! What calls that wait for their replies know of the store.
 
-use kernel_keeper::{Founding, StoredCount};
+use kernel_keeper::Founding;
+use stored_mark::{Mark, Stored};
 
 /// How many records are stored, and how many were taken to be, of those made since the opening. It has a lock of its
 /// own, held only for a comparison, so that a call that waits for its reply doesn't queue for the kernel's lock.
 #[derive(Drop)]
 pub(crate) struct Replies<L: Founding> {
-    stored: StoredCount<L>,
+    stored: Stored<L>,
     taken: u64,
 
     // The side of the batch that was taken last.
@@ -35,9 +36,9 @@ impl Side {
 
 impl<L: Founding> Replies<L> {
     /// With no record.
-    pub(crate) fn none() -> Self {
+    pub(crate) fn none(stored: Stored<L>) -> Self {
         Replies {
-            stored: StoredCount::none(),
+            stored,
             taken: 0,
             side: Side::Even,
             is_over: false,
@@ -45,8 +46,8 @@ impl<L: Founding> Replies<L> {
     }
 
     /// How many records are stored.
-    pub(crate) fn stored(&self) -> StoredCount<L> {
-        self.stored.again()
+    pub(crate) fn stored(&mut self, mark: &Mark<L>) -> Stored<L> {
+        self.stored.again(mark)
     }
 
     /// A batch was taken to be stored. `taken` records were, it included.
@@ -56,7 +57,7 @@ impl<L: Founding> Replies<L> {
     }
 
     /// The batch that was taken last is stored, and with it `stored` records. Returns the side of its callers.
-    pub(crate) fn store(&mut self, stored: StoredCount<L>) -> Side {
+    pub(crate) fn store(&mut self, stored: Stored<L>) -> Side {
         if self.stored.count() < stored.count() {
             self.stored = stored;
         }

@@ -4,23 +4,22 @@ ghost use Rattle.codes.specs.declared.limits.TheConstants.{MAX_FRAME_CONTENT};
 ghost use Rattle.codes.specs.declared.name.TheConstants.{FIRST_SPACE};
 ghost use Rattle.ipc_model.specs.history.History.{called, looked, redemption};
 ghost use Rattle.ipc_model.specs.encodings.Encodings.{reply_encoding};
-ghost use Rattle.kernel_keeper.specs.Tokens.{Did};
+ghost use Rattle.kernel_keeper.specs.Tokens.{Did, KeepsRead};
 
 use crate::guarded::{KernelGuarded, Waited};
 use crate::replies::{Replies, Side};
 use crate::seat::{Bell, Peer, Seat};
 use disk::Disk;
 use ipc_model::{Call, Reply};
-use kernel_keeper::{
-    EntryBlock, Founding, KernelKeeper, MOST_SESSIONS, Past, Session, SessionFault, StoredCount,
-};
+use kernel_keeper::{Admission, EntryBlock, Founding, KernelKeeper, Past, Session};
 use std::alloc::Global;
-use std::sync::ledger::Blank;
+use std::sync::ledger::Book;
 use std::sync::{Arc, Condvar, Mutex, MutexGuard, Wait};
 use std::thread;
 use std::time::{Clock, Duration};
 use store_fault::StoreFault;
 use store_keeper::StoreKeeper;
+use stored_mark::{Mark, Stored, Storing};
 use system::{Opened, SubmitFault, Ticket};
 
 /// How many milliseconds a thread waits before it tries again after it ran out of memory.
@@ -45,6 +44,9 @@ pub struct Shared<L: Founding, D: Disk, G> {
     pub(crate) store_keeper: Mutex<StoreKeeper<L, D>>,
     pub(crate) replies: Mutex<Replies<L>>,
 
+    // How many records are stored, by what the store's half counted.
+    pub(crate) mark: Mark<L>,
+
     // Waited on under the kernel's lock: that there is something to do for the loop that stores; that no turn is due
     // that it waits for; that there is something to do for the loop that makes images; and that an epoch has begun.
     pub(crate) records: Condvar,
@@ -61,20 +63,25 @@ pub struct Shared<L: Founding, D: Disk, G> {
 }
 
 impl<L: Founding, D: Disk, G: Drop> Shared<L, D, G> {
-    /// Shares an opened store. The history begins in its state, with this entry block. If an allocation fails, the disk
+    /// Shares an opened store. The history begins in its state, with this entry block; this book counts its records
+    /// (`Admissions::open`), and this mark those of them that are stored (`NewMark::named`). If an allocation fails, the disk
     /// comes back.
     pub fn new(
         alloc: Global,
         opened: Opened<D>,
         block: Arc<EntryBlock, Global>,
-        blank: Blank,
+        book: Book<L>,
+        mark: (Mark<L>, Storing<L>),
         gate: G,
     ) -> Result<Self, D>
         requires base { opened.kernel ≡ L.base }
         requires block { arc_value block ≡ L.first }
-        requires blank { (blank.name ≡ L.name) × (blank.parts ≡ L.parts) × (L.parts ≡ MOST_SESSIONS) }
+        requires book { book.total ≡ 0 }
+        requires mark { mark.1 ≡ 0 }
         ensures { IfErr result (λ disk. disk ≡ opened.disk) }
     {
+        let (mark, mut storing) = mark;
+        let known = storing.stored(&mark);
         let mut past = Past::new(alloc, block);
         let Opened {
             kernel,
@@ -86,14 +93,15 @@ impl<L: Founding, D: Disk, G: Drop> Shared<L, D, G> {
             drop(kernel);
             return Err(disk);
         };
-        let store_keeper = StoreKeeper::new(disk, segment, mine);
-        let keeper = KernelKeeper::new(alloc, kernel, segment.epoch, segment.records, past, blank);
+        let store_keeper = StoreKeeper::new(disk, segment, mine, storing);
+        let keeper = KernelKeeper::new(alloc, kernel, segment.epoch, segment.records, past, book);
         Ok(Shared {
             alloc,
             gate,
             guarded: Mutex::new(KernelGuarded::new(alloc, keeper)),
             store_keeper: Mutex::new(store_keeper),
-            replies: Mutex::new(Replies::none()),
+            replies: Mutex::new(Replies::none(known)),
+            mark,
             records: Condvar::new(),
             turns_taken: Condvar::new(),
             images_due: Condvar::new(),
@@ -104,12 +112,19 @@ impl<L: Founding, D: Disk, G: Drop> Shared<L, D, G> {
         })
     }
 
-    /// A new session, of a task that is attached to space 1 and has seen all that was made.
-    pub fn session(&self, rt: &impl Wait) -> Result<Session<L>, SessionFault>
+    /// A new session, of a task that is attached to space 1 and has seen all that was made. If an allocation fails, the
+    /// admission comes back.
+    pub fn session(
+        &self,
+        rt: &impl Wait,
+        admission: Admission<L>,
+    ) -> Result<Session<L>, Admission<L>>
         ensures new { IfOk result (λ session. (session.task.space ≡ FIRST_SPACE) × (session.task.acknowledged ≡ 0)
-            × (session.task.tickets ≡ []) × (session.task.places ≡ [])) }
+            × (session.task.tickets ≡ []) × (session.task.places ≡ []) × (session.number ≡ admission)) }
+        ensures err { IfErr result (λ back. back ≡ admission) }
     {
-        self.guarded.lock(rt).keeper.session()
+        let stored = self.replies.lock(rt).stored(&self.mark);
+        self.guarded.lock(rt).keeper.session(admission, stored)
     }
 
     /// Makes a call of a session, whose ticket keeps its reply. Even if it isn't made, the session may have seen more
@@ -127,6 +142,7 @@ impl<L: Founding, D: Disk, G: Drop> Shared<L, D, G> {
         ensures given { IfOk result.1 (λ ticket. Did L.base session (called call.now ticket.answer) result.0
             × (ticket.seen ≡ result.0.task.seen)) }
         ensures err { OnErr result.1 (Did L.base session looked result.0) }
+        ensures reads { KeepsRead session.past result.0.past }
     {
         let guarded = self.lock_guarded(rt);
         self.make(guarded, session, call, None)
@@ -149,6 +165,7 @@ impl<L: Founding, D: Disk, G: Drop> Shared<L, D, G> {
         ensures given { IfOk result.1 (λ ticket. Did L.base session (called call.now ticket.answer) result.0
             × (ticket.seen ≡ result.0.task.seen)) }
         ensures err { OnErr result.1 (Did L.base session looked result.0) }
+        ensures reads { KeepsRead session.past result.0.past }
     {
         let mut guarded = self.lock_guarded(rt);
         // With the lock held, since whatever is sent now is sent after this check.
@@ -179,6 +196,7 @@ impl<L: Founding, D: Disk, G: Drop> Shared<L, D, G> {
         ensures given { IfOk result.1 (λ ticket. Did L.base session (called call.now ticket.answer) result.0
             × (ticket.seen ≡ result.0.task.seen)) }
         ensures err { OnErr result.1 (Did L.base session looked result.0) }
+        ensures reads { KeepsRead session.past result.0.past }
     {
         let mut guarded = guarded;
         let before = guarded.keeper.made();
@@ -261,17 +279,18 @@ impl<L: Founding, D: Disk, G: Drop> Shared<L, D, G> {
             (λ reply. (reply ≡ ticket.answer) × Did L.base session (redemption session.task ticket.seen) result.0) }
         ensures fits { IfOk result.1 (λ reply. length (reply_encoding reply) ≤ MAX_FRAME_CONTENT) }
         ensures err { OnErr result.1 (result.0 ≡ session) }
+        ensures reads { KeepsRead session.past result.0.past }
     {
         let stored = self.await_reply(rt, ticket.seen());
-        let (session, acknowledged) = session.redeem(ticket, &stored);
+        let (session, acknowledged) = session.redeem(ticket, stored);
         match acknowledged {
             Ok(reply) => (session, Ok(reply)),
             Err(_) => (session, Err(self.fault(rt).unwrap_or(StoreFault::Failed))),
         }
     }
 
-    /// Waits until `seen` records are stored, or nothing is stored any more. Returns how many are.
-    fn await_reply<R: Wait>(&self, rt: &R, seen: u64) -> StoredCount<L> {
+    /// Waits until `seen` records are stored, or nothing is stored any more. Returns what is known to be stored.
+    fn await_reply<R: Wait>(&self, rt: &R, seen: u64) -> Stored<L> {
         let mut replies = self.replies.lock(rt);
         for _ in rt.forever() {
             if !replies.is_awaited(seen) {
@@ -280,7 +299,7 @@ impl<L: Founding, D: Disk, G: Drop> Shared<L, D, G> {
             let due = self.replies_at(replies.side_of(seen));
             replies = due.wait(rt, replies);
         }
-        replies.stored()
+        replies.stored(&self.mark)
     }
 
     /// Where the callers of a batch of this side wait.

@@ -4,10 +4,10 @@ ghost use Rattle.std.specs.Arc.{arc_value};
 
 use crate::asking::allocates_many;
 use crate::expect::same;
-use crate::service::{Service, run_both_loops};
+use crate::service::{Admitting, Service, run_both_loops};
 use crate::shares::{Start, shared_from, start_on};
 use disk::{Disk, MemDisk};
-use sessions::{Founding, OpenGate, Shared};
+use sessions::{Founding, OpenGate};
 use std::alloc::{AllocError, Global};
 use std::marker::Brand;
 use std::sync::Wait;
@@ -77,8 +77,9 @@ fn closed_on<L: Founding + Send + Sync, D: Disk + Drop + Send, R: Threads + Wait
     requires base { start.opened.kernel ≡ L.base }
     requires row { arc_value start.row ≡ L.first }
     requires blank { (start.blank.name ≡ L.name) × (start.blank.parts ≡ L.parts) }
+    requires mark { start.mark ≡ L.table }
 {
-    let shared: Shared<L, D, OpenGate> = shared_from(alloc, start, OpenGate)?;
+    let shared: Admitting<L, D, OpenGate> = shared_from(alloc, start, OpenGate)?;
     closed(rt, alloc, shared, is_turned)
 }
 

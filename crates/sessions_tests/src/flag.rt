@@ -1,7 +1,7 @@
 //! What one thread tells others while they run.
 
 use std::sync::atomic::{AtomicBool, Ordering};
-use std::thread::sleep;
+use std::thread::{sleep, yield_now};
 use std::time::{Clock, Duration};
 
 /// For how many turns of a millisecond a thread waits for what has to come.
@@ -35,6 +35,17 @@ impl Flag {
                 return true;
             }
             sleep(rt, Duration::from_millis(1));
+        }
+        false
+    }
+
+    /// Whether it is set while this thread gives way to others this many times.
+    pub(crate) fn comes_in_turns(&self, turns: u32) -> bool {
+        for _ in 0..turns {
+            if self.is_set() {
+                return true;
+            }
+            yield_now();
         }
         false
     }

@@ -5,14 +5,14 @@ ghost use Rattle.std.specs.Arc.{arc_value};
 use crate::asking::{acknowledged, allocates_many, asked, name_in};
 use crate::expect::same;
 use crate::flag::Flag;
-use crate::service::{Service, run_both_loops};
+use crate::service::{Admitting, Service, run_both_loops};
 use crate::shares::{Start, shared_from, start_on};
 use crate::stop::Stay;
 use codes::MAX_RECORDS;
 use disk::Disk;
 use ipc_model::{Call, Reply};
 use plain_disk::PlainDisk;
-use sessions::{Founding, Gate, LoopStep, Shared};
+use sessions::{Founding, Gate, LoopStep};
 use std::alloc::Global;
 use std::marker::Brand;
 use std::sync::Wait;
@@ -178,8 +178,9 @@ fn seen_on<
     requires base { start.opened.kernel ≡ L.base }
     requires row { arc_value start.row ≡ L.first }
     requires blank { (start.blank.name ≡ L.name) × (start.blank.parts ≡ L.parts) }
+    requires mark { start.mark ≡ L.table }
 {
-    let shared: Shared<L, D, G> = shared_from(alloc, start, gate)?;
+    let shared: Admitting<L, D, G> = shared_from(alloc, start, gate)?;
     fill_alongside_both_loops(rt, &shared, stay, may_store)
 }
 

@@ -4,12 +4,12 @@ ghost use Rattle.std.specs.Arc.{arc_value};
 
 use crate::asking::{allocates_many, asked, name_in};
 use crate::expect::same;
-use crate::service::{Service, run_both_loops};
+use crate::service::{Admitting, Service, run_both_loops};
 use crate::shares::{Start, shared_from, start_on};
 use crate::stop::{Stay, Stop};
 use disk::{Disk, MemDisk};
 use ipc_model::Call;
-use sessions::{Founding, Gate, LoopStep, Shared};
+use sessions::{Founding, Gate, LoopStep};
 use std::alloc::Global;
 use std::marker::Brand;
 use std::sync::Wait;
@@ -86,8 +86,9 @@ fn seen_on<
     requires base { start.opened.kernel ≡ L.base }
     requires row { arc_value start.row ≡ L.first }
     requires blank { (start.blank.name ≡ L.name) × (start.blank.parts ≡ L.parts) }
+    requires mark { start.mark ≡ L.table }
 {
-    let shared: Shared<L, D, G> = shared_from(alloc, start, gate)?;
+    let shared: Admitting<L, D, G> = shared_from(alloc, start, gate)?;
     call_alongside_both_loops(rt, &shared, stay)
 }
 

@@ -3,8 +3,8 @@
 
 use disk::Disk;
 use ipc_model::{Call, Reply};
-use sessions::{Founding, Gate, Session, Shared, close, meet};
-use std::sync::Wait;
+use sessions::{Admissions, Founding, Gate, Session, Shared, close, meet};
+use std::sync::{Mutex, Wait};
 use std::thread::{Threads, join};
 use std::time::Clock;
 use system::Ticket;
@@ -52,11 +52,19 @@ pub(crate) trait Service {
     fn counts_closed(self, sessions: Vec<Self::Session>) -> Option<[u64; 3]>;
 }
 
-impl<L: Founding + Send + Sync, D: Disk + Drop, G: Gate> Service for Shared<L, D, G> {
+/// The two halves of a core, and the admissions of its sessions.
+#[derive(Drop)]
+pub(crate) struct Admitting<L: Founding, D: Disk, G> {
+    pub(crate) shared: Shared<L, D, G>,
+    pub(crate) admissions: Mutex<Admissions<L>>,
+}
+
+impl<L: Founding + Send + Sync, D: Disk + Drop, G: Gate> Service for Admitting<L, D, G> {
     type Session = Session<L>;
 
     fn begin<R: Wait>(&self, rt: &R) -> Option<Session<L>> {
-        self.session(rt).ok()
+        let admission = self.admissions.lock(rt).next()?;
+        self.shared.session(rt, admission).ok()
     }
 
     fn make<R: Wait>(
@@ -65,7 +73,7 @@ impl<L: Founding + Send + Sync, D: Disk + Drop, G: Gate> Service for Shared<L, D
         session: Session<L>,
         call: &Call,
     ) -> (Session<L>, Option<Ticket>) {
-        let (session, made) = self.submit(rt, session, call);
+        let (session, made) = self.shared.submit(rt, session, call);
         (session, made.ok())
     }
 
@@ -75,7 +83,7 @@ impl<L: Founding + Send + Sync, D: Disk + Drop, G: Gate> Service for Shared<L, D
         session: Session<L>,
         ticket: Ticket,
     ) -> (Session<L>, Option<Reply>) {
-        let (session, acknowledged) = self.redeem(rt, session, ticket);
+        let (session, acknowledged) = self.shared.redeem(rt, session, ticket);
         (session, acknowledged.ok())
     }
 
@@ -103,21 +111,24 @@ impl<L: Founding + Send + Sync, D: Disk + Drop, G: Gate> Service for Shared<L, D
     }
 
     fn store_calls<R: Wait + Clock>(&self, rt: &R) {
-        self.flusher(rt);
+        self.shared.flusher(rt);
     }
 
     fn make_images<R: Wait + Clock>(&self, rt: &R, records: u64) {
-        self.checkpointer(rt, records);
+        self.shared.checkpointer(rt, records);
     }
 
     fn end<R: Wait>(&self, rt: &R) {
-        self.stop(rt);
+        self.shared.stop(rt);
     }
 
     fn counts_closed(self, sessions: Vec<Session<L>>) -> Option<[u64; 3]> {
-        match close(self, sessions) {
+        let Admitting { shared, admissions } = self;
+        let admissions = admissions.into_inner();
+        let given = admissions.given();
+        match close(shared, sessions, admissions) {
             Ok(book) => {
-                let counts = [u64::from(book.made), book.past.len() as u64, book.stored];
+                let counts = [u64::from(given), book.past.len() as u64, book.stored];
                 drop(book);
                 Some(counts)
             }

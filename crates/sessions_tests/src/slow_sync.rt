@@ -5,12 +5,12 @@ ghost use Rattle.std.specs.Arc.{arc_value};
 use crate::asking::{acknowledged, name_in};
 use crate::expect::same;
 use crate::flag::Flag;
-use crate::service::Service;
+use crate::service::{Admitting, Service};
 use crate::shares::{Start, shared_from, start_on};
 use crate::stop::Stay;
 use disk::{Disk, DiskFault, MemDisk, Slot};
 use ipc_model::Call;
-use sessions::{Founding, OpenGate, Shared};
+use sessions::{Founding, OpenGate};
 use std::alloc::Global;
 use std::marker::Brand;
 use std::sync::Wait;
@@ -32,6 +32,8 @@ impl<'a, D: Disk, R: Clock> Disk for SlowDisk<'a, D, R> {
     ghost view = { λ slow. D.view slow.disk };
 
     ghost failed_calls = { λ slow. D.failed_calls slow.disk };
+
+    ghost calls = { λ slow. D.calls slow.disk };
 
     fn failures(&self) -> u64 {
         self.disk.failures()
@@ -135,8 +137,9 @@ fn seen_on<L: Founding + Send + Sync, D: Disk + Drop + Send, R: Threads + Wait +
     requires base { start.opened.kernel ≡ L.base }
     requires row { arc_value start.row ≡ L.first }
     requires blank { (start.blank.name ≡ L.name) × (start.blank.parts ≡ L.parts) }
+    requires mark { start.mark ≡ L.table }
 {
-    let shared: Shared<L, D, OpenGate> = shared_from(alloc, start, OpenGate)?;
+    let shared: Admitting<L, D, OpenGate> = shared_from(alloc, start, OpenGate)?;
     call_alongside_the_loop(rt, &shared, is_wanted, stay)
 }
 

@@ -5,8 +5,10 @@ use sessions::{Gate, LoopStep};
 use std::sync::Wait;
 use std::time::Clock;
 
-/// For how many turns of a millisecond a reply mustn't come.
-const TURNS: u32 = 100;
+/// For how many milliseconds, and then how many turns of other threads, a reply mustn't come.
+const MILLISECONDS: u32 = 100;
+
+const TURNS: u32 = 100_000;
 
 /// What becomes of the loop that is held up.
 #[derive(Drop)]
@@ -41,7 +43,8 @@ impl Stay {
     /// reply came nevertheless.
     pub(crate) fn watch<R: Clock>(&self, rt: &R, has_answered: &Flag) -> (bool, bool) {
         let has_come = self.has_come.comes(rt);
-        let came_early = has_answered.comes_within(rt, TURNS);
+        let came_early = has_answered.comes_within(rt, MILLISECONDS)
+            || has_answered.comes_in_turns(TURNS);
         let was_held = has_come && !self.was_late.is_set();
         self.may_go.set();
         (was_held, came_early)

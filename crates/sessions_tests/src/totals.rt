@@ -4,10 +4,10 @@ ghost use Rattle.std.specs.Arc.{arc_value};
 
 use crate::asking::allocates_many;
 use crate::expect::same;
-use crate::service::Service;
+use crate::service::{Admitting, Service};
 use crate::shares::{Start, shared_from, start_on};
 use disk::{Disk, MemDisk};
-use sessions::{Founding, OpenGate, Shared};
+use sessions::{Founding, OpenGate};
 use std::alloc::{AllocError, Global};
 use std::marker::Brand;
 use std::sync::Wait;
@@ -111,8 +111,9 @@ fn totals_on<L: Founding + Send + Sync, D: Disk + Drop + Send, R: Threads + Wait
     requires base { start.opened.kernel ≡ L.base }
     requires row { arc_value start.row ≡ L.first }
     requires blank { (start.blank.name ≡ L.name) × (start.blank.parts ≡ L.parts) }
+    requires mark { start.mark ≡ L.table }
 {
-    let shared: Shared<L, D, OpenGate> = shared_from(alloc, start, OpenGate)?;
+    let shared: Admitting<L, D, OpenGate> = shared_from(alloc, start, OpenGate)?;
     totals(rt, alloc, shared)
 }
 

@@ -5,12 +5,12 @@ ghost use Rattle.std.specs.Arc.{arc_value};
 use crate::asking::{acknowledged, asked, bits_in, name_in};
 use crate::expect::same;
 use crate::flag::Flag;
-use crate::service::Service;
+use crate::service::{Admitting, Service};
 use crate::shares::{Start, shared_from, start_on};
 use crate::stop::{Stay, Stop};
 use disk::{Disk, MemDisk};
 use ipc_model::{Call, Reply};
-use sessions::{Founding, Gate, LoopStep, Shared};
+use sessions::{Founding, Gate, LoopStep};
 use std::alloc::Global;
 use std::marker::Brand;
 use std::sync::Wait;
@@ -134,8 +134,9 @@ fn seen_on<
     requires base { start.opened.kernel ≡ L.base }
     requires row { arc_value start.row ≡ L.first }
     requires blank { (start.blank.name ≡ L.name) × (start.blank.parts ≡ L.parts) }
+    requires mark { start.mark ≡ L.table }
 {
-    let shared: Shared<L, D, G> = shared_from(alloc, start, gate)?;
+    let shared: Admitting<L, D, G> = shared_from(alloc, start, gate)?;
     call_alongside_the_loop(rt, &shared, stay)
 }
 

@@ -1,5 +1,5 @@
 // Each says what a crash at any moment of it may leave, whatever a crash before might have left of the other slots.
-ghost use Rattle.std.specs.Prelude.{◌≡◌, ◌↔◌, ◌⊎◌, ◌≤◌, ◌<◌, ◌∷◌, [], length, take, drop, IsTrue, OnOk, IfOk};
+ghost use Rattle.std.specs.Prelude.{◌≡◌, ◌↔◌, ◌⊎◌, ◌≤◌, ◌<◌, ◌∷◌, [], length, take, drop, IsTrue, OnOk, IfOk, ◌+◌};
 ghost use Rattle.disk.specs.Slots.{slot_of, with_slot, written_at};
 ghost use Rattle.disk.specs.Moments.{CountsFailure, Follows, IsSynced, MayLeave, Passes};
 ghost use Rattle.ipc_model.specs.store.Store.{open_gate, IsClosed};
@@ -16,6 +16,7 @@ pub fn write_gate<D: Disk>(disk: &mut D, slot: Slot, gate: u8) -> Result<(), Dis
     ensures any_moment { D.honest → Passes (D.view disk.old) (D.view disk.new)
         (Follows (D.view disk.old) slot HasSomeGate) }
     ensures failures { CountsFailure (D.failed_calls disk.old) (D.failed_calls disk.new) result }
+    ensures calls { D.calls disk.new ≤ D.calls disk.old + 2 }
 {
     disk.write_at(slot, 0, &[gate])?;
     disk.sync(slot)
@@ -30,6 +31,7 @@ fn needs_closing<D: Disk>(disk: &mut D, slot: Slot, header: usize) -> Result<boo
     ensures seen { D.honest → (D.view disk.new).seen ≡ (D.view disk.old).seen }
     ensures time { D.honest → Passes (D.view disk.old) (D.view disk.new) (MayLeave (D.view disk.old)) }
     ensures failures { CountsFailure (D.failed_calls disk.old) (D.failed_calls disk.new) result }
+    ensures calls { D.calls disk.new ≤ D.calls disk.old + 1 }
 {
     if disk.length(slot) < header as u64 {
         return Ok(true);
@@ -51,6 +53,7 @@ pub fn close_slot<D: Disk>(disk: &mut D, slot: Slot, header: usize) -> Result<()
     ensures any_moment { D.honest → IsSynced (D.view disk.old) slot
         → Passes (D.view disk.old) (D.view disk.new) (Follows (D.view disk.old) slot (IsClosing header)) }
     ensures failures { CountsFailure (D.failed_calls disk.old) (D.failed_calls disk.new) result }
+    ensures calls { D.calls disk.new ≤ D.calls disk.old + 3 }
 {
     if needs_closing(disk, slot, header)? {
         return write_gate(disk, slot, CLOSED_GATE);
@@ -73,6 +76,7 @@ pub fn write_after<D: Disk>(
     ensures any_moment { D.honest → IsShut (D.view disk.old) slot
         → Passes (D.view disk.old) (D.view disk.new) (Follows (D.view disk.old) slot IsStillClosed) }
     ensures failures { CountsFailure (D.failed_calls disk.old) (D.failed_calls disk.new) result }
+    ensures calls { D.calls disk.new ≤ D.calls disk.old + 1 }
 {
     disk.write_at(slot, at, bytes)
 }
@@ -87,6 +91,7 @@ pub fn cut_after<D: Disk>(disk: &mut D, slot: Slot, len: u64) -> Result<(), Disk
     ensures any_moment { D.honest → IsShut (D.view disk.old) slot
         → Passes (D.view disk.old) (D.view disk.new) (Follows (D.view disk.old) slot IsStillClosed) }
     ensures failures { CountsFailure (D.failed_calls disk.old) (D.failed_calls disk.new) result }
+    ensures calls { D.calls disk.new ≤ D.calls disk.old + 1 }
 {
     disk.cut(slot, len)
 }
@@ -98,6 +103,7 @@ pub fn sync_after<D: Disk>(disk: &mut D, slot: Slot) -> Result<(), DiskFault>
     ensures any_moment { D.honest → IsShut (D.view disk.old) slot
         → Passes (D.view disk.old) (D.view disk.new) (Follows (D.view disk.old) slot IsStillClosed) }
     ensures failures { CountsFailure (D.failed_calls disk.old) (D.failed_calls disk.new) result }
+    ensures calls { D.calls disk.new ≤ D.calls disk.old + 1 }
 {
     disk.sync(slot)
 }

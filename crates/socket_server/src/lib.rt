@@ -6,5 +6,5 @@ mod program;
 mod threads;
 mod watch;
 
-pub use program::{serve_locked, serve_opened};
+pub use program::{serve_disk, serve_locked, serve_opened};
 pub use server::SocketEnd;

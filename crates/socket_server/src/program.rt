@@ -1,7 +1,7 @@
-ghost use Rattle.std.specs.Prelude.{◌≡◌, ◌⊎◌, IfErr, OnErr, OnOk};
+ghost use Rattle.std.specs.Prelude.{◌≡◌, ◌⊎◌, IfErr, OnErr, IfOk, OnOk};
 ghost use Rattle.std.specs.Arc.{arc_value};
 ghost use Rattle.std.specs.Io.KnownBytes.{Appends, Keeps};
-ghost use Rattle.socket_server.specs.Reporting.{HasReported, ready_line};
+ghost use Rattle.socket_server.specs.Reporting.{HasReported, HasReportedOf, ready_line};
 ghost use Rattle.wire.specs.Writing.{AppendsPart};
 
 use crate::bound::bind;
@@ -10,7 +10,7 @@ use crate::watch::start_watch;
 use codes::MAX_RECORDS;
 use disk::Disk;
 use server::SocketEnd;
-use sessions::{EntryBlock, Founding, MOST_SESSIONS, OpenGate, Shared};
+use sessions::{Admissions, EntryBlock, Founding, MOST_SESSIONS, NewMark, OpenGate, Shared};
 use std::alloc::{AllocGlobal, Global};
 use std::io::Write;
 use std::marker::Brand;
@@ -22,12 +22,11 @@ use std::sync::{Arc, Wait};
 use std::thread::Threads;
 use std::time::Clock;
 use store_fault::StoreFault;
-use system::Opened;
+use system::{Opened, open};
 use wire::{WireFault, write_bytes};
 
-/// Serves a store that was opened after a lock (`server::open_locked`) at the socket's path, as `serve_opened` does,
-/// and keeps the lock until that has ended, which happens only after a fault. If the store wasn't opened, the run ends
-/// that way, and nothing is written.
+/// Serves the store on a disk, whose folder is locked (`server::lock_disk`), at the socket's path, as `serve_disk` does,
+/// and keeps the lock until that has ended. If the folder isn't locked, the run ends that way, and nothing is written.
 pub fn serve_locked<
     K: Drop,
     D: Disk + Drop + Send + 'static,
@@ -42,17 +41,46 @@ pub fn serve_locked<
         + Sync
         + 'static,
     O: Write,
->(rt: R, path: &str, locked: Result<(K, Opened<D>), SocketEnd>, output: &mut O) -> SocketEnd
+>(rt: R, path: &str, locked: Result<(K, D), SocketEnd>, output: &mut O) -> SocketEnd
     ensures ended { IfErr locked (λ end. (result ≡ end) × Keeps (O.contents output.old) (O.contents output.new)) }
-    ensures acknowledged { OnOk locked (HasReported (O.contents output.old) (O.contents output.new) result) }
+    ensures reported { IfOk locked (λ locked. HasReportedOf D.honest (D.view locked.1).seen (O.contents output.old)
+        (O.contents output.new) result) }
 {
     match locked {
-        Ok((lock, opened)) => {
-            let end = serve_opened(rt, path, opened, output);
+        Ok((lock, disk)) => {
+            let end = serve_disk(rt, path, disk, output);
             drop(lock);
             end
         }
         Err(end) => end,
+    }
+}
+
+/// Opens the store on a disk, and serves it at the socket's path, as `serve_opened` does. The fault of a store that
+/// can't be opened is that of `recover::open`, and then nothing is written. It ends only after a fault.
+pub fn serve_disk<
+    D: Disk + Drop + Send + 'static,
+    R: Threads
+        + Wait
+        + Net<Listener = TcpListener, Stream = TcpStream>
+        + Files
+        + Clock
+        + AllocGlobal
+        + Copy
+        + Send
+        + Sync
+        + 'static,
+    O: Write,
+>(rt: R, path: &str, disk: D, output: &mut O) -> SocketEnd
+    ensures reported { HasReportedOf D.honest (D.view disk).seen (O.contents output.old) (O.contents output.new)
+        result }
+{
+    match open(rt.alloc(), disk) {
+        Ok(opened) => serve_opened(rt, path, opened, output),
+        Err((fault, disk)) => {
+            drop(disk);
+            SocketEnd::Store(fault)
+        }
     }
 }
 
@@ -72,9 +100,9 @@ pub fn serve_opened<
         + 'static,
     O: Write,
 >(rt: R, path: &str, opened: Opened<D>, output: &mut O) -> SocketEnd
-    ensures acknowledged { HasReported (O.contents output.old) (O.contents output.new) result }
+    ensures reported { HasReported (O.contents output.old) (O.contents output.new) result }
 {
-    let (listener, block, path) = match prepare(&rt, path) {
+    let (listener, block, mark, path) = match prepare(&rt, path) {
         Ok(prepared) => prepared,
         Err(end) => {
             drop(opened);
@@ -82,21 +110,25 @@ pub fn serve_opened<
         }
     };
     let blank = Blank::new(u64::from(MOST_SESSIONS));
-    serve_history::<Brand, _, _, _>(rt, path, &listener, opened, block, blank, output)
+    serve_history::<Brand, _, _, _>(rt, path, &listener, opened, block, blank, mark, output)
 }
 
-/// The listener at a socket's path, the entry block of the history's first entries, and the path.
+/// The listener at a socket's path, the entry block of the history's first entries, the mark of what is stored of it, and
+/// the path.
 fn prepare<R: Files + Net + AllocGlobal>(
     rt: &R,
     path: &str,
-) -> Result<(UnixListener, Arc<EntryBlock, Global>, String), SocketEnd>
+) -> Result<(UnixListener, Arc<EntryBlock, Global>, NewMark, String), SocketEnd>
     ensures err { IfErr result (λ end. (end ≡ SocketEnd.Socket) ⊎ (end ≡ SocketEnd.Store StoreFault.NoMemory)) }
 {
     let no_memory = SocketEnd::Store(StoreFault::NoMemory);
     let listener = bind(rt, path).ok_or(SocketEnd::Socket)?;
     let block = first_block(rt.alloc()).ok_or(no_memory)?;
     let path = String::from_str(rt.alloc(), path).or(Err(no_memory))?;
-    Ok((listener, block, path))
+    match NewMark::new(rt.alloc()) {
+        Ok(mark) => Ok((listener, block, mark, path)),
+        Err(_) => Err(no_memory),
+    }
 }
 
 /// The entry block of the history's first entries.
@@ -126,21 +158,25 @@ fn serve_history<
     opened: Opened<D>,
     block: Arc<EntryBlock, Global>,
     blank: Blank,
+    mark: NewMark,
     output: &mut O,
 ) -> SocketEnd
     requires base { opened.kernel ≡ L.base }
     requires block { arc_value block ≡ L.first }
     requires blank { (blank.name ≡ L.name) × (blank.parts ≡ L.parts) × (L.parts ≡ MOST_SESSIONS) }
-    ensures acknowledged { HasReported (O.contents output.old) (O.contents output.new) result }
+    requires mark { mark ≡ L.table }
+    ensures reported { HasReported (O.contents output.old) (O.contents output.new) result }
 {
-    let Ok(shared) = Shared::<L, D, OpenGate>::new(rt.alloc(), opened, block, blank, OpenGate)
+    let (book, admissions) = Admissions::open(blank);
+    let mark = mark.named();
+    let Ok(shared) = Shared::<L, D, OpenGate>::new(rt.alloc(), opened, block, book, mark, OpenGate)
     else {
         return SocketEnd::Store(StoreFault::NoMemory);
     };
     let Ok(shared) = Arc::new(rt.alloc(), shared) else {
         return SocketEnd::Store(StoreFault::NoMemory);
     };
-    serve_shared(rt, path.as_str(), listener, &shared, output)
+    serve_shared(rt, path.as_str(), listener, &shared, admissions, output)
 }
 
 /// Starts the loops and the watcher, says that connections are accepted, and serves them until the store fails.
@@ -162,9 +198,10 @@ fn serve_shared<
     path: &str,
     listener: &UnixListener,
     shared: &Arc<Shared<L, D, OpenGate>, Global>,
+    admissions: Admissions<L>,
     output: &mut O,
 ) -> SocketEnd
-    ensures acknowledged { HasReported (O.contents output.old) (O.contents output.new) result }
+    ensures reported { HasReported (O.contents output.old) (O.contents output.new) result }
 {
     if start_loops(rt, rt.alloc(), shared, path).is_err() {
         return SocketEnd::Socket;
@@ -175,7 +212,7 @@ fn serve_shared<
     if report_ready(output).is_err() {
         return SocketEnd::Socket;
     }
-    SocketEnd::Store(accept(rt, listener, shared, &watch))
+    SocketEnd::Store(accept(rt, listener, shared, &watch, admissions))
 }
 
 /// Says that connections are accepted.

@@ -3,7 +3,7 @@
 use crate::watch::Watch;
 use codes::CHECKPOINT_RECORDS;
 use disk::Disk;
-use sessions::{Founding, OpenGate, Shared};
+use sessions::{Admission, Admissions, Founding, OpenGate, Shared};
 use socket_session::{Connection, SocketPeer, serve_connection};
 use std::alloc::{AllocGlobal, Global};
 use std::io::{self, BufReader, BufWriter};
@@ -30,13 +30,19 @@ pub(crate) fn accept<
     listener: &UnixListener,
     shared: &Arc<Shared<L, D, OpenGate>, Global>,
     watch: &Arc<Watch, Global>,
+    admissions: Admissions<L>,
 ) -> StoreFault {
+    let mut admissions = admissions;
     for stream in listener.incoming() {
         if let Some(fault) = shared.fault(&rt) {
             return fault;
         }
         match stream {
-            Ok(stream) => begin(rt, stream, shared, watch),
+            Ok(stream) => {
+                if let Some(admission) = admissions.next() {
+                    begin(rt, stream, shared, watch, admission);
+                }
+            }
             // No descriptor is left: wait for one.
             Err(_) => thread::sleep(&rt, Duration::from_millis(20)),
         }
@@ -54,12 +60,13 @@ fn begin<
     stream: UnixStream,
     shared: &Arc<Shared<L, D, OpenGate>, Global>,
     watch: &Arc<Watch, Global>,
+    admission: Admission<L>,
 ) {
     let (Ok(mine), Ok(watch)) = (Arc::try_clone(shared), Arc::try_clone(watch)) else {
         return;
     };
     let _ = thread::spawn(&rt, move || {
-        let _ = serve_stream(&rt, &stream, &mine, &watch);
+        let _ = serve_stream(&rt, &stream, &mine, &watch, admission);
         let _ = stream.shutdown(Shutdown::Both);
     });
 }
@@ -85,12 +92,13 @@ fn serve_stream<L: Founding, D: Disk, R: Wait + Clock + AllocGlobal>(
     stream: &UnixStream,
     shared: &Shared<L, D, OpenGate>,
     watch: &Watch,
+    admission: Admission<L>,
 ) -> io::Result<()> {
     stream.set_write_timeout(Some(Duration::from_secs(PATIENCE_SECONDS)))?;
     let mut reader = BufReader::with_capacity(rt.alloc(), READ_BYTES, stream)?;
     let mut writer = BufWriter::new(rt.alloc(), stream)?;
     let accepted = Accepted { stream, watch };
-    let served = serve_connection(rt, shared, &accepted, &mut reader, &mut writer);
+    let served = serve_connection(rt, shared, admission, &accepted, &mut reader, &mut writer);
     if let Some(Err(_)) = served {
         // What the writer still holds then fails at once when it is dropped, and isn't waited for.
         return stream.shutdown(Shutdown::Both);

@@ -4,7 +4,7 @@ ghost use Rattle.socket_session.specs.Serving.{EndsConnection};
 use crate::connected::Connected;
 use disk::Disk;
 use frame_service::{Ahead, ServeFault, serve_asked};
-use sessions::{Founding, Peer, Seat, Shared};
+use sessions::{Admission, Founding, Peer, Seat, Shared};
 use std::alloc::AllocGlobal;
 use std::io::Write;
 use std::sync::Wait;
@@ -18,7 +18,7 @@ pub trait Connection {
     fn peer(&self, session: u32) -> Self::Peer;
 }
 
-/// Serves a connection to its end, as one new session of a shared store: of a task that is attached to space 1. It
+/// Serves a connection to its end, as one new session, by this admission, of a shared store: of a task that is attached to space 1. It
 /// makes no calls but those of the frames that it reads, and writes nothing but their replies, in their order.
 pub fn serve_connection<
     L: Founding,
@@ -31,6 +31,7 @@ pub fn serve_connection<
 >(
     rt: &R,
     shared: &Shared<L, D, G>,
+    admission: Admission<L>,
     connection: &C,
     reader: &mut I,
     writer: &mut W,
@@ -38,7 +39,7 @@ pub fn serve_connection<
     ensures served { IfSome (I.remaining reader.old) (λ input. IfSome (W.contents writer.old)
         (λ before. EndsConnection L.base input before (I.remaining reader.new) (W.contents writer.new) result)) }
 {
-    let Ok(session) = shared.session(rt) else {
+    let Ok(session) = shared.session(rt, admission) else {
         return None;
     };
     let Ok(seat) = Seat::new(rt.alloc(), connection.peer(session.number())) else {

@@ -1,5 +1,6 @@
 // A copy of a store's slots during which no slot's front changed.
 ghost use Rattle.std.specs.Prelude.{◌≡◌, ◌≢◌, ◌<◌, Err, IfErr, IfNone, IfOk, IfSome, IsErrOf, length};
+ghost use Rattle.disk.specs.Moments.{ReadsOnly};
 ghost use Rattle.still_disk.specs.Copying.{counted};
 ghost use Rattle.still_disk.specs.Live.{HasChanged, IsReading, SlotsCopied};
 ghost use Rattle.still_disk.specs.Still.{still_slots};
@@ -119,7 +120,7 @@ pub fn still_copy<D: Disk>(alloc: Global, disk: &mut D) -> Result<StillDisk, Cop
     ensures slots { D.honest → IfOk result (λ copy. still_slots copy ≡ (D.view disk.old).seen) }
     ensures unfailed { IfOk result (λ copy. ⟦<StillDisk as Disk>⟧.failed_calls copy ≡ 0) }
     ensures still { D.honest → result ≢ Err CopyFault.Busy }
-    ensures seen { D.honest → (D.view disk.new).seen ≡ (D.view disk.old).seen }
+    ensures reads_only { D.honest → ReadsOnly (D.view disk.old) (D.view disk.new) }
     ensures failures { D.failed_calls disk.new ≡ counted result (D.failed_calls disk.old) }
 {
     live_copy(alloc, disk)

@@ -41,25 +41,24 @@ pub trait LiveSlots {
         ensures failures { CountsFailure (failed self.old) (failed self.new) result };
 }
 
-/// If nobody else writes to a disk, all moments are alike.
+/// If nobody else writes to a disk, its slots hold the same at all moments, and none of them is written to.
 impl<D: Disk> LiveSlots for D {
-    ghost use Rattle.std.specs.Prelude.{◌≡◌, refl};
-    ghost use Rattle.std.proofs.Common.{◌∙◌};
-    ghost use Rattle.disk.specs.Slots.{Slots};
+    ghost use Rattle.disk.proofs.Moments.{reads_nothing, reads_then};
+    ghost use Rattle.disk.specs.Moments.{ReadsOnly};
 
     ghost honest = { D.honest };
 
-    ghost Moment = { Slots };
+    ghost Moment = { D };
 
-    ghost later = { λ a b. b ≡ a };
+    ghost later = { λ a b. ReadsOnly (D.view a) (D.view b) };
 
-    ghost stays = { λ m. refl };
+    ghost stays = { λ m. reads_nothing (D.view m) };
 
-    ghost joins = { λ a b c first then. then ∙ first };
+    ghost joins = { λ a b c first then. reads_then (D.view a) (D.view b) (D.view c) first then };
 
-    ghost slots = { λ m. m };
+    ghost slots = { λ m. (D.view m).seen };
 
-    ghost now = { λ d. (D.view d).seen };
+    ghost now = { λ d. d };
 
     ghost failed = { λ d. D.failed_calls d };
 

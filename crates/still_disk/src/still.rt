@@ -101,6 +101,8 @@ impl Disk for StillDisk {
 
     ghost failed_calls = { λ copy. copy.failures };
 
+    ghost calls = { λ copy. 0 };
+
     fn failures(&self) -> u64 {
         self.failures
     }

@@ -130,6 +130,7 @@ impl<D: Disk> StoreHalf<D> {
         ensures back { IfErr result (λ fault. fault.1 ≡ batch) }
         ensures failures { MatchResult result (λ _. D.failed_calls self.new.disk ≡ D.failed_calls self.old.disk)
             (λ fault. D.failed_calls self.new.disk ≡ counted_fault fault.0 (D.failed_calls self.old.disk)) }
+        ensures calls { D.calls self.new.disk ≤ D.calls self.old.disk + 4 }
 
         ensures failed { IfErr result (λ fault. fault.0 ≡ StoreFault.Failed ↔ (self.old.failed ≡ true)) }
         ensures full { IfErr result (λ fault. fault.0 ≡ StoreFault.Full
@@ -170,6 +171,7 @@ impl<D: Disk> StoreHalf<D> {
         ensures done { RollCloseDone D.honest D.view self.old self.new result }
         ensures faults { RollCloseFaults D.honest D.view self.old self.new result }
         ensures failures { D.failed_calls self.new.disk ≡ counted result (D.failed_calls self.old.disk) }
+        ensures calls { D.calls self.new.disk ≤ D.calls self.old.disk + 4 }
     {
         if self.failed {
             return Err(StoreFault::Failed);
@@ -193,6 +195,7 @@ impl<D: Disk> StoreHalf<D> {
         ensures done { RollHeadDone D.honest D.view self.old self.new result }
         ensures faults { RollHeadFaults D.honest D.view self.old self.new result }
         ensures failures { D.failed_calls self.new.disk ≡ counted result (D.failed_calls self.old.disk) }
+        ensures calls { D.calls self.new.disk ≤ D.calls self.old.disk + 4 }
     {
         if self.failed {
             return Err(StoreFault::Failed);
@@ -217,6 +220,7 @@ impl<D: Disk> StoreHalf<D> {
         ensures done { RollOpenDone D.honest D.view self.old self.new result }
         ensures faults { RollOpenFaults D.honest D.view self.old self.new result }
         ensures failures { D.failed_calls self.new.disk ≡ counted result (D.failed_calls self.old.disk) }
+        ensures calls { D.calls self.new.disk ≤ D.calls self.old.disk + 4 }
     {
         if self.failed {
             return Err(StoreFault::Failed);
@@ -244,6 +248,7 @@ impl<D: Disk> StoreHalf<D> {
         ensures done { CloseImageDone D.honest D.view self.old self.new result }
         ensures faults { CloseImageFaults D.honest D.view self.old self.new result }
         ensures failures { D.failed_calls self.new.disk ≡ counted result (D.failed_calls self.old.disk) }
+        ensures calls { D.calls self.new.disk ≤ D.calls self.old.disk + 5 }
     {
         if self.failed {
             return Err(StoreFault::Failed);
@@ -271,6 +276,7 @@ impl<D: Disk> StoreHalf<D> {
         ensures done { WritePieceDone D.honest D.view self.old self.new result }
         ensures faults { WritePieceFaults D.honest D.view self.old self.new result }
         ensures failures { D.failed_calls self.new.disk ≡ counted result (D.failed_calls self.old.disk) }
+        ensures calls { D.calls self.new.disk ≤ D.calls self.old.disk + 4 }
     {
         if self.failed {
             return Err(StoreFault::Failed);
@@ -298,6 +304,7 @@ impl<D: Disk> StoreHalf<D> {
         ensures not_now { FinishNotNow self.old self.new result }
         ensures faults { FinishFaults D.honest D.view self.old self.new result }
         ensures failures { D.failed_calls self.new.disk ≡ counted result (D.failed_calls self.old.disk) }
+        ensures calls { D.calls self.new.disk ≤ D.calls self.old.disk + 4 }
     {
         if self.failed {
             return Err(StoreFault::Failed);

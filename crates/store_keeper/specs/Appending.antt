@@ -1,5 +1,5 @@
 -- What storing a load comes to.
-use Rattle.std.specs.Prelude.{◌≡◌, ℕ, ◌+◌, ◌<◌, Result, true, IfErr, IfOk}
+use Rattle.std.specs.Prelude.{◌≡◌, ℕ, ◌+◌, ◌<◌, Result, true, IfErr, IfOk, Err}
 use Rattle.codes.specs.declared.limits.TheConstants.{MAX_RECORDS}
 use Rattle.disk.specs.Moments.{one_more}
 use Rattle.store_fault.specs.declared.fault.StoreFault.TheVariants.{Device, Failed, Full}
@@ -8,13 +8,14 @@ use Rattle.store_keeper.specs.Storing.{LoadValue, StoreKeeperValue}
 use Rattle.store_keeper.specs.declared.fault.NotStored.{NotStored}
 use Rattle.store_keeper.specs.declared.fault.NotStored.TheVariants.{Store}
 
--- a receipt for as many records as the load has, which count as stored from then on; or a fault, and the load again
+-- a receipt for as many records as the load has, and how many are known to be stored from then on; or a fault, and the
+-- load again
 abbrev pub Appended : Type 0
-Appended = Result ℕ (NotStored × LoadValue)
+Appended = Result (ℕ × ℕ) (NotStored × LoadValue)
 
 abbrev pub StoresLoad : {D : Type 0} → StoreKeeperValue D → StoreKeeperValue D → LoadValue → Appended → Type 0
 StoresLoad old new load result =
-    IfOk result (λ receipt. (receipt ≡ load.batch.count) × (new.stored ≡ old.stored + load.batch.count))
+    IfOk result (λ r. (r.0 ≡ load.batch.count) × (new.stored ≡ old.stored + load.batch.count) × (r.1 ≡ new.stored))
 
 abbrev pub GivesLoadBack : {D : Type 0} → StoreKeeperValue D → StoreKeeperValue D → LoadValue → Appended → Type 0
 GivesLoadBack old new load result = IfErr result (λ fault. (fault.1 ≡ load) × (new.stored ≡ old.stored))
@@ -30,6 +31,10 @@ CountsDevice before now result = IfErr result (λ fault. fault.0 ≡ Store Devic
 -- `Failed` says that the device failed earlier
 abbrev pub HadFailed : {D : Type 0} → StoreValue D → Appended → Type 0
 HadFailed old result = IfErr result (λ fault. fault.0 ≡ Store Failed → old.failed ≡ true)
+
+-- once the device has failed, that is the only answer, and nothing changes
+abbrev pub OnlyFails : {D : Type 0} → StoreKeeperValue D → StoreKeeperValue D → LoadValue → Appended → Type 0
+OnlyFails old new load result = old.store.failed ≡ true → (result ≡ Err (Store Failed, load)) × (new ≡ old)
 
 -- `Full` says that the segment in use would hold too many records
 abbrev pub WouldOverfill : {D : Type 0} → StoreValue D → LoadValue → Appended → Type 0

@@ -5,7 +5,7 @@ ghost use Rattle.history.specs.Entries.{Begins, records_of};
 ghost use Rattle.ipc_model.specs.state.Circular.{Acyclic};
 ghost use Rattle.ipc_model.specs.state.Lawful.{Lawful};
 ghost use Rattle.checkpoint_phases.specs.Passed.{IsKept};
-ghost use Rattle.store_keeper.specs.Appending.{CountsDevice, GivesLoadBack, HadFailed, StoresLoad, WouldOverfill, WritesNothingElse};
+ghost use Rattle.store_keeper.specs.Appending.{CountsDevice, GivesLoadBack, HadFailed, OnlyFails, StoresLoad, WouldOverfill, WritesNothingElse};
 ghost use Rattle.store_keeper.specs.Faults.{IsWhyNotStored};
 ghost use Rattle.store_keeper.specs.Storing.{CanBegin, IsNext, IsRecorded, LosesNothing, StandsFor};
 ghost use Rattle.store_half.specs.Values.{begun};
@@ -16,7 +16,10 @@ use disk::Disk;
 use history::{Founding, Past};
 use journal::Segment;
 use std::marker::Model;
+use std::sync::Wait;
+use store_fault::StoreFault;
 use store_half::{Receipt, StoreHalf};
+use stored_mark::{Mark, Stored, Storing};
 
 /// What lies under the lock of the store: the half that stores, and what it knows of the history.
 pub struct StoreKeeper<L: Founding, D: Disk> {
@@ -25,7 +28,7 @@ pub struct StoreKeeper<L: Founding, D: Disk> {
 
     // How many records of the history are stored, and how many led to the state of which a checkpoint under way makes
     // an image.
-    pub(crate) stored: u64,
+    pub(crate) stored: Storing<L>,
     pub(crate) earlier: u64,
 }
 
@@ -35,11 +38,12 @@ impl<L: Founding, D: Disk + Drop> Drop for StoreKeeper<L, D> {
         let StoreKeeper {
             store,
             past,
-            stored: _,
+            stored,
             earlier: _,
         } = self;
         drop(store);
         drop(past);
+        drop(stored);
     }
 }
 
@@ -57,9 +61,11 @@ impl<L: Founding, D: Disk> Model for StoreKeeper<L, D> {
 }
 
 impl<L: Founding, D: Disk> StoreKeeper<L, D> {
-    /// Continues from the disk of an opened store and its segment in use, with the history that begins here.
-    pub fn new(disk: D, segment: Segment, past: Past<L>) -> Self
+    /// Continues from the disk of an opened store and its segment in use, with the history that begins here, and the right
+    /// to count what is stored of it.
+    pub fn new(disk: D, segment: Segment, past: Past<L>, stored: Storing<L>) -> Self
         requires none { past.entries ≡ [] }
+        requires none_stored { stored ≡ 0 }
         requires base { Lawful L.base × Acyclic L.base }
         requires kept { D.honest → IsKept (D.view disk) segment L.base }
         ensures { result ≡ record {
@@ -77,7 +83,7 @@ impl<L: Founding, D: Disk> StoreKeeper<L, D> {
         StoreKeeper {
             store: StoreHalf::new(disk, segment),
             past,
-            stored: 0,
+            stored,
             earlier: 0,
         }
     }
@@ -88,7 +94,18 @@ impl<L: Founding, D: Disk> StoreKeeper<L, D> {
         ensures left { D.honest → (c : Slots) → MayLeave (D.view self.now.store.disk) c
             → StandsFor L.base self.now.stored (records_of self.now.entries) c }
     {
-        self.stored
+        self.stored.count()
+    }
+
+    /// What is known to be stored is: a crash leaves at least that many records.
+    pub fn covers<R: Wait>(&mut self, rt: &R, mark: &Mark<L>, known: Stored<L>)
+        ensures same { self.new ≡ self.old }
+        ensures covered { known ≤ self.old.stored }
+        ensures left { D.honest → (c : Slots) → MayLeave (D.view self.old.store.disk) c
+            → StandsFor L.base known (records_of self.old.entries) c }
+    {
+        let _ = self.stored();
+        self.stored.covers(rt, mark, known);
     }
 
     /// Whether the device failed; then the store has to be opened again.
@@ -117,7 +134,7 @@ impl<L: Founding, D: Disk> StoreKeeper<L, D> {
         ensures { MatchBool result ((self.now.stored < self.now.earlier) × (self.now.store.failed ≡ false))
             ((self.now.earlier ≤ self.now.stored) ⊎ (self.now.store.failed ≡ true)) }
     {
-        self.stored < self.earlier && !self.store.has_failed()
+        self.stored.count() < self.earlier && !self.store.has_failed()
     }
 
     /// The disk of the store.
@@ -163,12 +180,17 @@ impl<L: Founding, D: Disk> StoreKeeper<L, D> {
         self.past.catch_up(past).is_ok()
     }
 
-    /// Stores a load, if it is the next one and its segment is in use: all of it or nothing. At `Ok` it is on the disk.
-    /// Else it comes back.
+    /// Stores a load, if it is the next one and its segment is in use: all of it or nothing. At `Ok` it is on the disk, and
+    /// what comes with its receipt knows for good how many records are stored. Else it comes back.
     ///
-    /// With `Store(Device)` it isn't known whether it is stored until the store is opened again. `Store(Failed)`,
-    /// `Store(Full)`, `NotNow`, `NoMemory`: nothing was written.
-    pub fn append(&mut self, load: Load<L>) -> Result<Receipt, (NotStored, Load<L>)>
+    /// With `Store(Device)` it isn't known whether it is stored until the store is opened again; from then on
+    /// `Store(Failed)` is the only answer. `Store(Full)`, `NotNow`, `NoMemory`: nothing was written.
+    pub fn append<R: Wait>(
+        &mut self,
+        rt: &R,
+        mark: &Mark<L>,
+        load: Load<L>,
+    ) -> Result<(Receipt, Stored<L>), (NotStored, Load<L>)>
         ensures stored { StoresLoad self.old self.new load result }
         ensures next { OnOk result (IsNext self.old.store self.old.stored load) }
         ensures not_now { IfErr result
@@ -176,14 +198,19 @@ impl<L: Founding, D: Disk> StoreKeeper<L, D> {
         ensures back { GivesLoadBack self.old self.new load result }
         ensures unwritten { WritesNothingElse self.old.store self.new.store result }
         ensures quiet { OnOk result (D.failed_calls self.new.store.disk ≡ D.failed_calls self.old.store.disk) }
+        ensures calls { D.calls self.new.store.disk ≤ D.calls self.old.store.disk + 4 }
         ensures device { CountsDevice (D.failed_calls self.old.store.disk) (D.failed_calls self.new.store.disk) result }
         ensures failed { HadFailed self.old.store result }
+        ensures only_failed { OnlyFails self.old self.new load result }
         ensures full { WouldOverfill self.old.store load result }
         ensures faults { IfErr result (λ fault. IsWhyNotStored fault.0) }
         ensures earlier { self.new.earlier ≡ self.old.earlier }
         ensures begins { Begins self.old.entries self.new.entries }
         ensures any_moment { D.honest → LosesNothing D.view L.base self.old self.new }
     {
+        if self.has_failed() {
+            return Err((NotStored::Store(StoreFault::Failed), load));
+        }
         let mut load = load;
         if !self.learn(&mut load.past) {
             return Err((NotStored::NoMemory, load));
@@ -191,7 +218,7 @@ impl<L: Founding, D: Disk> StoreKeeper<L, D> {
         if !self.is_next(&load) {
             return Err((NotStored::NotNow, load));
         }
-        self.store_next(load)
+        self.store_next(rt, mark, load)
     }
 
     /// Whether a load is the next one, and of the segment in use.
@@ -199,13 +226,18 @@ impl<L: Founding, D: Disk> StoreKeeper<L, D> {
         ensures { MatchBool result (IsNext self.now.store self.now.stored load.now)
             (IsNext self.now.store self.now.stored load.now → ⊥) }
     {
-        load.first == self.stored
+        load.first == self.stored.count()
             && load.epoch == self.store.epoch()
             && load.number == self.store.records()
     }
 
     /// Stores the next load.
-    fn store_next(&mut self, load: Load<L>) -> Result<Receipt, (NotStored, Load<L>)>
+    fn store_next<R: Wait>(
+        &mut self,
+        rt: &R,
+        mark: &Mark<L>,
+        load: Load<L>,
+    ) -> Result<(Receipt, Stored<L>), (NotStored, Load<L>)>
         requires next { IsNext self.old.store self.old.stored load }
         requires begins { Begins load.entries self.old.entries }
         ensures stored { StoresLoad self.old self.new load result }
@@ -213,6 +245,7 @@ impl<L: Founding, D: Disk> StoreKeeper<L, D> {
         ensures fault { IfErr result (λ fault. fault.0 ≡ NotStored.NotNow → ⊥) }
         ensures unwritten { WritesNothingElse self.old.store self.new.store result }
         ensures quiet { OnOk result (D.failed_calls self.new.store.disk ≡ D.failed_calls self.old.store.disk) }
+        ensures calls { D.calls self.new.store.disk ≤ D.calls self.old.store.disk + 4 }
         ensures device { CountsDevice (D.failed_calls self.old.store.disk) (D.failed_calls self.new.store.disk) result }
         ensures failed { HadFailed self.old.store result }
         ensures full { WouldOverfill self.old.store load result }
@@ -233,8 +266,8 @@ impl<L: Founding, D: Disk> StoreKeeper<L, D> {
         let _ = self.past.len();
         match self.store.append(batch) {
             Ok(receipt) => {
-                self.stored += count;
-                Ok(receipt)
+                self.stored.add(rt, mark, count);
+                Ok((receipt, self.stored.stored(mark)))
             }
             Err((fault, batch)) => {
                 let load = Load {

@@ -1,5 +1,5 @@
 //! The steps of a checkpoint. A crash at any moment of each of them leaves what is stored.
-ghost use Rattle.std.specs.Prelude.{◌≡◌};
+ghost use Rattle.std.specs.Prelude.{◌+◌, ◌≡◌, ◌≤◌};
 ghost use Rattle.store_keeper.specs.Storing.{LosesNothing};
 ghost use Rattle.store_half.specs.Changes.{CanOpen, CloseImageDone, CloseImageFaults, FinishDone, FinishFaults, FinishNotNow, IsDoneIf, RollCloseDone, RollCloseFaults, RollHeadDone, RollHeadFaults, RollOpenDone, RollOpenFaults, RollsOpen, WritePieceDone, WritePieceFaults};
 ghost use Rattle.store_half.specs.Counting.{counted};
@@ -19,6 +19,7 @@ impl<L: Founding, D: Disk> StoreKeeper<L, D> {
         ensures done { RollCloseDone D.honest D.view self.old.store self.new.store result }
         ensures faults { RollCloseFaults D.honest D.view self.old.store self.new.store result }
         ensures failures { D.failed_calls self.new.store.disk ≡ counted result (D.failed_calls self.old.store.disk) }
+        ensures calls { D.calls self.new.store.disk ≤ D.calls self.old.store.disk + 4 }
         ensures rest { self.new ≡ record self.old { store = self.new.store } }
         ensures any_moment { D.honest → LosesNothing D.view L.base self.old self.new }
     {
@@ -31,6 +32,7 @@ impl<L: Founding, D: Disk> StoreKeeper<L, D> {
         ensures done { RollHeadDone D.honest D.view self.old.store self.new.store result }
         ensures faults { RollHeadFaults D.honest D.view self.old.store self.new.store result }
         ensures failures { D.failed_calls self.new.store.disk ≡ counted result (D.failed_calls self.old.store.disk) }
+        ensures calls { D.calls self.new.store.disk ≤ D.calls self.old.store.disk + 4 }
         ensures rest { self.new ≡ record self.old { store = self.new.store } }
         ensures any_moment { D.honest → LosesNothing D.view L.base self.old self.new }
     {
@@ -45,13 +47,14 @@ impl<L: Founding, D: Disk> StoreKeeper<L, D> {
             (RollsOpen D.honest D.view self.old.store self.new.store) self.new.store result }
         ensures faults { RollOpenFaults D.honest D.view self.old.store self.new.store result }
         ensures failures { D.failed_calls self.new.store.disk ≡ counted result (D.failed_calls self.old.store.disk) }
+        ensures calls { D.calls self.new.store.disk ≤ D.calls self.old.store.disk + 4 }
         ensures rest { self.new ≡ record self.old { store = self.new.store } }
         ensures any_moment { D.honest → LosesNothing D.view L.base self.old self.new }
     {
         if self.store.has_failed() {
             return Err(StoreFault::Failed);
         }
-        if self.stored != self.earlier {
+        if self.stored.count() != self.earlier {
             return Ok(false);
         }
         self.open_next()
@@ -63,6 +66,7 @@ impl<L: Founding, D: Disk> StoreKeeper<L, D> {
         ensures done { RollOpenDone D.honest D.view self.old.store self.new.store result }
         ensures faults { RollOpenFaults D.honest D.view self.old.store self.new.store result }
         ensures failures { D.failed_calls self.new.store.disk ≡ counted result (D.failed_calls self.old.store.disk) }
+        ensures calls { D.calls self.new.store.disk ≤ D.calls self.old.store.disk + 4 }
         ensures rest { self.new ≡ record self.old { store = self.new.store } }
         ensures any_moment { D.honest → LosesNothing D.view L.base self.old self.new }
     {
@@ -76,6 +80,7 @@ impl<L: Founding, D: Disk> StoreKeeper<L, D> {
         ensures done { CloseImageDone D.honest D.view self.old.store self.new.store result }
         ensures faults { CloseImageFaults D.honest D.view self.old.store self.new.store result }
         ensures failures { D.failed_calls self.new.store.disk ≡ counted result (D.failed_calls self.old.store.disk) }
+        ensures calls { D.calls self.new.store.disk ≤ D.calls self.old.store.disk + 5 }
         ensures rest { self.new ≡ record self.old { store = self.new.store } }
         ensures any_moment { D.honest → LosesNothing D.view L.base self.old self.new }
     {
@@ -88,6 +93,7 @@ impl<L: Founding, D: Disk> StoreKeeper<L, D> {
         ensures done { WritePieceDone D.honest D.view self.old.store self.new.store result }
         ensures faults { WritePieceFaults D.honest D.view self.old.store self.new.store result }
         ensures failures { D.failed_calls self.new.store.disk ≡ counted result (D.failed_calls self.old.store.disk) }
+        ensures calls { D.calls self.new.store.disk ≤ D.calls self.old.store.disk + 4 }
         ensures rest { self.new ≡ record self.old { store = self.new.store } }
         ensures any_moment { D.honest → LosesNothing D.view L.base self.old self.new }
     {
@@ -101,6 +107,7 @@ impl<L: Founding, D: Disk> StoreKeeper<L, D> {
         ensures not_now { FinishNotNow self.old.store self.new.store result }
         ensures faults { FinishFaults D.honest D.view self.old.store self.new.store result }
         ensures failures { D.failed_calls self.new.store.disk ≡ counted result (D.failed_calls self.old.store.disk) }
+        ensures calls { D.calls self.new.store.disk ≤ D.calls self.old.store.disk + 4 }
         ensures rest { self.new ≡ record self.old { store = self.new.store } }
         ensures any_moment { D.honest → LosesNothing D.view L.base self.old self.new }
     {

@@ -1,5 +1,5 @@
 //! The steps of a checkpoint, by which a core goes over to the next epoch.
-ghost use Rattle.std.specs.Prelude.{◌≡◌, true, false, MatchBool, IfOk, OnErr};
+ghost use Rattle.std.specs.Prelude.{◌≡◌, true, false, MatchBool, IfOk, OnErr, ◌≤◌, ◌+◌};
 ghost use Rattle.store_half.specs.Changes.{CanFinish, CloseImageDone, CloseImageFaults, FinishFaults, RollCloseDone, RollCloseFaults, RollHeadDone, RollHeadFaults, RollOpenDone, RollOpenFaults, WritePieceDone, WritePieceFaults};
 ghost use Rattle.system.specs.Changes.{BeginsEpoch, FinishesImage};
 ghost use Rattle.system.specs.Counting.{counted};
@@ -34,6 +34,7 @@ impl<D: Disk> System<D> {
         ensures done { RollCloseDone D.honest D.view self.old.store self.new.store result }
         ensures faults { RollCloseFaults D.honest D.view self.old.store self.new.store result }
         ensures failures { D.failed_calls self.new.store.disk ≡ counted result (D.failed_calls self.old.store.disk) }
+        ensures calls { D.calls self.new.store.disk ≤ D.calls self.old.store.disk + 4 }
         ensures rest { self.new ≡ record self.old { store = self.new.store } }
     {
         self.store.roll_close()
@@ -45,6 +46,7 @@ impl<D: Disk> System<D> {
         ensures done { RollHeadDone D.honest D.view self.old.store self.new.store result }
         ensures faults { RollHeadFaults D.honest D.view self.old.store self.new.store result }
         ensures failures { D.failed_calls self.new.store.disk ≡ counted result (D.failed_calls self.old.store.disk) }
+        ensures calls { D.calls self.new.store.disk ≤ D.calls self.old.store.disk + 4 }
         ensures rest { self.new ≡ record self.old { store = self.new.store } }
     {
         self.store.roll_head()
@@ -56,6 +58,7 @@ impl<D: Disk> System<D> {
         ensures done { RollOpenDone D.honest D.view self.old.store self.new.store result }
         ensures faults { RollOpenFaults D.honest D.view self.old.store self.new.store result }
         ensures failures { D.failed_calls self.new.store.disk ≡ counted result (D.failed_calls self.old.store.disk) }
+        ensures calls { D.calls self.new.store.disk ≤ D.calls self.old.store.disk + 4 }
         ensures rest { self.new ≡ record self.old { store = self.new.store } }
     {
         self.store.roll_open()
@@ -68,6 +71,7 @@ impl<D: Disk> System<D> {
         ensures done { CloseImageDone D.honest D.view self.old.store self.new.store result }
         ensures faults { CloseImageFaults D.honest D.view self.old.store self.new.store result }
         ensures failures { D.failed_calls self.new.store.disk ≡ counted result (D.failed_calls self.old.store.disk) }
+        ensures calls { D.calls self.new.store.disk ≤ D.calls self.old.store.disk + 5 }
         ensures rest { self.new ≡ record self.old { store = self.new.store } }
     {
         self.store.close_image(self.alloc)
@@ -79,6 +83,7 @@ impl<D: Disk> System<D> {
         ensures done { WritePieceDone D.honest D.view self.old.store self.new.store result }
         ensures faults { WritePieceFaults D.honest D.view self.old.store self.new.store result }
         ensures failures { D.failed_calls self.new.store.disk ≡ counted result (D.failed_calls self.old.store.disk) }
+        ensures calls { D.calls self.new.store.disk ≤ D.calls self.old.store.disk + 4 }
         ensures rest { self.new ≡ record self.old { store = self.new.store } }
     {
         self.store.write_piece()
@@ -91,6 +96,7 @@ impl<D: Disk> System<D> {
             ((self.old.store.failed ≡ false) × (CanFinish self.old.store.checkpoint → ⊥) × (self.new ≡ self.old))) }
         ensures faults { FinishFaults D.honest D.view self.old.store self.new.store result }
         ensures failures { D.failed_calls self.new.store.disk ≡ counted result (D.failed_calls self.old.store.disk) }
+        ensures calls { D.calls self.new.store.disk ≤ D.calls self.old.store.disk + 4 }
         ensures rest { OnErr result (self.new ≡ record self.old { store = self.new.store }) }
     {
         let Some(finished) = self.store.finish()? else {

@@ -1,9 +1,9 @@
 //! The events of a core, one by one and in lists.
-ghost use Rattle.std.specs.Prelude.{◌≡◌, IfOk, OnErr};
+ghost use Rattle.std.specs.Prelude.{◌≡◌, IfOk, OnErr, ◌≤◌, ◌+◌};
 ghost use Rattle.ipc_model.specs.state.State.{State};
 ghost use Rattle.ipc_model.specs.world.World.{World};
 ghost use Rattle.system.specs.Core.{IsNumbered, RunsThrough, Simulates, StandsFor};
-ghost use Rattle.system.specs.Counting.{counted_event, counted_events};
+ghost use Rattle.system.specs.Counting.{counted_event, counted_events, most_calls};
 
 use crate::event::{Event, Outcome};
 use crate::kernel_half::SubmitFault;
@@ -16,12 +16,14 @@ impl<D: Disk> System<D> {
     /// One event, which is one of the specified events (`Simulates`): its answer is one that the specification allows,
     /// and the core stands for the world after it. On an honest disk, a crash at any moment of it leaves the state
     /// after a prefix of the calls that are applied after it, no fewer than were acknowledged before it; a crash after
-    /// it, no fewer than were acknowledged after it.
+    /// it, no fewer than were acknowledged after it. It makes four calls of the device at most, and where it closes an
+    /// image's slot five (`most_calls`).
     pub fn step(&mut self, event: &Event) -> Outcome
         ensures steps { Simulates D.honest D.view event.now result self.old self.new }
         ensures number { IsNumbered self.old result }
         ensures failures { D.failed_calls self.new.store.disk
             ≡ counted_event result (D.failed_calls self.old.store.disk) }
+        ensures calls { D.calls self.new.store.disk ≤ D.calls self.old.store.disk + most_calls event.now }
     {
         match event {
             Event::Submit { space, call } => self.submit_event(*space, call),
@@ -62,6 +64,8 @@ impl<D: Disk> System<D> {
         ensures number { IsNumbered self.old result }
         ensures failures { D.failed_calls self.new.store.disk
             ≡ counted_event result (D.failed_calls self.old.store.disk) }
+        ensures calls { D.calls self.new.store.disk
+            ≤ D.calls self.old.store.disk + most_calls (Event.Submit space call.now) }
     {
         match self.submit(space, call) {
             Ok(number) => Outcome::Ticket(number),
@@ -75,6 +79,7 @@ impl<D: Disk> System<D> {
         ensures number { IsNumbered self.old result }
         ensures failures { D.failed_calls self.new.store.disk
             ≡ counted_event result (D.failed_calls self.old.store.disk) }
+        ensures calls { D.calls self.new.store.disk ≤ D.calls self.old.store.disk + most_calls Event.Take }
     {
         if self.take() {
             return Outcome::Done;
@@ -87,6 +92,7 @@ impl<D: Disk> System<D> {
         ensures number { IsNumbered self.old result }
         ensures failures { D.failed_calls self.new.store.disk
             ≡ counted_event result (D.failed_calls self.old.store.disk) }
+        ensures calls { D.calls self.new.store.disk ≤ D.calls self.old.store.disk + most_calls Event.Append }
     {
         match self.append() {
             Ok(true) => Outcome::Done,
@@ -100,6 +106,7 @@ impl<D: Disk> System<D> {
         ensures number { IsNumbered self.old result }
         ensures failures { D.failed_calls self.new.store.disk
             ≡ counted_event result (D.failed_calls self.old.store.disk) }
+        ensures calls { D.calls self.new.store.disk ≤ D.calls self.old.store.disk + most_calls Event.Durable }
     {
         if self.durable() {
             return Outcome::Done;
@@ -112,6 +119,7 @@ impl<D: Disk> System<D> {
         ensures number { IsNumbered self.old result }
         ensures failures { D.failed_calls self.new.store.disk
             ≡ counted_event result (D.failed_calls self.old.store.disk) }
+        ensures calls { D.calls self.new.store.disk ≤ D.calls self.old.store.disk + most_calls (Event.Reply ticket) }
     {
         match self.reply(ticket) {
             Some(reply) => Outcome::Reply(reply),
@@ -124,6 +132,7 @@ impl<D: Disk> System<D> {
         ensures number { IsNumbered self.old result }
         ensures failures { D.failed_calls self.new.store.disk
             ≡ counted_event result (D.failed_calls self.old.store.disk) }
+        ensures calls { D.calls self.new.store.disk ≤ D.calls self.old.store.disk + most_calls Event.Cut }
     {
         match self.cut() {
             Ok(true) => Outcome::Done,
@@ -137,6 +146,7 @@ impl<D: Disk> System<D> {
         ensures number { IsNumbered self.old result }
         ensures failures { D.failed_calls self.new.store.disk
             ≡ counted_event result (D.failed_calls self.old.store.disk) }
+        ensures calls { D.calls self.new.store.disk ≤ D.calls self.old.store.disk + most_calls Event.RollClose }
     {
         match self.roll_close() {
             Ok(true) => Outcome::Done,
@@ -150,6 +160,7 @@ impl<D: Disk> System<D> {
         ensures number { IsNumbered self.old result }
         ensures failures { D.failed_calls self.new.store.disk
             ≡ counted_event result (D.failed_calls self.old.store.disk) }
+        ensures calls { D.calls self.new.store.disk ≤ D.calls self.old.store.disk + most_calls Event.RollHead }
     {
         match self.roll_head() {
             Ok(true) => Outcome::Done,
@@ -163,6 +174,7 @@ impl<D: Disk> System<D> {
         ensures number { IsNumbered self.old result }
         ensures failures { D.failed_calls self.new.store.disk
             ≡ counted_event result (D.failed_calls self.old.store.disk) }
+        ensures calls { D.calls self.new.store.disk ≤ D.calls self.old.store.disk + most_calls Event.RollOpen }
     {
         match self.roll_open() {
             Ok(true) => Outcome::Done,
@@ -176,6 +188,7 @@ impl<D: Disk> System<D> {
         ensures number { IsNumbered self.old result }
         ensures failures { D.failed_calls self.new.store.disk
             ≡ counted_event result (D.failed_calls self.old.store.disk) }
+        ensures calls { D.calls self.new.store.disk ≤ D.calls self.old.store.disk + most_calls Event.ImageClose }
     {
         match self.close_image() {
             Ok(true) => Outcome::Done,
@@ -189,6 +202,7 @@ impl<D: Disk> System<D> {
         ensures number { IsNumbered self.old result }
         ensures failures { D.failed_calls self.new.store.disk
             ≡ counted_event result (D.failed_calls self.old.store.disk) }
+        ensures calls { D.calls self.new.store.disk ≤ D.calls self.old.store.disk + most_calls Event.Piece }
     {
         match self.write_piece() {
             Ok(true) => Outcome::Done,
@@ -202,6 +216,7 @@ impl<D: Disk> System<D> {
         ensures number { IsNumbered self.old result }
         ensures failures { D.failed_calls self.new.store.disk
             ≡ counted_event result (D.failed_calls self.old.store.disk) }
+        ensures calls { D.calls self.new.store.disk ≤ D.calls self.old.store.disk + most_calls Event.Finish }
     {
         match self.finish() {
             Ok(true) => Outcome::Done,

@@ -2,10 +2,11 @@ ghost use Rattle.std.specs.Prelude.{◌≡◌, ◌⊎◌, ◌+◌, ◌-◌, ◌<
 ghost use Rattle.std.specs.FinMap as map;
 ghost use Rattle.codes.specs.declared.limits.TheConstants.{MAX_FRAME_CONTENT, MAX_RECORDS};
 ghost use Rattle.ipc_model.specs.encodings.Encodings.{reply_encoding};
-ghost use Rattle.ipc_model.specs.world.World.{first_world};
+ghost use Rattle.ipc_model.specs.world.World.{World, acknowledged, first_world};
+ghost use Rattle.ipc_model.specs.state.State.{State};
 ghost use Rattle.system.specs.Calling.{Calls, FailsToStoreAll, IsResting, StoresAll};
 ghost use Rattle.system.specs.Changes.{Answers, CannotAppend, FailsToStore, FindsFull, HandsIn, IsFullNow, IsNotDue, Stores, Submits, Takes};
-ghost use Rattle.system.specs.Core.{StandsFor, first_system};
+ghost use Rattle.system.specs.Core.{StandsFor, StandsFrom, first_system};
 ghost use Rattle.system.specs.Counting.{counted, counted_call};
 ghost use Rattle.system.specs.Faults.{NotCalled};
 ghost use Rattle.system.specs.Halves.{CannotTake, TicketValue};
@@ -148,9 +149,13 @@ impl<D: Disk> System<D> {
         }
     }
 
-    /// The disk of the store, which is closed. What isn't stored is lost.
+    /// The disk of the store, which is closed. What isn't stored is lost. What its slots hold, also after a fault of the
+    /// device, stands for the state after a prefix of the calls that were applied, no fewer than were acknowledged: an
+    /// opening finds just that.
     pub fn into_disk(self) -> D
-        ensures { result ≡ self.store.disk }
+        ensures disk { result ≡ self.store.disk }
+        ensures reopens { D.honest → (base : State) (world : World) → StandsFor D.honest D.view base world self
+            → StandsFrom base (acknowledged world) world (D.view result).seen }
     {
         let System {
             alloc: _,
@@ -216,6 +221,7 @@ impl<D: Disk> System<D> {
             ⊎ (((fault ≡ StoreFault.Device) × FailsToStore D.honest D.view self.old self.new)
             ⊎ ((fault ≡ StoreFault.Full) × FindsFull self.old self.new))) }
         ensures failures { D.failed_calls self.new.store.disk ≡ counted result (D.failed_calls self.old.store.disk) }
+        ensures calls { D.calls self.new.store.disk ≤ D.calls self.old.store.disk + 4 }
     {
         if self.store.has_failed() {
             return Err(StoreFault::Failed);
@@ -288,6 +294,7 @@ impl<D: Disk> System<D> {
         ensures full { IsErrOf result (CallFault.Submit SubmitFault.EpochFull) → IsFullNow self.old space call.now }
         ensures failures { D.failed_calls self.new.store.disk
             ≡ counted_call result (D.failed_calls self.old.store.disk) }
+        ensures calls { D.calls self.new.store.disk ≤ D.calls self.old.store.disk + 4 }
     {
         let number = self.submit(space, call)?;
         self.store_waiting()?;
@@ -312,6 +319,7 @@ impl<D: Disk> System<D> {
         ensures faults { IfErr result (λ fault. (fault ≡ StoreFault.Device)
             × FailsToStoreAll D.honest D.view self.old self.new) }
         ensures failures { D.failed_calls self.new.store.disk ≡ counted result (D.failed_calls self.old.store.disk) }
+        ensures calls { D.calls self.new.store.disk ≤ D.calls self.old.store.disk + 4 }
     {
         if !self.take() {
             return Ok(());

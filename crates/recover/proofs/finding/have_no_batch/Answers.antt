@@ -1,6 +1,7 @@
+use Rattle.disk.proofs.Moments.{reads_nothing}
 use Rattle.std.proofs.Common.{Err, ap, refl, ◌∙◌}
 use Rattle.std.proofs.lemmas.Result.{err_from_is_err_and}
-use Rattle.recover.proofs.Faults.{counts_device, counts_ok, counts_same, reads_nothing}
+use Rattle.recover.proofs.Faults.{counts_device, counts_ok, counts_same}
 use Rattle.recover.proofs.finding.have_no_batch.Goals as goal
 
 -- refused, so nothing is claimed of a new store

@@ -1,11 +1,12 @@
 use Rattle.std.proofs.Common.{◌%◌, Err, ap, drop, sym, subst, ◌∙◌}
 use Rattle.std.proofs.lemmas.Result.{IfOk-weaker, err_from_is_err_and}
 use Rattle.disk.specs.Slots.{Slots, slot_of}
+use Rattle.disk.proofs.Moments.{reads_then}
 use Rattle.ipc_model.specs.store.Recovery.{HoldsImage, IsOfEpoch}
 use Rattle.ipc_model.specs.store.Store.{EncodesBatches}
 use Rattle.recover.specs.Replayed.{ReplaysAll}
 use Rattle.slot_steps.specs.Steps.{image_slot, segment_slot}
-use Rattle.recover.proofs.Faults.{counts_passed, counts_then, none_in_error, reads_then}
+use Rattle.recover.proofs.Faults.{counts_passed, counts_then, none_in_error}
 use Rattle.recover.proofs.Ways.{no_run, reads_one}
 use Rattle.recover.proofs.finding.read_epoch.Goals as goal
 

@@ -1,5 +1,6 @@
 use Rattle.std.proofs.Common.{ap, sym, subst, ◌∙◌}
 use Rattle.std.proofs.lemmas.Result.{err_from_is_err_and}
+use Rattle.disk.proofs.Moments.{reads_only, reads_then}
 use Rattle.disk.specs.Moments.{one_more}
 use Rattle.disk.specs.Slots.{Slots}
 use Rattle.ipc_model.specs.store.Recovery.{Recovered}
@@ -82,8 +83,9 @@ returns-in_err-headers-clause-quiet g c =
     let p = err_from_is_err_and c.from_residual.result c.from_residual.ensures.1 in
     none_at_error _ c.from_residual.result _ p.1
 
-pub returns-in_err-headers-clause-seen : goal.returns-in_err-headers-clause-seen
-returns-in_err-headers-clause-seen g c = λ honest. c.read_headers.ensures.seen honest
+pub returns-in_err-headers-clause-reads_only : goal.returns-in_err-headers-clause-reads_only
+returns-in_err-headers-clause-reads_only g c =
+    λ honest. reads_only _ _ (c.read_headers.ensures.seen honest) (c.read_headers.ensures.time honest)
 
 pub returns-in_err-survey_store-clause-reads : goal.returns-in_err-survey_store-clause-reads
 returns-in_err-survey_store-clause-reads g c =
@@ -96,8 +98,9 @@ returns-in_err-survey_store-clause-quiet g c =
     let p = err_from_is_err_and c.from_residual-in_err-survey_store.result c.from_residual-in_err-survey_store.ensures.1
     in none_at_error _ c.from_residual-in_err-survey_store.result _ p.1
 
-pub returns-in_err-survey_store-clause-seen : goal.returns-in_err-survey_store-clause-seen
-returns-in_err-survey_store-clause-seen g c = λ honest. c.in_ok-headers.ensures.seen honest
+pub returns-in_err-survey_store-clause-reads_only : goal.returns-in_err-survey_store-clause-reads_only
+returns-in_err-survey_store-clause-reads_only g c =
+    λ honest. reads_only _ _ (c.in_ok-headers.ensures.seen honest) (c.in_ok-headers.ensures.time honest)
 
 pub returns-in_err-kernel-in-New-clause-reads : goal.returns-in_err-kernel-in-New-clause-reads
 returns-in_err-kernel-in-New-clause-reads g c =
@@ -111,9 +114,10 @@ returns-in_err-kernel-in-New-clause-quiet g c =
     c.from_residual-in_err-kernel-in-New.ensures.1 in
     none_at_error _ c.from_residual-in_err-kernel-in-New.result _ p.1
 
-pub returns-in_err-kernel-in-New-clause-seen : goal.returns-in_err-kernel-in-New-clause-seen
-returns-in_err-kernel-in-New-clause-seen g c =
-    λ honest. (c.look_new.ensures.reads_only honest).seen ∙ c.in_ok-headers.ensures.seen honest
+pub returns-in_err-kernel-in-New-clause-reads_only : goal.returns-in_err-kernel-in-New-clause-reads_only
+returns-in_err-kernel-in-New-clause-reads_only g c =
+    λ honest. reads_then _ _ _ (reads_only _ _ (c.in_ok-headers.ensures.seen honest) (c.in_ok-headers.ensures.time honest))
+    (c.look_new.ensures.reads_only honest)
 
 pub returns-in_err-kernel-in-InUse-clause-reads : goal.returns-in_err-kernel-in-InUse-clause-reads
 returns-in_err-kernel-in-InUse-clause-reads g c =
@@ -127,17 +131,20 @@ returns-in_err-kernel-in-InUse-clause-quiet g c =
     c.from_residual-in_err-kernel-in-InUse.ensures.1 in
     none_at_error _ c.from_residual-in_err-kernel-in-InUse.result _ p.1
 
-pub returns-in_err-kernel-in-InUse-clause-seen : goal.returns-in_err-kernel-in-InUse-clause-seen
-returns-in_err-kernel-in-InUse-clause-seen g c =
-    λ honest. (c.look_in_use.ensures.reads_only honest).seen ∙ c.in_ok-headers.ensures.seen honest
+pub returns-in_err-kernel-in-InUse-clause-reads_only : goal.returns-in_err-kernel-in-InUse-clause-reads_only
+returns-in_err-kernel-in-InUse-clause-reads_only g c =
+    λ honest. reads_then _ _ _ (reads_only _ _ (c.in_ok-headers.ensures.seen honest) (c.in_ok-headers.ensures.time honest))
+    (c.look_in_use.ensures.reads_only honest)
 
-pub returns-in_ok-kernel-in-New-clause-seen : goal.returns-in_ok-kernel-in-New-clause-seen
-returns-in_ok-kernel-in-New-clause-seen g c =
-    λ honest. (c.look_new.ensures.reads_only honest).seen ∙ c.in_ok-headers.ensures.seen honest
+pub returns-in_ok-kernel-in-New-clause-reads_only : goal.returns-in_ok-kernel-in-New-clause-reads_only
+returns-in_ok-kernel-in-New-clause-reads_only g c =
+    λ honest. reads_then _ _ _ (reads_only _ _ (c.in_ok-headers.ensures.seen honest) (c.in_ok-headers.ensures.time honest))
+    (c.look_new.ensures.reads_only honest)
 
-pub returns-in_ok-kernel-in-InUse-clause-seen : goal.returns-in_ok-kernel-in-InUse-clause-seen
-returns-in_ok-kernel-in-InUse-clause-seen g c =
-    λ honest. (c.look_in_use.ensures.reads_only honest).seen ∙ c.in_ok-headers.ensures.seen honest
+pub returns-in_ok-kernel-in-InUse-clause-reads_only : goal.returns-in_ok-kernel-in-InUse-clause-reads_only
+returns-in_ok-kernel-in-InUse-clause-reads_only g c =
+    λ honest. reads_then _ _ _ (reads_only _ _ (c.in_ok-headers.ensures.seen honest) (c.in_ok-headers.ensures.time honest))
+    (c.look_in_use.ensures.reads_only honest)
 
 pub returns-in_err-kernel-in-New-clause-device : goal.returns-in_err-kernel-in-New-clause-device
 returns-in_err-kernel-in-New-clause-device g c = λ reported.

@@ -1,13 +1,14 @@
 use Rattle.std.proofs.Common.{◌+◌, ℕ, Err, ap, drop, sym, subst, arith, ◌∙◌}
 use Rattle.std.proofs.lemmas.Result.{err_from_is_err_and}
 use Rattle.disk.specs.Slots.{Slots, slot_of}
+use Rattle.disk.proofs.Moments.{reads_then}
 use Rattle.ipc_model.specs.store.Store.{EncodesBatches}
 use Rattle.recover.specs.Found.{Reads}
 use Rattle.recover.specs.Replayed.{ReplaysAll}
 use Rattle.recover.specs.Surveyed.{IsInUse as Uses}
 use Rattle.slot_steps.specs.Steps.{segment_slot}
 use Rattle.recover.proofs.Ways.{next_damaged, one_reads, read_damaged, two_few, two_reads}
-use Rattle.recover.proofs.Faults.{counts_ok, counts_passed, counts_then, none_in_error, reads_then}
+use Rattle.recover.proofs.Faults.{counts_ok, counts_passed, counts_then, none_in_error}
 use Rattle.recover.proofs.looking.look_in_use.Goals as goal
 
 pub returns-in_err-kernel-clause-damaged : goal.returns-in_err-kernel-clause-damaged

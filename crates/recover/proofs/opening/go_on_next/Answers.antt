@@ -3,6 +3,7 @@ use Rattle.std.proofs.lemmas.Result.{err_from_is_err_and}
 use Rattle.checkpoint.specs.Images.{open_image}
 use Rattle.disk.specs.Moments.{one_more}
 use Rattle.disk.specs.Slots.{Slots, slot_of}
+use Rattle.disk.proofs.Moments.{reads_then}
 use Rattle.ipc_model.specs.store.Store.{EncodesBatches}
 use Rattle.ipc_model.specs.encodings.Images.{image_encoding}
 use Rattle.ipc_model.specs.state.State.{State}
@@ -12,7 +13,7 @@ use Rattle.recover.specs.Replayed.{ReplaysAll}
 use Rattle.store_layout.specs.Standing.{as_written}
 use Rattle.slot_steps.specs.Steps.{segment_slot}
 use Rattle.recover.proofs.Apart.{stays_inside}
-use Rattle.recover.proofs.Faults.{counts_device, counts_memory, counts_ok, counts_passed, counts_then, device_no_damage, memory_no_damage, of_device, of_memory, opens_as, opens_device, opens_nothing, reads_then}
+use Rattle.recover.proofs.Faults.{counts_device, counts_memory, counts_ok, counts_passed, counts_then, device_no_damage, memory_no_damage, of_device, of_memory, opens_as, opens_device, opens_nothing}
 use Rattle.recover.proofs.Joined.{next_end_same, next_image_same, next_kept, rested_after_image}
 use Rattle.recover.proofs.Ways.{next_damaged, next_found, next_parts, read_damaged, still_same}
 use Rattle.recover.proofs.opening.go_on_next.Goals as goal

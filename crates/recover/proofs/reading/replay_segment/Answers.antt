@@ -1,9 +1,10 @@
 use Rattle.std.proofs.Common.{ℕ, Err, List, ap, refl, sym, subst, ◌∙◌}
 use Rattle.std.proofs.lemmas.Result.{err_from_is_err_and}
 use Rattle.disk.specs.Slots.{slot_of}
+use Rattle.disk.proofs.Moments.{reads_nothing}
 use Rattle.journal.specs.Reading.{Place}
 use Rattle.recover.specs.Replayed.{Replays, ReplaysAll}
-use Rattle.recover.proofs.Faults.{counts_memory, counts_ok, counts_passed, memory_no_damage, none_in_error, of_memory, reads_nothing}
+use Rattle.recover.proofs.Faults.{counts_memory, counts_ok, counts_passed, memory_no_damage, none_in_error, of_memory}
 use Rattle.recover.proofs.Streams.{first_place, never_replayed, replayed_all}
 use Rattle.recover.proofs.reading.replay_segment.Goals as goal
 

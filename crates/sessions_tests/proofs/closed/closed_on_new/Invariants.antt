@@ -12,3 +12,7 @@ ghosts-closed_on-L-FirstBlock g a = record { first = arc_value a.start.row }
 -- the ledger that was just made
 abbrev pub ghosts-closed_on-L-Ledger : goal.ghosts-closed_on-L-Ledger
 ghosts-closed_on-L-Ledger g a = record { name = a.start.blank.name; parts = a.start.blank.parts }
+
+-- the mark that was just made
+abbrev pub ghosts-closed_on-L-Marking : goal.ghosts-closed_on-L-Marking
+ghosts-closed_on-L-Marking g a = record { table = a.start.mark }

@@ -12,3 +12,7 @@ ghosts-seen_on-L-FirstBlock g a = record { first = arc_value a.start.row }
 -- the ledger that was just made
 abbrev pub ghosts-seen_on-L-Ledger : goal.ghosts-seen_on-L-Ledger
 ghosts-seen_on-L-Ledger g a = record { name = a.start.blank.name; parts = a.start.blank.parts }
+
+-- the mark that was just made
+abbrev pub ghosts-seen_on-L-Marking : goal.ghosts-seen_on-L-Marking
+ghosts-seen_on-L-Marking g a = record { table = a.start.mark }

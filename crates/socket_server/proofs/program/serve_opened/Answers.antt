@@ -3,4 +3,4 @@ use Rattle.socket_server.proofs.program.serve_opened.Goals as goal
 
 pub returns-in-Err : goal.returns-in-Err
 returns-in-Err g c =
-    record { acknowledged = nothing_reported (g.O.Write.contents c.args.output.now) c.in-Err.end c.in-Err.ensures.err }
+    record { reported = nothing_reported (g.O.Write.contents c.args.output.now) c.in-Err.end c.in-Err.ensures.err }

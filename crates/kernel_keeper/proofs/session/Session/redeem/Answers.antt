@@ -13,7 +13,7 @@ invariant_of-session g c =
     let within : c.seen-seen.result ≤ length past.entries = omega (arith, c.if-seen-len.false, c.len.ensures) in (
       subst (λ (n : ℕ). IsSession g.L.Founding.base
           (session_of own_state.number own_state.space n own_state.tickets.numbers own_state.places.numbers past)
-          own_state.share.amount) (sym c.max-session-inside.ensures)
+          own_state.share.amount) (sym c.add.ensures)
           (acknowledged_session g.L.Founding.base old c.seen-seen.result own_state.share.amount within
           c.session.invariant.0),
       c.session.invariant.1,

@@ -1,5 +1,10 @@
+use Rattle.std.proofs.Common.{refl}
 use Rattle.store_keeper.proofs.Storers.{learned_loses, learned_then}
 use Rattle.store_keeper.proofs.keeper.StoreKeeper.append.Goals as goal
+
+pub returns-then-has_failed-clause-any_moment : goal.returns-then-has_failed-clause-any_moment
+returns-then-has_failed-clause-any_moment g c =
+    λ is_honest. learned_loses g.D.Disk.honest g.D.Disk.view g.L.Founding.base c.args.self.now c.args.self.now refl
 
 pub returns-then-not-learn-clause-any_moment : goal.returns-then-not-learn-clause-any_moment
 returns-then-not-learn-clause-any_moment g c =

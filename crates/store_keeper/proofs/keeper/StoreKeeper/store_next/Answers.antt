@@ -1,4 +1,4 @@
-use Rattle.std.proofs.Common.{rules, ◌∙◌, ℕ, ◌+◌, sym, subst}
+use Rattle.std.proofs.Common.{rules, ◌∙◌, ℕ, ◌+◌, ap, sym, subst}
 use Rattle.store_keeper.specs.Storing.{IsStoreKeeper, LoadValue, StoreKeeperValue}
 use Rattle.store_keeper.proofs.Storers.{appended, begins_here, loses_from, next_here, not_appended, why_not_appended}
 use Rattle.store_keeper.proofs.keeper.StoreKeeper.store_next.Goals as goal
@@ -27,8 +27,9 @@ invariant_of-self g c =
     begins_here g.D.Disk.honest g.D.Disk.view g.L.Founding.base old c.args.self.now load c.args.load c.self.view_is
     c.load.view_is c.requires.begins in
     subst (λ (n : ℕ). IsStoreKeeper g.D.Disk.honest g.D.Disk.view g.L.Founding.base
-    (record { store = c.append.new.self; entries = old.entries; stored = old.stored + n; earlier = old.earlier }))
-    (sym (c.from-count.ensures ∙ c.count.ensures))
+    (record { store = c.append.new.self; entries = old.entries; stored = n; earlier = old.earlier }))
+    (sym (c.stored.ensures.same ∙ c.add.ensures
+    ∙ ap (λ (n : ℕ). old.stored + n) (c.from-count.ensures ∙ c.count.ensures)))
     (appended g.D.Disk.honest g.D.Disk.view g.L.Founding.base old load c.append.new.self c.self.invariant
     c.load.invariant begins next c.append.ensures.any_moment c.in-Ok.ensures.open c.in-Ok.ensures.counted.1
     c.in-Ok.ensures.counted.2 c.append.ensures.under_way c.in-Ok.ensures.stored c.in-Ok.ensures.synced).holds

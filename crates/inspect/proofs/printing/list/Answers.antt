@@ -1,7 +1,0 @@
-use Rattle.std.proofs.lemmas.Result.{err_from_is_err_and}
-use Rattle.inspect.proofs.printing.list.Goals as goal
-
-pub returns-in_err-text-clause-damaged : goal.returns-in_err-text-clause-damaged
-returns-in_err-text-clause-damaged g c = λ honest is.
-    let p = err_from_is_err_and c.from_residual.result c.from_residual.ensures.1 in
-    c.in_err-text.ensures.damaged honest (cc (p.1, p.2, is))

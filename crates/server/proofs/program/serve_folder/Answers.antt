@@ -1,0 +1,5 @@
+use Rattle.server.proofs.Ended.{runs_in_folder}
+use Rattle.server.proofs.program.serve_folder.Goals as goal
+
+pub returns : goal.returns
+returns g c = record { run = runs_in_folder _ _ _ _ _ _ _ c.in-Ok.disk c.serve_disk-served.result.1 c.serve_disk-served.ensures.run }
