@@ -7,7 +7,7 @@ use Rattle.ipc_model.specs.encodings.Encodings.{reply_encoding}
 use Rattle.store_fault.specs.declared.fault.StoreFault.{StoreFault}
 use Rattle.frame_service.proofs.Going.{appends_is, keeps_is}
 use Rattle.frame_service.proofs.Turns.{one_known}
-use Rattle.frame_service.specs.Asking.{EndsOne, IsAcknowledged, IsUnacknowledged}
+use Rattle.frame_service.specs.Asking.{EndsOne, IsAcknowledged, IsUnanswered}
 use Rattle.frame_service.specs.declared.asking.PendingFrame.{PendingFrame}
 use Rattle.frame_service.specs.declared.service.ServeFault.{ServeFault}
 use Rattle.frame_service.specs.declared.service.ServeFault.TheVariants.{Wire, Store}
@@ -26,14 +26,20 @@ module _ {C T : Type 0} (answer : T → Reply) (makes : C → Call → T → C �
   pub one_unflushed : (fault : ServeFault) → fault ≡ Wire Device → EndsSo old sent (Err fault)
   one_unflushed fault is = one_known start _ (λ before known.
       subst (λ (f : ServeFault). EndsOne answer makes lacks acknowledges fails old pending old before sent (Err f))
-      (sym is) (refl, inr (refl, keeps_is before start sent known kept)))
+      (sym is) (refl, inr (inl (refl, keeps_is before start sent known kept))))
 
-  pub one_unacknowledged : (new : C) (fault : StoreFault) (result : Result (Unit {0}) ServeFault)
-      → IsUnacknowledged answer makes lacks acknowledges fails old pending fault new → result ≡ Err (Store fault)
+  pub one_unanswered : (new : C) (fault : ServeFault) (result : Result (Unit {0}) ServeFault)
+      → IsUnanswered answer makes lacks acknowledges fails old pending fault new → result ≡ Err fault
       → EndsSo new sent result
-  one_unacknowledged new fault result unacknowledged is = one_known start _ (λ before known.
+  one_unanswered new fault result unanswered is = one_known start _ (λ before known.
       subst (λ (r : Result (Unit {0}) ServeFault). EndsOne answer makes lacks acknowledges fails old pending new before
-      sent r) (sym is) (unacknowledged, keeps_is before start sent known kept))
+      sent r) (sym is) (by before known fault unanswered))
+    where
+      by : (before : List ℕ) → start ≡ Some before → (f : ServeFault)
+          → IsUnanswered answer makes lacks acknowledges fails old pending f new
+          → EndsOne answer makes lacks acknowledges fails old pending new before sent (Err f)
+      by before known (Store f) unacknowledged = (unacknowledged, keeps_is before start sent known kept)
+      by before known (Wire f) given = (given.0, inr (inr (given.1, keeps_is before start sent known kept)))
 
   pub one_unwritten : (new : C) (written : Option (List ℕ)) (reply : Reply) (content : List ℕ) (fault : WireFault)
       (result : Result (Unit {0}) ServeFault)

@@ -188,7 +188,7 @@ module _ {C T : Type 0} (answer : T → Reply) (makes : C → Call → T → C �
             unread = unread;
             part = acknowledged.2;
           })
-      by (Wire f) (device, inr same) = inr (record {
+      by (Wire f) (device, inr (inl same)) = inr (inl (record {
         fault_is = device;
         rest = input;
         sent = sent;
@@ -196,7 +196,19 @@ module _ {C T : Type 0} (answer : T → Reply) (makes : C → Call → T → C �
         went = subst (λ c. So old queue c input before input sent (pending ∷ rest)) (sym same.0) here;
         unread = unread;
         written_is = same.1;
-      })
+      }))
+      by (Wire f) (device, inr (inr given)) = inr (inr (record {
+        fault_is = device;
+        mid = mid;
+        rest = input;
+        sent = sent;
+        pending = pending;
+        all_pending = rest;
+        went = here;
+        given_up = given.0;
+        unread = unread;
+        written_is = given.1;
+      }))
 
   -- All frames were answered, and the replies are flushed or not.
   pub telling_ends : (old new : C) (queue all_pending : List (PendingFrame T)) (input before sent : List ℕ)
@@ -209,7 +221,7 @@ module _ {C T : Type 0} (answer : T → Reply) (makes : C → Call → T → C �
   telling_ends old new queue all_pending input before sent left written (Err fault) so_far none is flushed unread =
       subst (λ (f : ServeFault). EndsAcknowledging answer makes lacks acknowledges fails old queue new input before left
       written (Err f)) (sym flushed)
-      (inr (record {
+      (inr (inl (record {
         fault_is = refl;
         rest = input;
         sent = sent;
@@ -217,7 +229,7 @@ module _ {C T : Type 0} (answer : T → Reply) (makes : C → Call → T → C �
         went = so_far;
         unread = unread;
         written_is = is;
-      }))
+      })))
 
   -- How a turn ends, by how its frames were taken and answered.
   pub round_stops : (old mid new : C) (all_pending : List (PendingFrame T)) (input before : List ℕ)
@@ -265,7 +277,7 @@ module _ {C T : Type 0} (answer : T → Reply) (makes : C → Call → T → C �
         unread = s.unread;
         part = s.part;
       }))
-      by (Wire f) (inr s) = inr (inr (record {
+      by (Wire f) (inr (inl s)) = inr (inr (inl (record {
         fault_is = s.fault_is;
         rest = s.rest;
         sent = s.sent;
@@ -275,7 +287,21 @@ module _ {C T : Type 0} (answer : T → Reply) (makes : C → Call → T → C �
             [] all_pending s.all_pending input before taking.rest before s.rest s.sent front s.went;
         unread = s.unread;
         written_is = s.written_is;
-      }))
+      })))
+      by (Wire f) (inr (inr s)) = inr (inr (inr (record {
+        fault_is = s.fault_is;
+        mid = s.mid;
+        rest = s.rest;
+        sent = s.sent;
+        pending = s.pending;
+        all_pending = s.all_pending;
+        went =
+            went_both answer makes lacks acknowledges fails old mid s.mid [] all_pending
+            (s.pending ∷ s.all_pending) input before taking.rest before s.rest s.sent front s.went;
+        given_up = s.given_up;
+        unread = s.unread;
+        written_is = s.written_is;
+      })))
 
   abbrev Ready : C → List (PendingFrame T) → C → List ℕ → Option (List ℕ) → Type 0
   Ready mid all_pending new before written =
@@ -502,7 +528,7 @@ module _ {C T : Type 0} (answer : T → Reply) (makes : C → Call → T → C �
         unread = s.unread;
         part = s.part;
       })))
-      by (Wire f) (inr (inr s)) =
+      by (Wire f) (inr (inr (inl s))) =
           inr (inr (inr (inl (record {
             fault_is = s.fault_is;
             rest = s.rest;
@@ -512,12 +538,25 @@ module _ {C T : Type 0} (answer : T → Reply) (makes : C → Call → T → C �
             unread = s.unread;
             written_is = s.written_is;
           }))))
+      by (Wire f) (inr (inr (inr s))) =
+          inr (inr (inr (inr (inl (record {
+            fault_is = s.fault_is;
+            mid = s.mid;
+            rest = s.rest;
+            sent = s.sent;
+            pending = s.pending;
+            all_pending = s.all_pending;
+            went = on s.mid s.rest s.sent (s.pending ∷ s.all_pending) s.went;
+            given_up = s.given_up;
+            unread = s.unread;
+            written_is = s.written_is;
+          })))))
 
   pub at_most : (old now : C) (input before : List ℕ) (left written : Option (List ℕ)) (count : ℕ)
       → Turning old now input before left written count → 2 ^ 64 - 1 ≤ count
       → EndsAsked answer makes lacks acknowledges fails old [] now input before left written (Err (Wire Device))
   at_most old now input before left written count so_far most =
-      inr (inr (inr (inr (record {
+      inr (inr (inr (inr (inr (record {
         fault_is = refl;
         rest = so_far.rest;
         sent = so_far.sent;
@@ -525,4 +564,4 @@ module _ {C T : Type 0} (answer : T → Reply) (makes : C → Call → T → C �
         most = omega (arith, most, so_far.counted);
         unread = so_far.rest_is;
         written_is = so_far.written_is;
-      }))))
+      })))))

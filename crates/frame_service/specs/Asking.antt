@@ -1,5 +1,5 @@
 -- A caller that may be asked for more before it answers what it was asked first: what becomes of a connection's frames.
-use Rattle.std.specs.Prelude.{◌≡◌, ◌⊎◌, ℕ, ◌-◌, ◌^◌, ◌≤◌, Bool, true, false, zero, ⊤, ◌&&◌, ◌||◌, nat_le, nat_lt, List, [], ◌∷◌, ◌++◌, length, drop, Option, None, Some, Result, Ok, Err}
+use Rattle.std.specs.Prelude.{◌≡◌, ◌⊎◌, ℕ, ◌-◌, ◌^◌, ◌≤◌, Bool, true, false, zero, suc, ⊤, ◌&&◌, ◌||◌, nat_le, nat_lt, List, [], ◌∷◌, ◌++◌, length, drop, cond, is_some, Option, None, Some, Result, Ok, Err}
 use Rattle.byteorder.specs.Endian.{little_number}
 use Rattle.calls.specs.Requests.{Asks}
 use Rattle.calls.specs.declared.request.MessageRequest.{MessageRequest}
@@ -51,6 +51,10 @@ is_patient None = true
 is_patient (Some zero) = false
 is_patient (Some milliseconds) = true
 
+-- the bound of the half of a mach_msg that is to be made next
+abbrev pub bound_of : MessageRequest → Option ℕ
+bound_of m = cond (is_some m.send) m.send_timeout m.receive_timeout
+
 -- what is left of a mach_msg: these halves are still to be made
 abbrev pub left_of : Option Call → Option Call → Option ℕ → Option ℕ → MessageRequest
 left_of send receive send_timeout receive_timeout =
@@ -69,9 +73,15 @@ module _ {C T : Type 0} (answer : T → Reply) (makes : C → Call → T → C �
   AsksOne old c (Made ticket) new = makes old c ticket new
   AsksOne old c (Known known) new = (known ≡ shortage_of c) × lacks old c new
 
-  -- The same of a call that may wait if this bound lets it: then it found nothing to do, and this is left.
+  -- whether this is that a call was made and found nothing to do
+  abbrev pub found_nothing : Ready T → Bool
+  found_nothing (Made ticket) = timed_out (answer ticket)
+  found_nothing (Known known) = false
+
+  -- The same of a call that may wait if this bound lets it: then it found nothing to do, and this is left. Without a
+  -- bound that is never what it comes to.
   abbrev pub Tries : C → Call → Option ℕ → MessageRequest → PendingFrame T → C → Type 0
-  Tries old c bound left (Settled ready) new = AsksOne old c ready new
+  Tries old c bound left (Settled ready) new = AsksOne old c ready new × (bound ≡ None → found_nothing ready ≡ false)
   Tries old c bound left (Waits rest) new =
       (rest ≡ left) × (is_patient bound ≡ true)
       × ((ticket : T) × makes old c ticket new × (timed_out (answer ticket) ≡ true))
@@ -122,6 +132,19 @@ module _ {C T : Type 0} (answer : T → Reply) (makes : C → Call → T → C �
   GoesOn old m (next ∷ more) ready new =
       (mid : C) × Proceeds old m m.send m.receive (Waits next) mid × GoesOn mid next more ready new
 
+  -- It was tried so many times, and this still waits.
+  abbrev pub TriesInVain : C → MessageRequest → ℕ → MessageRequest → C → Type 0
+  TriesInVain old m zero last new = (last ≡ m) × (new ≡ old)
+  TriesInVain old m (suc count) last new =
+      (next : MessageRequest) × (mid : C) × Proceeds old m m.send m.receive (Waits next) mid
+      × TriesInVain mid next count last new
+
+  -- It waits no longer and isn't answered: what was left had no bound, or it was tried as often as anything is.
+  abbrev pub GivesUp : C → MessageRequest → C → Type 0
+  GivesUp old m new =
+      (count : ℕ) × (last : MessageRequest) × TriesInVain old m count last new
+      × ((bound_of last ≡ None) ⊎ (2 ^ 64 - 1 ≤ count))
+
 -- and further: that a ticket's reply was given, and that the store failed before
 module _ {C T : Type 0} (answer : T → Reply) (makes : C → Call → T → C → Type 0) (lacks : C → Call → C → Type 0)
     (acknowledges : C → T → C → Type 0) (fails : C → T → StoreFault → C → Type 0) where
@@ -147,6 +170,16 @@ module _ {C T : Type 0} (answer : T → Reply) (makes : C → Call → T → C �
   IsUnacknowledged old (Waits rest) fault new =
       (more : List MessageRequest) × (ready : Ready T) × (mid : C) × GoesOn answer makes lacks old rest more ready mid
       × IsUngiven mid ready fault new
+
+  -- It waited and was given up.
+  abbrev pub IsGivenUp : C → PendingFrame T → C → Type 0
+  IsGivenUp old (Settled ready) new = ⊥
+  IsGivenUp old (Waits rest) new = GivesUp answer makes lacks old rest new
+
+  -- There is no answer, since the store failed or a call was given up.
+  abbrev pub IsUnanswered : C → PendingFrame T → ServeFault → C → Type 0
+  IsUnanswered old pending (Store fault) new = IsUnacknowledged old pending fault new
+  IsUnanswered old pending (Wire fault) new = (fault ≡ Device) × IsGivenUp old pending new
 
   -- Frames are answered in the order in which they were taken. `all_pending` were in hand at the beginning, and `left`
   -- are at the end.
@@ -221,6 +254,20 @@ module _ {C T : Type 0} (answer : T → Reply) (makes : C → Call → T → C �
       pub unread : IsLeft rest left
       pub written_is : written ≡ Some sent
 
+    -- The first frame in hand waits no longer, though it found nothing to do, and isn't answered; nothing is written for
+    -- it, and nothing more is read.
+    pub record StopsWaiting (fault : WireFault) : Type 0 where
+      pub fault_is : fault ≡ Device
+      pub mid : C
+      pub rest : List ℕ
+      pub sent : List ℕ
+      pub pending : PendingFrame T
+      pub all_pending : List (PendingFrame T)
+      pub went : Went old queue mid input before rest sent (pending ∷ all_pending)
+      pub given_up : IsGivenUp answer makes lacks acknowledges fails mid pending new
+      pub unread : IsLeft rest left
+      pub written_is : written ≡ Some sent
+
     -- the writer fails in the last reply, of which a prefix is written
     pub record StopsWriting (fault : WireFault) : Type 0 where
       pub fault_is : fault ≡ Device
@@ -259,7 +306,8 @@ module _ {C T : Type 0} (answer : T → Reply) (makes : C → Call → T → C �
     abbrev pub EndsAsked : Result (Unit {0}) ServeFault → Type 0
     EndsAsked (Ok done) = AcknowledgesAll
     EndsAsked (Err (Wire fault)) =
-        NeverBegins fault ⊎ (StopsReading fault ⊎ (StopsWriting fault ⊎ (StopsFlushing fault ⊎ StopsAtMost fault)))
+        NeverBegins fault ⊎ (StopsReading fault ⊎ (StopsWriting fault ⊎ (StopsFlushing fault
+        ⊎ (StopsWaiting fault ⊎ StopsAtMost fault))))
     EndsAsked (Err (Store fault)) = StopsAcknowledging fault
 
     -- A turn is over, and the connection continues.
@@ -275,14 +323,15 @@ module _ {C T : Type 0} (answer : T → Reply) (makes : C → Call → T → C �
     abbrev pub EndsRound : Result Bool ServeFault → Type 0
     EndsRound (Ok true) = GoesRound
     EndsRound (Ok false) = AcknowledgesAll
-    EndsRound (Err (Wire fault)) = StopsReading fault ⊎ (StopsWriting fault ⊎ StopsFlushing fault)
+    EndsRound (Err (Wire fault)) =
+        StopsReading fault ⊎ (StopsWriting fault ⊎ (StopsFlushing fault ⊎ StopsWaiting fault))
     EndsRound (Err (Store fault)) = StopsAcknowledging fault
 
     -- How answering all that is in hand ends.
     abbrev pub EndsAcknowledging : Result (Unit {0}) ServeFault → Type 0
     EndsAcknowledging (Ok done) =
         (sent : List ℕ) × Went old queue new input before input sent [] × (written ≡ Some sent)
-    EndsAcknowledging (Err (Wire fault)) = StopsWriting fault ⊎ StopsFlushing fault
+    EndsAcknowledging (Err (Wire fault)) = StopsWriting fault ⊎ (StopsFlushing fault ⊎ StopsWaiting fault)
     EndsAcknowledging (Err (Store fault)) = StopsAcknowledging fault
 
   -- How answering the first frame in hand ends.
@@ -293,7 +342,8 @@ module _ {C T : Type 0} (answer : T → Reply) (makes : C → Call → T → C �
   EndsOne old pending new before written (Err (Wire fault)) =
       (fault ≡ Device) × (((reply : Reply) × IsAcknowledged answer makes lacks acknowledges fails old pending reply new
       × AppendsPart (Some before) written (frame_encoding (reply_encoding reply)))
-      ⊎ ((new ≡ old) × (written ≡ Some before)))
+      ⊎ (((new ≡ old) × (written ≡ Some before))
+      ⊎ (IsGivenUp answer makes lacks acknowledges fails old pending new × (written ≡ Some before))))
   EndsOne old pending new before written (Err (Store fault)) =
       IsUnacknowledged answer makes lacks acknowledges fails old pending fault new × (written ≡ Some before)
 

@@ -2,7 +2,7 @@ ghost use Rattle.std.specs.Prelude.{◌≡◌, ◌⊎◌, true, false, None, Som
 ghost use Rattle.ipc_model.specs.calls.Step.{succeeded};
 ghost use Rattle.ipc_model.specs.declared.call.Call.{Call};
 ghost use Rattle.ipc_model.specs.messages.Receiving as receiving;
-ghost use Rattle.frame_service.specs.Asking.{AsksOne, IsTaken, Proceeds, TakesRequest, Tries, again, is_patient, is_sent, left_of, timed_out};
+ghost use Rattle.frame_service.specs.Asking.{AsksOne, IsTaken, Proceeds, TakesRequest, Tries, again, found_nothing, is_patient, is_sent, left_of, timed_out};
 ghost use Rattle.frame_service.specs.Serving.{shortage_of};
 ghost use Rattle.frame_service.specs.declared.asking.PendingFrame.TheVariants.{Settled, Waits};
 ghost use Rattle.frame_service.specs.declared.asking.Ready.TheVariants as ready;
@@ -173,52 +173,6 @@ fn send_and_receive<A: Asker>(
     }
 }
 
-/// Makes the calls of a `mach_msg`, none of which waits.
-pub(crate) fn make_last<A: Asker>(
-    alloc: Global,
-    asker: &mut A,
-    message: MessageRequest,
-) -> Ready<A::Ticket>
-    ensures { Proceeds A.answer A.makes A.lacks asker.old message message.send message.receive
-        (Settled result) asker.new }
-{
-    match (message.send, message.receive) {
-        (None, None) => known_code(alloc, KernReturn::Success),
-        (Some(call), None) | (None, Some(call)) => {
-            let ready = ask_one(alloc, asker, &call);
-            drop(call);
-            ready
-        }
-        (Some(send), Some(receive)) => {
-            let ready = make_both(alloc, asker, &send, &receive);
-            drop(send);
-            drop(receive);
-            ready
-        }
-    }
-}
-
-/// Makes a send and, if it is done, a receive; neither waits.
-fn make_both<A: Asker>(
-    alloc: Global,
-    asker: &mut A,
-    send: &Call,
-    receive: &Call,
-) -> Ready<A::Ticket>
-    ensures { (AsksOne A.answer A.makes A.lacks asker.old send.now result asker.new
-        × (is_sent A.answer A.makes A.lacks send.now (Settled result) ≡ false))
-        ⊎ ((ticket : A.Ticket) × (mid : A) × A.makes asker.old send.now ticket mid
-        × (succeeded send.now (A.answer ticket) ≡ true)
-        × AsksOne A.answer A.makes A.lacks mid receive.now result asker.new) }
-{
-    let ready = ask_one(alloc, asker, send);
-    if !is_sent(asker, &ready) {
-        return ready;
-    }
-    drop(ready);
-    ask_one(alloc, asker, receive)
-}
-
 /// Whether a send was made and done.
 fn is_sent<A: Asker>(asker: &A, ready: &Ready<A::Ticket>) -> bool
     ensures { (call : Call) → result ≡ is_sent A.answer A.makes A.lacks call (Settled ready.now) }
@@ -241,7 +195,8 @@ fn left<T>(send: Option<Call>, receive: Option<Call>, bounds: Bounds) -> Pending
     })
 }
 
-/// Makes a call. If it finds nothing to do and may wait, it comes back to be made again.
+/// Makes a call. If it finds nothing to do and may wait, it comes back to be made again. One without a bound comes back
+/// then even if it may wait no longer, since it is never answered that there was nothing to do.
 fn try_call<A: Asker>(
     alloc: Global,
     asker: &mut A,
@@ -250,6 +205,8 @@ fn try_call<A: Asker>(
     may_wait: bool,
 ) -> Result<Ready<A::Ticket>, Call>
     ensures asks { IfOk result (λ ready. AsksOne A.answer A.makes A.lacks asker.old call ready asker.new) }
+    ensures endless { IfOk result
+        (λ ready. bound ≡ None → found_nothing A.answer A.makes A.lacks ready ≡ false) }
     ensures again { IfErr result (λ next. next ≡ again call) }
     ensures patient { IfErr result (λ next. is_patient bound ≡ true) }
     ensures found { IfErr result (λ next. (ticket : A.Ticket) × A.makes asker.old call ticket asker.new
@@ -259,7 +216,7 @@ fn try_call<A: Asker>(
     let Some(ticket) = asker.submit(&call, may_wait) else {
         return Ok(lacking(alloc, &call));
     };
-    if !may_wait {
+    if !may_wait && bound.is_some() {
         return Ok(Ready::Made(ticket));
     }
     if !asker.is_timed_out(&ticket) {

@@ -16,7 +16,7 @@ mod showing;
 pub use admissions::{Admission, Admissions, MOST_SESSIONS};
 pub use history::{EntryBlock, Founding, Past};
 pub use keeper::KernelKeeper;
-pub use meeting::{Unmet, meet};
+pub use meeting::{MeetFault, Unmet, meet};
 pub use session::Session;
 pub use showing::show_stored;
 pub use store_keeper::{End, Load};

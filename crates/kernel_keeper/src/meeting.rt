@@ -1,42 +1,66 @@
-ghost use Rattle.std.specs.Prelude.{◌≡◌, true, false, IfOk, IfErr, MatchBool};
+ghost use Rattle.std.specs.Prelude.{◌≡◌, ◌≢◌, ◌↔◌, IfOk, IfErr, IsErrOf, MatchBool, OnErr, OnOk};
 ghost use Rattle.kernel_keeper.specs.Tokens.{IsAfter, Meets};
 
 use crate::session::Session;
-use history::Founding;
+use history::{CatchUpFault, Founding};
+
+/// Why two sessions couldn't meet.
+#[derive(Clone, Copy, Debug, PartialEq, Eq)]
+pub enum MeetFault {
+    /// An allocation failed.
+    NoMemory,
+    /// They have one number.
+    SameNumber,
+    /// They are in different entry blocks, and it isn't seen that one of them has seen a prefix of what the other has.
+    Apart,
+}
 
 /// Two sessions that couldn't meet, as they were.
 #[derive(Drop)]
 pub struct Unmet<L: Founding> {
+    pub fault: MeetFault,
     pub one: Session<L>,
     pub other: Session<L>,
 }
 
 /// Two sessions meet: both have then seen what either had, and no place belongs to both. It takes no lock.
 ///
-/// With `Unmet` they come back as they were, because an allocation failed. It also comes for two with one number, and
-/// if one isn't seen to be in a prefix of what the other has seen; neither holds for sessions of one `Shared`, which no
-/// clause says.
+/// With `Unmet` they come back as they were. `SameNumber` and `Apart` don't come for two sessions of one `Shared`, which
+/// no clause says.
 pub fn meet<L: Founding>(
     one: Session<L>,
     other: Session<L>,
 ) -> Result<(Session<L>, Session<L>), Unmet<L>>
     ensures met { IfOk result (λ met. Meets one other met.0 met.1) }
     ensures unmet { IfErr result (λ unmet. (unmet.one ≡ one) × (unmet.other ≡ other)) }
+    ensures differ { OnOk result (one.number ≢ other.number) }
+    ensures same { IfErr result (λ unmet. unmet.fault ≡ MeetFault.SameNumber ↔ (one.number ≡ other.number)) }
+    ensures apart { IfErr result (λ unmet. unmet.fault ≡ MeetFault.Apart → one.past.blocks ≢ other.past.blocks) }
 {
     let mut one = one;
     let mut other = other;
-    if one.own_state.number == other.own_state.number || !one.learn_both(&mut other) {
-        return Err(Unmet { one, other });
+    if one.own_state.number == other.own_state.number {
+        return Err(Unmet {
+            fault: MeetFault::SameNumber,
+            one,
+            other,
+        });
     }
-    Ok((one, other))
+    let fault = match one.learn_both(&mut other) {
+        Ok(()) => return Ok((one, other)),
+        Err(CatchUpFault::NoMemory) => MeetFault::NoMemory,
+        Err(CatchUpFault::Apart) => MeetFault::Apart,
+    };
+    Err(Unmet { fault, one, other })
 }
 
 impl<L: Founding> Session<L> {
-    /// The one that is behind learns what the other has seen. Returns whether it did; else nothing changed.
-    fn learn_both(&mut self, other: &mut Session<L>) -> bool
+    /// The one that is behind learns what the other has seen. At a fault nothing changed.
+    fn learn_both(&mut self, other: &mut Session<L>) -> Result<(), CatchUpFault>
         requires { self.old.number ≡ other.old.number → ⊥ }
-        ensures met { result ≡ true → Meets self.old other.old self.new other.new }
-        ensures unmet { result ≡ false → (self.new ≡ self.old) × (other.new ≡ other.old) }
+        ensures met { OnOk result (Meets self.old other.old self.new other.new) }
+        ensures unmet { OnErr result ((self.new ≡ self.old) × (other.new ≡ other.old)) }
+        ensures apart { IsErrOf result CatchUpFault.Apart → self.old.past.blocks ≢ other.old.past.blocks }
     {
         if self.is_after(other) {
             return self.learn(other);
@@ -56,14 +80,15 @@ impl<L: Founding> Session<L> {
         own < theirs
     }
 
-    /// Learns what another session has seen, which is no less. Returns whether it did; else nothing changed.
-    fn learn(&mut self, other: &mut Session<L>) -> bool
+    /// Learns what another session has seen, which is no less. At a fault nothing changed.
+    fn learn(&mut self, other: &mut Session<L>) -> Result<(), CatchUpFault>
         requires beyond { IsAfter self.old.past other.old.past }
         requires differ { self.old.number ≡ other.old.number → ⊥ }
-        ensures met { result ≡ true → Meets self.old other.old self.new other.new
-            × Meets other.old self.old other.new self.new }
-        ensures unmet { result ≡ false → (self.new ≡ self.old) × (other.new ≡ other.old) }
+        ensures met { OnOk result (Meets self.old other.old self.new other.new
+            × Meets other.old self.old other.new self.new) }
+        ensures unmet { OnErr result ((self.new ≡ self.old) × (other.new ≡ other.old)) }
+        ensures apart { IsErrOf result CatchUpFault.Apart → self.old.past.blocks ≢ other.old.past.blocks }
     {
-        self.past.catch_up(&mut other.past).is_ok()
+        self.past.catch_up(&mut other.past)
     }
 }

@@ -17,7 +17,7 @@ pub use closing::{Book, Unmatched, close};
 pub use gate::{Gate, LoopStep, OpenGate};
 pub use guarded::Waited;
 pub use kernel_keeper::{
-    Admission, Admissions, EntryBlock, Founding, MOST_SESSIONS, Session, Unmet, meet,
+    Admission, Admissions, EntryBlock, Founding, MOST_SESSIONS, MeetFault, Session, Unmet, meet,
 };
 pub use seat::{Peer, Seat};
 pub use shared::{NotMade, Shared};
