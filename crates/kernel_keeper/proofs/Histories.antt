@@ -9,7 +9,7 @@ use Rattle.history.specs.Pasts.{PastValue}
 use Rattle.history.specs.declared.entry.Entry.{Entry}
 use Rattle.ipc_laws.specs.HistoryLaws.{after_more, legal_stays_legal}
 use Rattle.ipc_model.specs.declared.record.Record.{Record}
-use Rattle.ipc_model.specs.history.History.{Session, Operation, looked, After, AfterAll, Legal}
+use Rattle.ipc_model.specs.history.History.{Operation, looked, Legal}
 use Rattle.ipc_model.specs.state.State.{State}
 use Rattle.kernel_keeper.specs.Tokens.{SessionValue, AreOwn, IsHistory, IsSession, Did}
 

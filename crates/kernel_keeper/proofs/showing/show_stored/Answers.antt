@@ -1,4 +1,4 @@
-use Rattle.std.proofs.Common.{◌≤◌, arith}
+use Rattle.std.proofs.Common.{arith}
 use Rattle.kernel_keeper.proofs.showing.show_stored.Goals as goal
 
 pub returns-clause-left : goal.returns-clause-left

@@ -1,4 +1,4 @@
-use Rattle.std.proofs.Common.{◌≡◌, ◌∙◌, sym, ap, subst}
+use Rattle.std.proofs.Common.{◌≡◌, ◌∙◌, true, Result, Ok, Err, OnOk, is_ok, refl, sym, ap, subst}
 use Rattle.history.specs.Pasts.{PastValue}
 use Rattle.kernel_keeper.specs.Tokens.{SessionValue, session_of, IsAfter, Meets}
 use Rattle.kernel_keeper.proofs.Histories.{looking}
@@ -29,8 +29,12 @@ invariant_of-self g c =
       c.self.invariant.1,
     )
 
+when_ok : {T E P : Type 0} (r : Result T E) → (is_ok r ≡ true → P) → OnOk r P
+when_ok (Ok x) f = f refl
+when_ok (Err e) f = tt
+
 pub returns-clause-met : goal.returns-clause-met
-returns-clause-met g c is =
+returns-clause-met g c = when_ok c.catch_up.result (λ is.
     let old : SessionValue =
     session_of c.self.inside.own_state.number c.self.inside.own_state.space c.self.inside.own_state.acknowledged
     c.self.inside.own_state.tickets.numbers c.self.inside.own_state.places.numbers c.self.inside.past in
@@ -49,9 +53,9 @@ returns-clause-met g c is =
     met g.L.Founding.base old ahead c.catch_up.new.self c.catch_up.new.other c.self.inside.own_state.share.amount
     c.other.inside.own_state.share.amount c.self.invariant.0 c.other.invariant.0 differ up.same
     (caught c.self.inside.past c.other.inside.past c.catch_up.new.self c.catch_up.result
-    (sym c.is_ok.ensures.value ∙ is) beyond up.ok up.begins up.moved) in
+    is beyond up.ok up.begins up.moved) in
     let new = looking old c.catch_up.new.self in
     let ahead_new = looking ahead c.catch_up.new.other in
     subst (λ (v : SessionValue). Meets v c.args.other.now new ahead_new × Meets c.args.other.now v ahead_new new)
     c.self.view_is
-    (subst (λ (v : SessionValue). Meets old v new ahead_new × Meets v old ahead_new new) c.other.view_is both)
+    (subst (λ (v : SessionValue). Meets old v new ahead_new × Meets v old ahead_new new) c.other.view_is both))
