@@ -1,5 +1,6 @@
 -- What functions that open or read a store come to.
-use Rattle.std.specs.Prelude.{◌≡◌, ◌⊎◌, ℕ, Result, Err, IfOk, IsErrOf, OnErr, OnOk}
+use Rattle.std.specs.Prelude.{◌≡◌, ◌⊎◌, ℕ, Option, Result, Err, IfOk, IsErrOf, OnErr, OnOk}
+use Rattle.checkpoint.specs.Images.{ImageValue}
 use Rattle.disk.specs.Moments.{View, MayLeave, Passes, one_more}
 use Rattle.disk.specs.Slots.{Slots}
 use Rattle.ipc_model.specs.state.State.{State}
@@ -11,6 +12,7 @@ use Rattle.store_layout.specs.Standing.{as_written}
 use Rattle.store_layout.specs.Gates.{HaveLastGates}
 use Rattle.recover.specs.Crashing.{StandForSame}
 use Rattle.recover.specs.Kept.{IsKept}
+use Rattle.recover.specs.Upgrading.{IsReopened}
 
 -- The device's count of failed calls grows by one at the fault `Device`, and stays otherwise.
 pub record CountsDevice {T : Type 0} (before now : ℕ) (result : Result T StoreFault) : Type 0 where
@@ -23,6 +25,13 @@ pub record CountsDevice {T : Type 0} (before now : ℕ) (result : Result T Store
 pub record Opens (old new : View) (result : Result (State × Segment) StoreFault) : Type 0 where
   pub state : IfOk result (λ r. Recovered (as_written old.seen) r.0)
   pub kept : IfOk result (λ r. IsKept new r.1 r.0)
+  pub unchanged : OnErr result ((result ≡ Err Device) ⊎ (new.seen ≡ old.seen))
+  pub untouched : OnErr result ((result ≡ Err Device) ⊎ Passes old new (MayLeave old))
+
+-- the same of a store in use, before it is upgraded
+pub record Reopens (old new : View) (result : Result (State × Segment × Option ImageValue) StoreFault) : Type 0 where
+  pub state : IfOk result (λ r. Recovered (as_written old.seen) r.0)
+  pub reopened : IfOk result (IsReopened new)
   pub unchanged : OnErr result ((result ≡ Err Device) ⊎ (new.seen ≡ old.seen))
   pub untouched : OnErr result ((result ≡ Err Device) ⊎ Passes old new (MayLeave old))
 

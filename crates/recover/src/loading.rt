@@ -1,17 +1,21 @@
 // The state whose image stands in a slot.
-ghost use Rattle.std.specs.Prelude.{◌≡◌, ◌⊎◌, ◌^◌, ◌<◌, ◌++◌, ℕ, List, IfOk, OnErr, IsErrOf, drop, length};
+ghost use Rattle.std.specs.Prelude.{◌≡◌, ◌⊎◌, ◌↔◌, ◌^◌, ◌<◌, ◌++◌, ℕ, All, List, IsTrue, IfOk, OnErr, IsErrOf, drop, length};
 ghost use Rattle.disk.specs.Moments.{CountsFailure, MayLeave, Passes, ReadsOnly};
 ghost use Rattle.disk.specs.Slots.{slot_of};
 ghost use Rattle.ipc_model.specs.state.State.{State};
-ghost use Rattle.ipc_model.specs.store.Recovery.{HoldsImage, IsImageOf, IsOfEpoch, IsOpen};
+ghost use Rattle.ipc_model.specs.store.Recovery.{HoldsImage, IsImageIn, IsOfEpoch, IsOpen};
 ghost use Rattle.words.specs.Words.{long_word};
-ghost use Rattle.recover.specs.Loaded.{HoldsEncoding};
+ghost use Rattle.recover.specs.Loaded.{HasLimit, HoldsEncoding};
 ghost use Rattle.recover.specs.Outcomes.{CountsDevice, OnlyReadingFaults};
 
+use crate::headers::read_version;
+use crate::reading::is_limit;
+use codes::StoreVersion;
 use disk::{Disk, DiskFault, Slot};
 use image::{ImageFault, read};
 use kernel::{Kernel, SnapshotFault};
 use slot_steps::IMAGE_HEADER;
+use snapshot::LivePort;
 use std::alloc::Global;
 use store_fault::StoreFault;
 use words::take_long_word;
@@ -57,19 +61,40 @@ fn read_encoding<D: Disk>(alloc: Global, disk: &mut D, slot: Slot) -> Result<Vec
     Ok(encoding)
 }
 
-/// The state that these bytes encode.
+/// Whether each port's queue has a limit of a version.
+fn have_limits(version: StoreVersion, ports: &[LivePort]) -> bool
+    ensures { IsTrue result ↔ All (HasLimit version) ports.now }
+{
+    for port in ports {
+        if !is_limit(version, port.state.limit) {
+            return false;
+        }
+    }
+    true
+}
+
+/// The state that these bytes encode in a version.
 ///
 /// `Damaged`: they encode no lawful state.
-fn state_of(alloc: Global, encoding: &[u8]) -> Result<Kernel, StoreFault>
-    ensures image { IfOk result (λ kernel. IsImageOf encoding.now kernel) }
-    ensures damaged { IsErrOf result StoreFault.Damaged → (state : State) → IsImageOf encoding.now state → ⊥ }
+fn state_of(
+    alloc: Global,
+    version: StoreVersion,
+    encoding: &[u8],
+) -> Result<Kernel, StoreFault>
+    ensures image { IfOk result (λ kernel. IsImageIn version encoding.now kernel) }
+    ensures damaged { IsErrOf result StoreFault.Damaged → (state : State)
+        → IsImageIn version encoding.now state → ⊥ }
     ensures faults { OnErr result ((result ≡ Err StoreFault.Damaged) ⊎ (result ≡ Err StoreFault.NoMemory)) }
 {
-    let snapshot = match read(alloc, encoding) {
+    let snapshot = match read(alloc, version, encoding) {
         Ok(snapshot) => snapshot,
         Err(ImageFault::NotCanonical) => return Err(StoreFault::Damaged),
         Err(ImageFault::NoMemory) => return Err(StoreFault::NoMemory),
     };
+    if !have_limits(version, snapshot.ports.as_slice()) {
+        drop(snapshot);
+        return Err(StoreFault::Damaged);
+    }
     match Kernel::from_snapshot(alloc, snapshot) {
         Ok(kernel) => Ok(kernel),
         Err(SnapshotFault::NotLawful) => Err(StoreFault::Damaged),
@@ -95,7 +120,8 @@ pub(crate) fn load_image<D: Disk>(
     ensures failures { CountsDevice (D.failed_calls disk.old) (D.failed_calls disk.new) result }
     ensures faults { OnlyReadingFaults result }
 {
+    let version = read_version(disk, slot)?;
     let encoding = read_encoding(alloc, disk, slot)?;
-    let kernel = state_of(alloc, &encoding)?;
+    let kernel = state_of(alloc, version, &encoding)?;
     Ok(kernel)
 }

@@ -10,8 +10,10 @@ ghost use Rattle.recover.specs.Headers.{SayAll, Says};
 ghost use Rattle.recover.specs.Kept.{IsKept};
 ghost use Rattle.recover.specs.Crashing.{LeavesSame};
 ghost use Rattle.store_layout.specs.Gates.{HaveLastGates, StandForState};
-ghost use Rattle.recover.specs.Outcomes.{CountsDevice, OnlyOpeningFaults, OnlyReadingFaults, Opens, StandForNone, StandsForSameSince};
-ghost use Rattle.recover.specs.Surveyed.{IsInUse, IsUnused};
+ghost use Rattle.recover.specs.Outcomes.{CountsDevice, OnlyOpeningFaults, OnlyReadingFaults, Opens, Reopens, StandForNone, StandsForSameSince};
+ghost use Rattle.recover.specs.Surveyed.{FitsNext, IsInUse, IsUnused};
+ghost use Rattle.recover.specs.Upgrading.{IsReopened, IsUpgradeOf};
+ghost use Rattle.ipc_model.specs.store.Store.{LeavesAnEpoch};
 ghost use Rattle.store_layout.specs.Standing.{as_written};
 
 use crate::finding::{have_no_batch, read_epoch};
@@ -21,6 +23,7 @@ use crate::reading::replay_segment;
 use crate::survey::{Survey, survey_store};
 use crate::value_after::{both, end_after, write_after};
 use checkpoint::Image;
+use codes::StoreVersion;
 use disk::{Disk, DiskFault};
 use image::image_is_of_state;
 use journal::Segment;
@@ -108,19 +111,70 @@ fn begin<D: Disk>(
     Ok((kernel, segment))
 }
 
+/// A state, and the image of the next epoch, if the epoch's segment is of version 1: then the store goes on in that next
+/// epoch, whose slots are of the current version. The image is made before anything is written.
+fn with_upgrade(
+    alloc: Global,
+    kernel: Kernel,
+    version: StoreVersion,
+    epoch: u64,
+) -> Result<(Kernel, Option<Image>), AllocError>
+    requires { LeavesAnEpoch version epoch }
+    ensures base { IfOk result (λ r. r.0 ≡ kernel) }
+    ensures upgrade { IfOk result (λ r. IsUpgradeOf version epoch kernel r.1) }
+{
+    match version {
+        StoreVersion::Two => Ok((kernel, None)),
+        StoreVersion::One => {
+            let (kernel, image) = with_image(alloc, kernel, epoch + 1)?;
+            Ok((kernel, Some(image)))
+        }
+    }
+}
+
+/// Upgrades a store whose segment in use is of version 1: makes the next epoch's segment, which is empty, and then its
+/// image. Without an image there is nothing to do.
+fn upgrade<D: Disk>(
+    disk: &mut D,
+    kernel: Kernel,
+    segment: Segment,
+    image: Option<Image>,
+) -> Result<(Kernel, Segment), DiskFault>
+    requires fits { IfSome image (λ image. segment.epoch + 1 < 2 ^ 64) }
+    requires opened { D.honest → IsReopened (D.view disk.old) (kernel, segment, image) }
+    ensures same { IfOk result (λ r. r.0 ≡ kernel) }
+    ensures kept { D.honest → IfOk result (λ r. IsKept (D.view disk.new) r.1 kernel) }
+    ensures any_moment { D.honest → Passes (D.view disk.old) (D.view disk.new) (StandForState kernel) }
+    ensures failures { CountsFailure (D.failed_calls disk.old) (D.failed_calls disk.new) result }
+{
+    let Some(image) = image else {
+        return Ok((kernel, segment));
+    };
+    let next = make_segment(disk, segment.epoch + 1);
+    let (kernel, next) = both(kernel, next)?;
+    let kernel = write_after(disk, &image, kernel)?;
+    Ok((kernel, next))
+}
+
 /// Goes on in an epoch, whose segment is ended after its batches.
-fn go_on<D: Disk>(alloc: Global, disk: &mut D, epoch: u64) -> Result<(Kernel, Segment), StoreFault>
+fn go_on<D: Disk>(
+    alloc: Global,
+    disk: &mut D,
+    epoch: u64,
+) -> Result<(Kernel, Segment, Option<Image>), StoreFault>
     requires rest { D.honest → IsAtRest (D.view disk.old) }
     requires used { D.honest → IsInUse (D.view disk.old).seen epoch false }
-    ensures opened { D.honest → Opens (D.view disk.old) (D.view disk.new) result }
+    ensures opened { D.honest → Reopens (D.view disk.old) (D.view disk.new) result }
+    ensures fits { IfOk result (λ r. IfSome r.2 (λ image. r.1.epoch + 1 < 2 ^ 64)) }
     ensures damaged { D.honest → IsErrOf result StoreFault.Damaged → StandForNone (D.view disk.old).seen }
     ensures any_moment { D.honest → StandsForSameSince (D.view disk.old) (D.view disk.new) }
     ensures failures { CountsDevice (D.failed_calls disk.old) (D.failed_calls disk.new) result }
     ensures faults { OnlyReadingFaults result }
 {
-    let (kernel, records, end) = read_epoch(alloc, disk, epoch)?;
-    let kernel = end_after(disk, segment_slot(epoch), end, kernel)?;
-    Ok((kernel, Segment { epoch, records }))
+    let (kernel, records, end, version) = read_epoch(alloc, disk, epoch)?;
+    let loaded = with_upgrade(alloc, kernel, version, epoch)?;
+    let (kernel, image) = end_after(disk, segment_slot(epoch), end, loaded)?;
+    Ok((kernel, Segment { epoch, records }, image))
 }
 
 /// Goes on in the next epoch, whose segment follows: its image is made of the state before that segment, and written.
@@ -128,28 +182,57 @@ fn go_on_next<D: Disk>(
     alloc: Global,
     disk: &mut D,
     epoch: u64,
-) -> Result<(Kernel, Segment), StoreFault>
+) -> Result<(Kernel, Segment, Option<Image>), StoreFault>
     requires rest { D.honest → IsAtRest (D.view disk.old) }
     requires used { D.honest → IsInUse (D.view disk.old).seen epoch true }
     requires fits { epoch + 1 < 2 ^ 64 }
+    ensures opened { D.honest → Reopens (D.view disk.old) (D.view disk.new) result }
+    ensures fits { IfOk result (λ r. IfSome r.2 (λ image. r.1.epoch + 1 < 2 ^ 64)) }
+    ensures damaged { D.honest → IsErrOf result StoreFault.Damaged → StandForNone (D.view disk.old).seen }
+    ensures any_moment { D.honest → StandsForSameSince (D.view disk.old) (D.view disk.new) }
+    ensures failures { CountsDevice (D.failed_calls disk.old) (D.failed_calls disk.new) result }
+    ensures faults { OnlyReadingFaults result }
+{
+    let next = epoch + 1;
+    let (base, _, _, _) = read_epoch(alloc, disk, epoch)?;
+    let (base, image) = with_image(alloc, base, next)?;
+    let (kernel, records, end, version) = replay_segment(alloc, base, disk, next)?;
+    let loaded = with_upgrade(alloc, kernel, version, next)?;
+    let loaded = write_after(disk, &image, loaded)?;
+    let (kernel, image) = end_after(disk, segment_slot(next), end, loaded)?;
+    Ok((
+        kernel,
+        Segment {
+            epoch: next,
+            records,
+        },
+        image,
+    ))
+}
+
+/// Goes on in the epoch in use, or in the next one where its segment follows, and upgrades the store if its segment in
+/// use is of version 1.
+fn reopen<D: Disk>(
+    alloc: Global,
+    disk: &mut D,
+    epoch: u64,
+    follows: bool,
+) -> Result<(Kernel, Segment), StoreFault>
+    requires rest { D.honest → IsAtRest (D.view disk.old) }
+    requires used { D.honest → IsInUse (D.view disk.old).seen epoch follows }
+    requires fits { FitsNext (Survey.InUse epoch follows) }
     ensures opened { D.honest → Opens (D.view disk.old) (D.view disk.new) result }
     ensures damaged { D.honest → IsErrOf result StoreFault.Damaged → StandForNone (D.view disk.old).seen }
     ensures any_moment { D.honest → StandsForSameSince (D.view disk.old) (D.view disk.new) }
     ensures failures { CountsDevice (D.failed_calls disk.old) (D.failed_calls disk.new) result }
     ensures faults { OnlyReadingFaults result }
 {
-    let (base, _, _) = read_epoch(alloc, disk, epoch)?;
-    let (base, image) = with_image(alloc, base, epoch + 1)?;
-    let (kernel, records, end) = replay_segment(alloc, base, disk, segment_slot(epoch + 1))?;
-    let kernel = write_after(disk, &image, kernel)?;
-    let kernel = end_after(disk, segment_slot(epoch + 1), end, kernel)?;
-    Ok((
-        kernel,
-        Segment {
-            epoch: epoch + 1,
-            records,
-        },
-    ))
+    let (kernel, segment, image) = if follows {
+        go_on_next(alloc, disk, epoch)?
+    } else {
+        go_on(alloc, disk, epoch)?
+    };
+    Ok(upgrade(disk, kernel, segment, image)?)
 }
 
 /// A state, and the image of an epoch that begins with it.
@@ -189,22 +272,16 @@ fn load<D: Disk>(alloc: Global, disk: &mut D) -> Result<(Kernel, Segment), Store
     let headers = read_synced(disk)?;
     match survey_store(&headers)? {
         Survey::New => begin(alloc, disk, headers.segment0),
-        Survey::InUse {
-            epoch,
-            follows: false,
-        } => go_on(alloc, disk, epoch),
-        Survey::InUse {
-            epoch,
-            follows: true,
-        } => go_on_next(alloc, disk, epoch),
+        Survey::InUse { epoch, follows } => reopen(alloc, disk, epoch, follows),
     }
 }
 
 /// Opens a store. A new one gets its first segment and image. From an existing one the state is read; a checkpoint that
-/// was half done is finished, and the segment in use is ended after its last batch. At a fault the disk comes back.
+/// was half done is finished, and the segment in use is ended after its last batch. If that is of version 1, the store
+/// goes on in the next epoch, with an image and a segment of the current version. At a fault the disk comes back.
 ///
-/// `Device`: the device failed. `Damaged`: the slots are not as a server leaves them. `Version`: an open slot is of
-/// another version. `NoMemory`: out of memory.
+/// `Device`: the device failed. `Damaged`: the slots are not as a server leaves them. `Version`: an open slot says
+/// a version that there isn't. `NoMemory`: out of memory.
 pub fn open<D: Disk>(alloc: Global, disk: D) -> Result<Opened<D>, (StoreFault, D)>
     ensures state { D.honest → IfOk result (λ opened. Recovered (as_written (D.view disk).seen) opened.kernel) }
     ensures version { D.honest → IfErr result
