@@ -1,5 +1,5 @@
 -- Replies by the content of their frames: a call has at most one with each content.
-use Rattle.std.proofs.Common.{◌≡◌, ℕ, ◌+◌, ◌<◌, ◌≤◌, ◌^◌, Bool, true, false, ◌&&◌, List, [], ◌++◌, length, drop, flat_map, Option, Some, None, refl, sym, ap, subst, ◌∙◌, arith, length-append}
+use Rattle.std.proofs.Common.{◌≡◌, ℕ, ◌<◌, ◌≤◌, ◌^◌, Bool, true, false, ◌&&◌, List, [], ◌++◌, length, drop, flat_map, Option, Some, None, refl, sym, ap, subst, ◌∙◌, arith, length-append}
 use Rattle.std.specs.Prelude.{◌≢◌, IfNone, IsTrue, not}
 use Rattle.codes.specs.declared.call_number.TheConstants.{MACH_MSG, MACH_PORT_NAMES, MACH_PORT_GET_SET_STATUS}
 use Rattle.codes.specs.KernReturn.{number_of}

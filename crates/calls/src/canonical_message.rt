@@ -9,8 +9,8 @@ const USED_BITS: [u8; 20] = [
     0xff, 0xff, 0, 0x80, 0, 0, 0, 0, 0xff, 0xff, 0xff, 0xff, 0xff, 0xff, 0xff, 0xff, 0, 0, 0, 0,
 ];
 
-#[tactic(auto, unfolding(ipc_model::specs::messages::Kept::canonical_message))]
 /// The message as a record keeps it: with 0 in place of what a send ignores.
+#[tactic(auto, unfolding(ipc_model::specs::messages::Kept::canonical_message))]
 pub(crate) fn canonical_message_of(alloc: Global, message: &[u8]) -> Result<Vec<u8>, AllocError>
     ensures { IfOk result (λ kept. kept.items ≡ canonical_message message.now) }
 {

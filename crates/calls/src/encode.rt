@@ -40,8 +40,8 @@ fn push_four(out: &mut Vec<u8>, a: u32, b: u32, c: u32, d: u32) -> Result<(), Al
     push_words(out, &[a, b, c, d])
 }
 
-#[tactic(auto, unfolding(ipc_model::specs::encodings::Encodings::call_encoding))]
 /// Adds the number and the arguments of a send.
+#[tactic(auto, unfolding(ipc_model::specs::encodings::Encodings::call_encoding))]
 fn push_send(out: &mut Vec<u8>, message: &[u8]) -> Result<(), AllocError>
     ensures ok { OnOk result (out.new.items ≡ out.old.items ++ call_encoding (call.Send message.now)) }
 {
@@ -49,8 +49,8 @@ fn push_send(out: &mut Vec<u8>, message: &[u8]) -> Result<(), AllocError>
     out.extend_from_slice(message)
 }
 
-#[tactic(auto, unfolding(ipc_model::specs::encodings::Encodings::call_encoding))]
 /// Adds the number and the arguments of a call. If an allocation fails, some of them may have been added.
+#[tactic(auto, unfolding(ipc_model::specs::encodings::Encodings::call_encoding))]
 pub fn push_call(out: &mut Vec<u8>, call: &Call) -> Result<(), AllocError>
     ensures ok { OnOk result (out.new.items ≡ out.old.items ++ call_encoding call.now) }
 {
@@ -145,9 +145,9 @@ pub fn push_call(out: &mut Vec<u8>, call: &Call) -> Result<(), AllocError>
     }
 }
 
-#[tactic(auto, unfolding(ipc_model::specs::encodings::Encodings::call_encoding))]
 /// Adds the number and the arguments of a call as a record keeps it: of a send the message with 0 in place of what a
 /// send ignores. If an allocation fails, some of them may have been added.
+#[tactic(auto, unfolding(ipc_model::specs::encodings::Encodings::call_encoding))]
 pub fn push_canonical_call(alloc: Global, out: &mut Vec<u8>, call: &Call) -> Result<(), AllocError>
     ensures ok { OnOk result (out.new.items ≡ out.old.items ++ call_encoding (canonical_call call.now)) }
 {
@@ -203,8 +203,8 @@ fn push_status(out: &mut Vec<u8>, status: &ReceiveStatus) -> Result<(), AllocErr
     push_words(out, &status_words(status))
 }
 
-#[tactic(auto, unfolding(ipc_model::specs::encodings::Encodings::reply_encoding))]
 /// Adds the number, the code and the results of a reply. If an allocation fails, some of them may have been added.
+#[tactic(auto, unfolding(ipc_model::specs::encodings::Encodings::reply_encoding))]
 pub fn push_reply(out: &mut Vec<u8>, reply: &Reply) -> Result<(), AllocError>
     requires { length (reply_encoding reply.now) < 2 ^ 32 }
     ensures ok { OnOk result (out.new.items ≡ out.old.items ++ reply_encoding reply.now) }

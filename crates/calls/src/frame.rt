@@ -62,8 +62,8 @@ fn start_status(frame: &mut Frame, status: &ReceiveStatus)
     );
 }
 
-#[tactic(auto, unfolding(ipc_model::specs::encodings::Encodings::reply_encoding))]
 /// Writes a reply into a frame. It takes no memory.
+#[tactic(auto, unfolding(ipc_model::specs::encodings::Encodings::reply_encoding))]
 pub fn reply_frame(reply: &Reply, frame: &mut Frame)
     requires room { MAX_FRAME_CONTENT ≤ frame.old.room }
     // The names of a space and of a set's members fit, and so does a message of the greatest size.

@@ -101,9 +101,9 @@ fn read_message_call(alloc: Global, arguments: &[u8]) -> Result<Option<Call>, Al
     }
 }
 
-#[tactic(auto, unfolding(ipc_model::specs::encodings::Encodings::call_encoding))]
 /// The call that these bytes encode, if they encode a call as a record has it. It can run out of memory only for the
 /// message of a send.
+#[tactic(auto, unfolding(ipc_model::specs::encodings::Encodings::call_encoding))]
 pub fn read_call(alloc: Global, content: &[u8]) -> Result<Option<Call>, AllocError>
     ensures found { IfOk result (λ found. IfSome found
         (λ call. (content.now ≡ call_encoding call) × IsCanonicalCall call)) }

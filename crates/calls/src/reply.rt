@@ -59,8 +59,8 @@ fn read_member_row(alloc: Global, results: &[u8]) -> Result<Option<Sequence<u32>
     Ok(Some(Sequence::new(members)))
 }
 
-#[tactic(auto, unfolding(ipc_model::specs::encodings::Encodings::reply_encoding))]
 /// The names of a space, as the reply to the call that asks for them.
+#[tactic(auto, unfolding(ipc_model::specs::encodings::Encodings::reply_encoding))]
 fn read_name_reply(alloc: Global, results: &[u8]) -> Result<Option<Reply>, AllocError>
     ensures found { IfOk result (λ found. IfSome found
         (Answers MACH_PORT_NAMES (done_encoding MACH_PORT_NAMES results.now))) }
@@ -74,8 +74,8 @@ fn read_name_reply(alloc: Global, results: &[u8]) -> Result<Option<Reply>, Alloc
     }
 }
 
-#[tactic(auto, unfolding(ipc_model::specs::encodings::Encodings::reply_encoding))]
 /// The members of a set, as the reply to the call that asks for them.
+#[tactic(auto, unfolding(ipc_model::specs::encodings::Encodings::reply_encoding))]
 fn read_member_reply(alloc: Global, results: &[u8]) -> Result<Option<Reply>, AllocError>
     ensures found { IfOk result (λ found. IfSome found
         (Answers MACH_PORT_GET_SET_STATUS (done_encoding MACH_PORT_GET_SET_STATUS results.now))) }
@@ -89,8 +89,8 @@ fn read_member_reply(alloc: Global, results: &[u8]) -> Result<Option<Reply>, All
     }
 }
 
-#[tactic(auto, unfolding(ipc_model::specs::encodings::Encodings::reply_encoding))]
 /// The reply to a call with this number that was done, if its results are one number or two, or the state of a port.
+#[tactic(auto, unfolding(ipc_model::specs::encodings::Encodings::reply_encoding))]
 fn read_plain_reply(number: u32, results: &[u8]) -> Option<Reply>
     ensures found { IfSome result (Answers number (done_encoding number results.now)) }
     ensures only { (answer : Reply) → HasResults number results.now answer → number ≢ MACH_PORT_NAMES
@@ -149,8 +149,8 @@ fn has_results(number: u32) -> bool
     )
 }
 
-#[tactic(auto, unfolding(ipc_model::specs::encodings::Encodings::reply_encoding))]
 /// The reply to a call with this number that was done, if it has no results.
+#[tactic(auto, unfolding(ipc_model::specs::encodings::Encodings::reply_encoding))]
 fn read_done(number: u32) -> Option<Reply>
     ensures found { IfSome result (Answers number (done_encoding number [])) }
     ensures only { (answer : Reply) → HasResults number [] answer → IsWellFormed answer → result ≡ Some answer }
@@ -178,8 +178,8 @@ fn read_results(alloc: Global, number: u32, results: &[u8]) -> Result<Option<Rep
     }
 }
 
-#[tactic(auto, unfolding(ipc_model::specs::encodings::Encodings::reply_encoding))]
 /// The reply to a call with this number, any but `mach_msg`, that was refused.
+#[tactic(auto, unfolding(ipc_model::specs::encodings::Encodings::reply_encoding))]
 fn read_refusal(number: u32, code: KernReturn, results: &[u8]) -> Option<Reply>
     requires number { number ≢ MACH_MSG }
     requires code { code ≢ KernReturn.Success }
@@ -212,8 +212,8 @@ fn keep(alloc: Global, message: &[u8]) -> Result<Sequence<u8>, AllocError>
     Ok(Sequence::new(Vec::from_slice(alloc, message)?))
 }
 
-#[tactic(auto, unfolding(ipc_model::specs::encodings::Encodings::reply_encoding))]
 /// The reply to a `mach_msg`, after its code.
+#[tactic(auto, unfolding(ipc_model::specs::encodings::Encodings::reply_encoding))]
 fn read_message(
     alloc: Global,
     code: KernReturn,

@@ -97,8 +97,8 @@ fn asked_timeout(options: MessageOptions, bound: MessageOptions, timeout: u32) -
     }
 }
 
-#[tactic(auto, unfolding(crate::specs::Requests::asked, bitflags::specs::Sets::known_from))]
 /// What these arguments of `mach_msg` ask for.
+#[tactic(auto, unfolding(crate::specs::Requests::asked, bitflags::specs::Sets::known_from))]
 fn request_of(
     alloc: Global,
     option: u32,
@@ -160,9 +160,9 @@ fn read_mach_msg(alloc: Global, arguments: &[u8]) -> Result<Request, CallFault>
     Ok(request)
 }
 
-#[tactic(auto, unfolding(ipc_model::specs::encodings::Encodings::call_encoding))]
 /// What a frame asks for. `NoCall`: no call has this number and arguments of this length. `NoMemory`, only for a send:
 /// out of memory for its message.
+#[tactic(auto, unfolding(ipc_model::specs::encodings::Encodings::call_encoding))]
 pub fn read_request(alloc: Global, frame: &Frame) -> Result<Request, CallFault>
     ensures found { IfOk result (λ request. requests.Asks frame.now.content request) }
     ensures only { (asks : Request) → requests.Asks frame.now.content asks

@@ -8,6 +8,7 @@ ghost use Rattle.checkpoint.specs.Images.{HoldsAfter, IsFinishing, first_pieces,
 ghost use Rattle.ipc_model.specs.world.World.{pieces_of};
 ghost use Rattle.slot_steps.specs.Steps.{IsClosing, IsRemade, IsShut, IsStillClosed};
 
+use codes::StoreVersion;
 use disk::{Disk, DiskFault, Slot};
 use slot_steps::{
     IMAGE_HEADER, OPEN_GATE, close_slot, cut_after, sync_after, write_after, write_gate,
@@ -16,15 +17,16 @@ use slot_steps::{
 /// How many bytes of an encoded state are written at once.
 pub const PIECE: usize = 4096;
 
-/// What stands after the gate of an image before its encoded state: version 1, six zero bytes, its epoch, and the
+/// What stands after the gate of an image before its encoded state: the version, six zero bytes, its epoch, and the
 /// length of that encoding.
 fn image_start(epoch: u64, length: u64) -> [u8; 23]
     ensures { result ≡ epoch_encoding epoch ++ long_word length }
 {
     let [a, b, c, d, e, f, g, h] = epoch.to_le_bytes();
     let [i, j, k, l, m, n, o, p] = length.to_le_bytes();
+    let version = StoreVersion::current().number();
     [
-        1, 0, 0, 0, 0, 0, 0, a, b, c, d, e, f, g, h, i, j, k, l, m, n, o, p,
+        version, 0, 0, 0, 0, 0, 0, a, b, c, d, e, f, g, h, i, j, k, l, m, n, o, p,
     ]
 }
 

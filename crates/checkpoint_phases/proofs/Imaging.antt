@@ -1,6 +1,7 @@
 -- How the steps of the next image change a store in each phase of a checkpoint.
 use Rattle.std.proofs.Common.{◌≡◌, inl, inr, ℕ, ◌+◌, ◌^◌, ◌<◌, List, [], length, sym, ap, subst, ◌∙◌, arith}
 use Rattle.std.proofs.lemmas.List.{append-nil}
+use Rattle.codes.specs.StoreVersion.{current}
 use Rattle.checkpoint.specs.Images.{IsFinishing, open_image}
 use Rattle.disk.specs.Moments.{View, Passes, Follows, IsSynced}
 use Rattle.disk.specs.Slots.{Slots, slot_of, with_slot}
@@ -139,6 +140,7 @@ module _ (old new : View) (segment : Segment) (checkpoint : CheckpointValue) (mi
 holds_image : (epoch : ℕ) (encoding : List ℕ) (state : State) → IsImageOf encoding state → length encoding < 2 ^ 64
     → HoldsImage epoch (open_image epoch encoding) state
 holds_image epoch encoding state image fits = record {
+  version = current;
   rest = [];
   encoding =
       ap (λ (l : List ℕ). open_image epoch l) image.encoding_is
@@ -147,6 +149,7 @@ holds_image epoch encoding state image fits = record {
   lawful = image.lawful;
   acyclic = image.acyclic;
   short = image.short;
+  limits = image.limits;
 }
 
 -- the image is finished, and the store is in the next epoch

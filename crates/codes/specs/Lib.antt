@@ -2,3 +2,4 @@ pub mod Disposition
 pub mod KernReturn
 pub mod MessageOptions
 pub mod Right
+pub mod StoreVersion

@@ -9,6 +9,7 @@ mod message_options;
 mod name;
 mod notification;
 mod right;
+mod store_version;
 
 pub use call_number::{
     ATTACH, MACH_MSG, MACH_PORT_ALLOCATE, MACH_PORT_ALLOCATE_NAME, MACH_PORT_DEALLOCATE,
@@ -31,3 +32,4 @@ pub use notification::{
     MACH_NOTIFY_PORT_DESTROYED, MACH_NOTIFY_SEND_ONCE,
 };
 pub use right::Right;
+pub use store_version::StoreVersion;

@@ -17,7 +17,7 @@ pub const MAX_SPACES: usize = 256;
 pub const DEFAULT_QUEUE_LIMIT: u32 = 5;
 
 /// How many messages a port's queue may be set to hold (`MACH_PORT_QLIMIT_MAX`).
-pub const MAX_QUEUE_LIMIT: u32 = 16;
+pub const MAX_QUEUE_LIMIT: u32 = 64;
 
 /// How many records an epoch's segment holds at most.
 pub const MAX_RECORDS: u64 = 65_536;

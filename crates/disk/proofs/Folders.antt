@@ -1,13 +1,12 @@
 -- Slots in files: what a call on a file does to the disk that the folder is.
-use Rattle.std.proofs.Common.{◌≡◌, ◌⊎◌, inl, inr, ℕ, ◌<◌, ◌≤◌, List, [], length, refl, sym, ap, subst, ◌∙◌, arith, true≢false}
-use Rattle.std.specs.Prelude.{Bool, true, false, bytes_eq, Option, None, Some, is_some, max, min, Result, Ok, Err, OnOk}
-use Rattle.std.proofs.lemmas.Bool.{cases_lt}
+use Rattle.std.proofs.Common.{◌≡◌, ◌⊎◌, inl, inr, ℕ, List, [], refl, sym, ap, subst, ◌∙◌, arith, true≢false}
+use Rattle.std.specs.Prelude.{true, false, bytes_eq, Option, None, Some, is_some, Result, Ok, Err, OnOk}
 use Rattle.disk.specs.declared.slot.Slot.{Slot}
 use Rattle.disk.specs.declared.slot.Slot.TheVariants.{Image0, Image1, Segment0, Segment1}
-use Rattle.disk.specs.Folders.{AreNamesSynced, AreSame, AreSameBut, Files, FilesCreate, FilesFollow, FilesMayLeave, FilesPass, FolderView, HasWritten, HaveSameNames, IsFileAfter, IsFileSynced, OnlyReads, bytes_of, bytes_or_none, disk_of, slots_of_files}
+use Rattle.disk.specs.Folders.{AreNamesSynced, AreSame, AreSameBut, Files, FilesCreate, FilesFollow, FilesMayLeave, FilesPass, FolderView, HasWritten, HaveSameNames, IsFileAfter, IsFileSynced, bytes_of, bytes_or_none, disk_of, slots_of_files}
 use Rattle.disk.specs.Moments.{View, Follows, IsSynced, MayLeave, Passes}
-use Rattle.disk.specs.Slots.{Slots, TornCut, TornWrite, file_name, slot_of, with_slot}
-use Rattle.disk.proofs.Moments.{left_before, later_or_now, passes_as, passes_then, with_own}
+use Rattle.disk.specs.Slots.{Slots, file_name, slot_of, with_slot}
+use Rattle.disk.proofs.Moments.{left_before, later_or_now, passes_then, with_own}
 
 -- slots
 

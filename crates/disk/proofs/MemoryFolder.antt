@@ -1,10 +1,10 @@
 -- The slots of a disk in memory as the files of a folder.
-use Rattle.std.proofs.Common.{◌≡◌, ◌⊎◌, inl, inr, ℕ, ◌≤◌, ◌<◌, List, [], refl, sym, ap, subst, ◌∙◌}
+use Rattle.std.proofs.Common.{◌≡◌, ◌⊎◌, inl, inr, ℕ, List, refl, sym, ap, subst, ◌∙◌}
 use Rattle.std.specs.Prelude.{Bool, true, false, Option, None, Some, is_some, option_map, bytes_eq, if◌then◌else◌}
 use Rattle.std.proofs.lemmas.Slice.Eq.{bytes_eq-Decides}
 use Rattle.disk.specs.declared.slot.Slot.{Slot}
 use Rattle.disk.specs.declared.slot.Slot.TheVariants.{Image0, Image1, Segment0, Segment1}
-use Rattle.disk.specs.Folders.{AreNamesSynced, AreSame, AreSameBut, Files, FilesFollow, FilesMayLeave, FilesPass, FolderView, HasWritten, HaveSameNames, IsFileAfter, IsFileSynced, OnlyReads, bytes_of, bytes_or_none, files_of, folder_of, slot_named}
+use Rattle.disk.specs.Folders.{AreNamesSynced, AreSame, AreSameBut, Files, FilesFollow, FilesMayLeave, FilesPass, HasWritten, HaveSameNames, IsFileAfter, IsFileSynced, OnlyReads, bytes_of, bytes_or_none, files_of, folder_of, slot_named}
 use Rattle.disk.specs.Moments.{View, Follows, IsSynced, MayLeave, Passes}
 use Rattle.disk.specs.Slots.{Slots, file_name, slot_of, with_slot}
 

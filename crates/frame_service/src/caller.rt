@@ -38,8 +38,8 @@ pub trait Caller {
         ensures breaks { IfErr result (λ fault. breaks self.old fault self.new) };
 }
 
-#[tactic(auto, using(crate::proofs::Answered::message_fits, crate::proofs::Answered::refused_fits))]
 /// The answer to a call for which memory or room for the record ran out. It takes no memory.
+#[tactic(auto, using(crate::proofs::Answered::message_fits, crate::proofs::Answered::refused_fits))]
 pub fn shortage(alloc: Global, call: &Call) -> Reply
     ensures answer { result ≡ shortage_of call.now }
     ensures unrecorded { has_record call.now result ≡ false }

@@ -2,6 +2,8 @@
 use Rattle.std.specs.Prelude.{◌≡◌, ℕ, ◌^◌, ◌<◌, List, [], ◌∷◌, ◌++◌, length, flat_map, Option, None, Some, IfSome, IsSomeAnd, ◌+◌}
 use Rattle.std.proofs.Common.{sym, ◌∙◌, ap, subst, arith, append_assoc}
 use Rattle.std.proofs.lemmas.List.{append-nil}
+use Rattle.codes.specs.StoreVersion.{current}
+use Rattle.codes.specs.declared.store_version.StoreVersion.{StoreVersion}
 use Rattle.ipc_laws.specs.ImageLaws.{EncodableSet, EncodableTarget}
 use Rattle.ipc_model.specs.declared.message.Message.{Message}
 use Rattle.ipc_model.specs.declared.port.PortState.{PortState}
@@ -9,7 +11,7 @@ use Rattle.ipc_model.specs.messages.Receiving.{message_size}
 use Rattle.ipc_model.specs.rights.Dispositions.{number_of_kind}
 use Rattle.ipc_model.specs.encodings.Images.{carried_encoding, message_image, number_or_0, port_encoding, reply_right_encoding}
 use Rattle.ipc_model.specs.encodings.Encodings.{number_of_bool}
-use Rattle.image.specs.Rows.{live_port_encoding, snapshot_encoding, space_encoding}
+use Rattle.image.specs.Rows.{live_port_encoding, snapshot_encoding, snapshot_encoding_of, space_encoding_of}
 use Rattle.snapshot.specs.declared.rows.Snapshot.{Snapshot}
 use Rattle.words.specs.Words.{word, long_word}
 
@@ -43,17 +45,17 @@ port_apart port rest = simp append_assoc
 abbrev pub after_spaces : Snapshot → List ℕ
 after_spaces snapshot = word (length snapshot.ports) ++ (flat_map live_port_encoding snapshot.ports ++ [])
 
-abbrev pub after_next : Snapshot → List ℕ
-after_next snapshot =
-    word (length snapshot.spaces) ++ (flat_map space_encoding snapshot.spaces ++ after_spaces snapshot)
+abbrev pub after_next : StoreVersion → Snapshot → List ℕ
+after_next version snapshot =
+    word (length snapshot.spaces) ++ (flat_map (space_encoding_of version) snapshot.spaces ++ after_spaces snapshot)
 
-pub snapshot_apart : (snapshot : Snapshot)
-    → snapshot_encoding snapshot ≡ long_word snapshot.next_serial ++ after_next snapshot
-unfolding snapshot_encoding
-snapshot_apart snapshot =
+pub snapshot_apart : (version : StoreVersion) (snapshot : Snapshot)
+    → snapshot_encoding_of version snapshot ≡ long_word snapshot.next_serial ++ after_next version snapshot
+unfolding snapshot_encoding_of
+snapshot_apart version snapshot =
     ap (λ (l : List ℕ). long_word snapshot.next_serial
     ++ (word (length snapshot.spaces)
-    ++ (flat_map space_encoding snapshot.spaces ++ (word (length snapshot.ports) ++ l))))
+    ++ (flat_map (space_encoding_of version) snapshot.spaces ++ (word (length snapshot.ports) ++ l))))
     (sym (append-nil (flat_map live_port_encoding snapshot.ports)))
 
 -- the number that encodes a target or a set fits its word
@@ -101,17 +103,17 @@ message_found bytes message size count beyond counted after rest is count_is rig
     ∙ sym (message_apart message rest)
 
 -- a snapshot that was found part by part
-pub snapshot_found : (bytes : List ℕ) (snapshot : Snapshot) (beyond after rest : List ℕ)
+pub snapshot_found : (version : StoreVersion) (bytes : List ℕ) (snapshot : Snapshot) (beyond after rest : List ℕ)
     → bytes ≡ long_word snapshot.next_serial ++ beyond
-    → beyond ≡ word (length snapshot.spaces) ++ (flat_map space_encoding snapshot.spaces ++ after)
+    → beyond ≡ word (length snapshot.spaces) ++ (flat_map (space_encoding_of version) snapshot.spaces ++ after)
     → after ≡ word (length snapshot.ports) ++ (flat_map live_port_encoding snapshot.ports ++ rest) → rest ≡ []
-    → bytes ≡ snapshot_encoding snapshot
-snapshot_found bytes snapshot beyond after rest is spaces_are ports_are ended =
+    → bytes ≡ snapshot_encoding_of version snapshot
+snapshot_found version bytes snapshot beyond after rest is spaces_are ports_are ended =
     is ∙ ap (λ (l : List ℕ). long_word snapshot.next_serial ++ l)
-    (spaces_are ∙ ap (λ (l : List ℕ). word (length snapshot.spaces) ++ (flat_map space_encoding snapshot.spaces ++ l))
+    (spaces_are ∙ ap (λ (l : List ℕ). word (length snapshot.spaces) ++ (flat_map (space_encoding_of version) snapshot.spaces ++ l))
     (ports_are ∙ ap (λ (l : List ℕ). word (length snapshot.ports) ++ (flat_map live_port_encoding snapshot.ports ++ l))
     ended))
-    ∙ sym (snapshot_apart snapshot)
+    ∙ sym (snapshot_apart version snapshot)
 
 -- what follows each of a message's parts
 abbrev pub after_complex : Message → List ℕ
@@ -163,17 +165,17 @@ port_added port o a b c d e f g end is_a is_b is_c is_d is_e is_f is_g is_end =
     ++ (word port.make_send_count ++ (word (number_or_0 port.set) ++ after_set))) end is_a to_b
 
 pub snapshot_added : (snapshot : Snapshot) (o a b c d end : List ℕ) → a ≡ o ++ long_word snapshot.next_serial
-    → b ≡ a ++ word (length snapshot.spaces) → c ≡ b ++ flat_map space_encoding snapshot.spaces
+    → b ≡ a ++ word (length snapshot.spaces) → c ≡ b ++ flat_map (space_encoding_of current) snapshot.spaces
     → d ≡ c ++ word (length snapshot.ports) → end ≡ d ++ flat_map live_port_encoding snapshot.ports
     → end ≡ o ++ snapshot_encoding snapshot
-unfolding snapshot_encoding
+unfolding snapshot_encoding_of
 snapshot_added snapshot o a b c d end is_a is_b is_c is_d is_end =
     let ports : List ℕ = word (length snapshot.ports) ++ flat_map live_port_encoding snapshot.ports in
     let to_d : end ≡ c ++ ports =
     added c d (word (length snapshot.ports)) (flat_map live_port_encoding snapshot.ports) end is_d is_end in
-    let to_c : end ≡ b ++ (flat_map space_encoding snapshot.spaces ++ ports) =
-    added b c (flat_map space_encoding snapshot.spaces) ports end is_c to_d in
-    let to_b : end ≡ a ++ (word (length snapshot.spaces) ++ (flat_map space_encoding snapshot.spaces ++ ports)) =
-    added a b (word (length snapshot.spaces)) (flat_map space_encoding snapshot.spaces ++ ports) end is_b to_c in
+    let to_c : end ≡ b ++ (flat_map (space_encoding_of current) snapshot.spaces ++ ports) =
+    added b c (flat_map (space_encoding_of current) snapshot.spaces) ports end is_c to_d in
+    let to_b : end ≡ a ++ (word (length snapshot.spaces) ++ (flat_map (space_encoding_of current) snapshot.spaces ++ ports)) =
+    added a b (word (length snapshot.spaces)) (flat_map (space_encoding_of current) snapshot.spaces ++ ports) end is_b to_c in
     added o a (long_word snapshot.next_serial)
-    (word (length snapshot.spaces) ++ (flat_map space_encoding snapshot.spaces ++ ports)) end is_a to_b
+    (word (length snapshot.spaces) ++ (flat_map (space_encoding_of current) snapshot.spaces ++ ports)) end is_a to_b

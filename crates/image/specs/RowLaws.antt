@@ -3,11 +3,12 @@ use Rattle.std.specs.Prelude.{◌≡◌, ℕ, suc, List, [], ◌∷◌, ◌++◌
 use Rattle.std.proofs.Common.{sym, ◌∙◌, ap}
 use Rattle.std.specs.FinMap as finmap
 use Rattle.std.specs.FinMap.{len-entries}
+use Rattle.codes.specs.declared.store_version.StoreVersion.{StoreVersion}
 use Rattle.ipc_model.specs.declared.entry.Entry.{Entry}
 use Rattle.ipc_model.specs.declared.port.PortState.{PortState}
 use Rattle.ipc_model.specs.state.State.{Names, State}
-use Rattle.ipc_model.specs.encodings.Images.{entry_encoding, image_encoding, names_encoding, port_encoding}
-use Rattle.image.specs.Rows.{live_port_encoding, named_encoding, snapshot_encoding, space_encoding}
+use Rattle.ipc_model.specs.encodings.Images.{entry_encoding, image_encoding_of, names_encoding, port_encoding, request_encoding, space_encoding}
+use Rattle.image.specs.Rows.{live_port_encoding, named_encoding, snapshot_encoding_of, space_encoding_of}
 use Rattle.snapshot.specs.Snapshots.{names_of, snapshot_of}
 use Rattle.snapshot.specs.declared.rows.LivePort.{LivePort}
 use Rattle.snapshot.specs.declared.rows.NamedEntry.{NamedEntry}
@@ -42,13 +43,15 @@ space_row e = record { number = e.0; names = names_of e.1 }
 port_row : ℕ × PortState → LivePort
 port_row e = record { serial = e.0; state = e.1 }
 
-pub image_of_state : (state : State) → snapshot_encoding (snapshot_of state) ≡ image_encoding state
-unfolding snapshot_encoding snapshot_of image_encoding space_row port_row
-image_of_state state = λ i.
+pub image_of_state : (version : StoreVersion) (state : State)
+    → snapshot_encoding_of version (snapshot_of state) ≡ image_encoding_of version state
+unfolding snapshot_encoding_of snapshot_of image_encoding_of space_row port_row
+image_of_state version state = λ i.
     long_word state.next
     ++ (word ((length-map space_row (finmap.entries state.spaces) ∙ sym (len-entries state.spaces)) i)
-    ++ (encodings_of space_row space_encoding (λ (e : ℕ × Names). word e.0 ++ names_encoding e.1)
-    (λ (e : ℕ × Names). ap (λ (l : List ℕ). word e.0 ++ l) (names_same e.1)) (finmap.entries state.spaces) i
+    ++ (encodings_of space_row (space_encoding_of version) (space_encoding version)
+    (λ (e : ℕ × Names). ap (λ (l : List ℕ). word e.0 ++ (request_encoding version ++ l)) (names_same e.1))
+    (finmap.entries state.spaces) i
     ++ (word ((length-map port_row (finmap.entries state.ports) ∙ sym (len-entries state.ports)) i)
     ++ encodings_of port_row live_port_encoding (λ (e : ℕ × PortState). long_word e.0 ++ port_encoding e.1)
     (λ e. refl) (finmap.entries state.ports) i)))

@@ -1,45 +1,54 @@
 ghost use Rattle.std.specs.Prelude.{◌≡◌, ◌<◌, ◌++◌, ℕ, List, All, IfOk, IfSome, IsSomeAnd, OnOk, flat_map, length};
+ghost use Rattle.codes.specs.StoreVersion.{current};
+ghost use Rattle.codes.specs.declared.store_version.StoreVersion.{StoreVersion};
 ghost use Rattle.words.specs.Words.{word};
 
+use codes::StoreVersion;
 use ipc_model::Sequence;
 use std::alloc::{AllocError, Global};
 use words::push_word;
 
 /// A value that an image encodes by bytes of its own.
 pub(crate) trait Encoded: Drop {
-    /// Its bytes.
-    ghost encoding: { Self → List ℕ };
+    /// Its bytes, in an image of a version.
+    ghost encoding: { StoreVersion → Self → List ℕ };
 
     /// An image can encode it.
     ghost fits: { Self → Type 0 };
 
     /// The value that stands in front, and the bytes after it.
-    fn take(alloc: Global, bytes: &[u8]) -> Result<Option<(Self, &[u8])>, AllocError>
-        ensures found { IfOk result (λ found. IfSome found (λ r. (bytes.now ≡ encoding r.0 ++ r.1.now) × fits r.0)) }
-        ensures only { (value : Self) (rest : List ℕ) → fits value → bytes.now ≡ encoding value ++ rest
+    fn take(
+        alloc: Global,
+        version: StoreVersion,
+        bytes: &[u8],
+    ) -> Result<Option<(Self, &[u8])>, AllocError>
+        ensures found { IfOk result
+            (λ found. IfSome found (λ r. (bytes.now ≡ encoding version r.0 ++ r.1.now) × fits r.0)) }
+        ensures only { (value : Self) (rest : List ℕ) → fits value → bytes.now ≡ encoding version value ++ rest
             → IfOk result (λ found. IsSomeAnd found (λ r. (r.0 ≡ value) × (r.1.now ≡ rest))) };
 
-    /// Adds its bytes. If an allocation fails, some of them may have been added.
+    /// Adds its bytes, in the current version. If an allocation fails, some of them may have been added.
     fn push(&self, out: &mut Vec<u8>) -> Result<(), AllocError>
-        ensures { OnOk result (out.new.items ≡ out.old.items ++ encoding self.now) };
+        ensures { OnOk result (out.new.items ≡ out.old.items ++ encoding current self.now) };
 }
 
 /// `count` values from the front, and the bytes after them.
 pub(crate) fn take_rows<T: Encoded>(
     alloc: Global,
+    version: StoreVersion,
     count: u32,
     bytes: &[u8],
 ) -> Result<Option<(Sequence<T>, &[u8])>, AllocError>
-    ensures found { IfOk result (λ found. IfSome found (λ r. (bytes.now ≡ flat_map T.encoding r.0 ++ r.1.now)
+    ensures found { IfOk result (λ found. IfSome found (λ r. (bytes.now ≡ flat_map (T.encoding version) r.0 ++ r.1.now)
         × (length r.0 ≡ count) × All T.fits r.0)) }
     ensures only { (rows : List T) (rest : List ℕ) → All T.fits rows → length rows ≡ count
-        → bytes.now ≡ flat_map T.encoding rows ++ rest
+        → bytes.now ≡ flat_map (T.encoding version) rows ++ rest
         → IfOk result (λ found. IsSomeAnd found (λ r. (r.0 ≡ rows) × (r.1.now ≡ rest))) }
 {
     let mut rows = Vec::new(alloc);
     let mut rest = bytes;
     for _ in 0..count {
-        let Some((row, beyond)) = T::take(alloc, rest)? else {
+        let Some((row, beyond)) = T::take(alloc, version, rest)? else {
             return Ok(None);
         };
         rows.push(row)?;
@@ -61,7 +70,7 @@ pub(crate) fn push_length(out: &mut Vec<u8>, length: usize) -> Result<(), AllocE
 
 /// Adds the bytes of values, one after another. If an allocation fails, some of them may have been added.
 pub(crate) fn push_rows<T: Encoded>(out: &mut Vec<u8>, rows: &[T]) -> Result<(), AllocError>
-    ensures { OnOk result (out.new.items ≡ out.old.items ++ flat_map T.encoding rows.now) }
+    ensures { OnOk result (out.new.items ≡ out.old.items ++ flat_map (T.encoding current) rows.now) }
 {
     let mut rest = rows;
     while let Some((row, beyond)) = rest.split_first() {

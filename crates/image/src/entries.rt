@@ -11,6 +11,7 @@ ghost use Rattle.snapshot.specs.declared.rows.NamedEntry.{NamedEntry};
 ghost use Rattle.words.specs.Words.{word, long_word};
 
 use crate::encoded::Encoded;
+use codes::StoreVersion;
 use ipc_model::{Entry, PortRights};
 use snapshot::NamedEntry;
 use std::alloc::{AllocError, Global};
@@ -205,11 +206,11 @@ impl Encoded for NamedEntry {
     ghost use Rattle.image.specs.Fitting.{FitsNamed};
     ghost use Rattle.image.specs.Rows.{named_encoding};
 
-    ghost encoding = { named_encoding };
+    ghost encoding = { λ version. named_encoding };
 
     ghost fits = { FitsNamed };
 
-    fn take(_: Global, bytes: &[u8]) -> Result<Option<(Self, &[u8])>, AllocError> {
+    fn take(_: Global, _: StoreVersion, bytes: &[u8]) -> Result<Option<(Self, &[u8])>, AllocError> {
         Ok(take_named(bytes))
     }
 

@@ -1,6 +1,6 @@
 ghost use Rattle.std.specs.Prelude.{◌≡◌, ◌≢◌, ◌<◌, ◌^◌, ◌++◌, [], ℕ, List, All, IfOk, IfSome, IsErrOf, IsSomeAnd, MatchBool, OnOk, flat_map, length, map};
 ghost use Rattle.image.specs.Fitting.{FitsImage, FitsLivePort, FitsSpace, AscendsFrom, number_of, serial_of};
-ghost use Rattle.image.specs.Rows.{live_port_encoding, snapshot_encoding, space_encoding};
+ghost use Rattle.image.specs.Rows.{live_port_encoding, snapshot_encoding, snapshot_encoding_of, space_encoding_of};
 ghost use Rattle.snapshot.specs.declared.rows.LivePort.{LivePort};
 ghost use Rattle.snapshot.specs.declared.rows.Snapshot.{Snapshot};
 ghost use Rattle.snapshot.specs.declared.rows.Space.{Space};
@@ -8,25 +8,30 @@ ghost use Rattle.words.specs.Words.{word};
 
 use crate::ImageFault;
 use crate::encoded::{push_length, push_rows, take_rows};
+use codes::StoreVersion;
 use ipc_model::Sequence;
 use snapshot::{LivePort, Snapshot, Space, ascends};
 use std::alloc::{AllocError, Global};
 use words::{push_long_word, take_long_word, take_word};
 
 /// The spaces in front, after their number, and the bytes after them.
-fn take_spaces(alloc: Global, bytes: &[u8]) -> Result<Option<(Sequence<Space>, &[u8])>, AllocError>
+fn take_spaces(
+    alloc: Global,
+    version: StoreVersion,
+    bytes: &[u8],
+) -> Result<Option<(Sequence<Space>, &[u8])>, AllocError>
     ensures found { IfOk result (λ found. IfSome found
-        (λ r. (bytes.now ≡ word (length r.0) ++ (flat_map space_encoding r.0 ++ r.1.now))
+        (λ r. (bytes.now ≡ word (length r.0) ++ (flat_map (space_encoding_of version) r.0 ++ r.1.now))
         × (length r.0 < 2 ^ 32) × All FitsSpace r.0 × AscendsFrom 0 (map number_of r.0))) }
     ensures only { (spaces : List Space) (rest : List ℕ) → length spaces < 2 ^ 32 → All FitsSpace spaces
         → AscendsFrom 0 (map number_of spaces)
-        → bytes.now ≡ word (length spaces) ++ (flat_map space_encoding spaces ++ rest)
+        → bytes.now ≡ word (length spaces) ++ (flat_map (space_encoding_of version) spaces ++ rest)
         → IfOk result (λ found. IsSomeAnd found (λ r. (r.0 ≡ spaces) × (r.1.now ≡ rest))) }
 {
     let Some((count, rest)) = take_word(bytes) else {
         return Ok(None);
     };
-    let spaces: Option<(Sequence<Space>, &[u8])> = take_rows(alloc, count, rest)?;
+    let spaces: Option<(Sequence<Space>, &[u8])> = take_rows(alloc, version, count, rest)?;
     let Some((spaces, rest)) = spaces else {
         return Ok(None);
     };
@@ -39,6 +44,7 @@ fn take_spaces(alloc: Global, bytes: &[u8]) -> Result<Option<(Sequence<Space>, &
 /// The live ports in front, after their number, and the bytes after them.
 fn take_ports(
     alloc: Global,
+    version: StoreVersion,
     bytes: &[u8],
 ) -> Result<Option<(Sequence<LivePort>, &[u8])>, AllocError>
     ensures found { IfOk result (λ found. IfSome found
@@ -52,7 +58,7 @@ fn take_ports(
     let Some((count, rest)) = take_word(bytes) else {
         return Ok(None);
     };
-    let ports: Option<(Sequence<LivePort>, &[u8])> = take_rows(alloc, count, rest)?;
+    let ports: Option<(Sequence<LivePort>, &[u8])> = take_rows(alloc, version, count, rest)?;
     let Some((ports, rest)) = ports else {
         return Ok(None);
     };
@@ -70,19 +76,23 @@ fn is_end(rest: &[u8]) -> bool
 }
 
 /// The snapshot that these bytes encode.
-fn read_snapshot(alloc: Global, bytes: &[u8]) -> Result<Option<Snapshot>, AllocError>
+fn read_snapshot(
+    alloc: Global,
+    version: StoreVersion,
+    bytes: &[u8],
+) -> Result<Option<Snapshot>, AllocError>
     ensures found { IfOk result (λ found. IfSome found
-        (λ snapshot. (bytes.now ≡ snapshot_encoding snapshot) × FitsImage snapshot)) }
-    ensures only { (snapshot : Snapshot) → FitsImage snapshot → bytes.now ≡ snapshot_encoding snapshot
+        (λ snapshot. (bytes.now ≡ snapshot_encoding_of version snapshot) × FitsImage snapshot)) }
+    ensures only { (snapshot : Snapshot) → FitsImage snapshot → bytes.now ≡ snapshot_encoding_of version snapshot
         → IfOk result (λ found. IsSomeAnd found (λ read. read ≡ snapshot)) }
 {
     let Some((next_serial, rest)) = take_long_word(bytes) else {
         return Ok(None);
     };
-    let Some((spaces, rest)) = take_spaces(alloc, rest)? else {
+    let Some((spaces, rest)) = take_spaces(alloc, version, rest)? else {
         return Ok(None);
     };
-    let Some((ports, rest)) = take_ports(alloc, rest)? else {
+    let Some((ports, rest)) = take_ports(alloc, version, rest)? else {
         return Ok(None);
     };
     if !is_end(rest) {
@@ -95,23 +105,25 @@ fn read_snapshot(alloc: Global, bytes: &[u8]) -> Result<Option<Snapshot>, AllocE
     }))
 }
 
-/// The snapshot that bytes encode: its numbers fit their words, and its spaces, their names and its ports ascend.
+/// The snapshot that bytes encode in a version: its numbers fit their words, and its spaces, their names and its ports
+/// ascend.
 ///
 /// `NotCanonical`: they encode none. `NoMemory`: an allocation failed.
-pub fn read(alloc: Global, bytes: &[u8]) -> Result<Snapshot, ImageFault>
-    ensures found { IfOk result (λ snapshot. (bytes.now ≡ snapshot_encoding snapshot) × FitsImage snapshot) }
-    ensures only { (snapshot : Snapshot) → FitsImage snapshot → bytes.now ≡ snapshot_encoding snapshot
+pub fn read(alloc: Global, version: StoreVersion, bytes: &[u8]) -> Result<Snapshot, ImageFault>
+    ensures found { IfOk result (λ snapshot. (bytes.now ≡ snapshot_encoding_of version snapshot) × FitsImage snapshot) }
+    ensures only { (snapshot : Snapshot) → FitsImage snapshot → bytes.now ≡ snapshot_encoding_of version snapshot
         → IfOk result (λ read. read ≡ snapshot) }
     ensures none { IsErrOf result ImageFault.NotCanonical → (snapshot : Snapshot) → FitsImage snapshot
-        → bytes.now ≡ snapshot_encoding snapshot → ⊥ }
+        → bytes.now ≡ snapshot_encoding_of version snapshot → ⊥ }
 {
-    match read_snapshot(alloc, bytes)? {
+    match read_snapshot(alloc, version, bytes)? {
         Some(snapshot) => Ok(snapshot),
         None => Err(ImageFault::NotCanonical),
     }
 }
 
-/// Adds the encoding of a snapshot. If an allocation fails, some of its bytes may have been added.
+/// Adds the encoding of a snapshot, in the current version. If an allocation fails, some of its bytes may have been
+/// added.
 pub fn write_into(snapshot: &Snapshot, out: &mut Vec<u8>) -> Result<(), AllocError>
     ensures { OnOk result (out.new.items ≡ out.old.items ++ snapshot_encoding snapshot.now) }
 {

@@ -1,13 +1,15 @@
 ghost use Rattle.std.specs.Prelude.{◌≡◌};
+ghost use Rattle.codes.specs.declared.store_version.StoreVersion.{StoreVersion};
 ghost use Rattle.image.specs.LawfulFits.{LawfulSnapshotsFit};
-ghost use Rattle.image.specs.Rows.{snapshot_encoding};
+ghost use Rattle.image.specs.Rows.{snapshot_encoding_of};
 ghost use Rattle.ipc_model.specs.state.State.{State};
-ghost use Rattle.ipc_model.specs.encodings.Images.{image_encoding};
+ghost use Rattle.ipc_model.specs.encodings.Images.{image_encoding_of};
 ghost use Rattle.snapshot.specs.Snapshots.{snapshot_of};
 
-/// The encoding of a state's snapshot is the state's image.
+/// The encoding of a state's snapshot in a version is the state's image in that version.
 pub fn image_is_of_state()
-    ensures { (state : State) → snapshot_encoding (snapshot_of state) ≡ image_encoding state }
+    ensures { (version : StoreVersion) (state : State)
+        → snapshot_encoding_of version (snapshot_of state) ≡ image_encoding_of version state }
 {}
 
 /// An image encodes the snapshot of every lawful state whose queues are short enough to count.

@@ -11,7 +11,7 @@ ghost use Rattle.words.specs.Words.{AreBytes, word, long_word};
 
 use crate::encoded::{Encoded, push_length, push_rows, take_rows};
 use crate::entries::{byte_of, push_byte, take_byte, take_flag};
-use codes::HEADER_LENGTH;
+use codes::{HEADER_LENGTH, StoreVersion};
 use ipc_model::{CarriedRight, Message, PortInMessage, RightKind, Sequence, is_message_size};
 use std::alloc::{AllocError, Global};
 use words::{push_long_word, push_word, take_long_word, take_word};
@@ -102,11 +102,11 @@ impl Encoded for CarriedRight {
     ghost use Rattle.ipc_laws.specs.ImageLaws.{EncodableRight};
     ghost use Rattle.ipc_model.specs.encodings.Images.{carried_encoding};
 
-    ghost encoding = { carried_encoding };
+    ghost encoding = { λ version. carried_encoding };
 
     ghost fits = { EncodableRight };
 
-    fn take(_: Global, bytes: &[u8]) -> Result<Option<(Self, &[u8])>, AllocError> {
+    fn take(_: Global, _: StoreVersion, bytes: &[u8]) -> Result<Option<(Self, &[u8])>, AllocError> {
         Ok(take_right(bytes))
     }
 
@@ -230,18 +230,22 @@ impl Encoded for Message {
     ghost use Rattle.image.specs.Fitting.{FitsMessage};
     ghost use Rattle.ipc_model.specs.encodings.Images.{message_image};
 
-    ghost encoding = { message_image };
+    ghost encoding = { λ version. message_image };
 
     ghost fits = { FitsMessage };
 
-    fn take(alloc: Global, bytes: &[u8]) -> Result<Option<(Self, &[u8])>, AllocError> {
+    fn take(
+        alloc: Global,
+        version: StoreVersion,
+        bytes: &[u8],
+    ) -> Result<Option<(Self, &[u8])>, AllocError> {
         let Some((head, rest)) = take_head(bytes) else {
             return Ok(None);
         };
         let Some((count, rest)) = take_word(rest) else {
             return Ok(None);
         };
-        let Some((rights, rest)) = take_rows(alloc, count, rest)? else {
+        let Some((rights, rest)) = take_rows(alloc, version, count, rest)? else {
             return Ok(None);
         };
         let Some((body, rest)) = take_body(alloc, head.size, rest)? else {

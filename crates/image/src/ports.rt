@@ -8,6 +8,7 @@ ghost use Rattle.words.specs.Words.{word};
 
 use crate::encoded::{Encoded, push_length, push_rows, take_rows};
 use crate::entries::{push_target, take_serials, target_of};
+use codes::StoreVersion;
 use ipc_model::{Message, PortState, Sequence};
 use snapshot::LivePort;
 use std::alloc::{AllocError, Global};
@@ -53,6 +54,7 @@ fn take_numbers(bytes: &[u8]) -> Option<(u32, u32, u32, u32, &[u8])>
 /// The messages in front, after their number, and the bytes after them.
 fn take_messages(
     alloc: Global,
+    version: StoreVersion,
     bytes: &[u8],
 ) -> Result<Option<(Sequence<Message>, &[u8])>, AllocError>
     ensures found { IfOk result (λ found. IfSome found
@@ -65,11 +67,15 @@ fn take_messages(
     let Some((count, rest)) = take_word(bytes) else {
         return Ok(None);
     };
-    take_rows(alloc, count, rest)
+    take_rows(alloc, version, count, rest)
 }
 
 /// What a port has, and the bytes after it.
-fn take_port(alloc: Global, bytes: &[u8]) -> Result<Option<(PortState, &[u8])>, AllocError>
+fn take_port(
+    alloc: Global,
+    version: StoreVersion,
+    bytes: &[u8],
+) -> Result<Option<(PortState, &[u8])>, AllocError>
     ensures found { IfOk result (λ found. IfSome found
         (λ r. (bytes.now ≡ port_encoding r.0 ++ r.1.now) × FitsPort r.0)) }
     ensures only { (port : PortState) (rest : List ℕ) → FitsPort port → bytes.now ≡ port_encoding port ++ rest
@@ -81,7 +87,7 @@ fn take_port(alloc: Global, bytes: &[u8]) -> Result<Option<(PortState, &[u8])>, 
     let Some((no_senders, port_destroyed, rest)) = take_serials(rest) else {
         return Ok(None);
     };
-    let Some((messages, rest)) = take_messages(alloc, rest)? else {
+    let Some((messages, rest)) = take_messages(alloc, version, rest)? else {
         return Ok(None);
     };
     let port = PortState {
@@ -116,15 +122,19 @@ impl Encoded for LivePort {
     ghost use Rattle.image.specs.Fitting.{FitsLivePort};
     ghost use Rattle.image.specs.Rows.{live_port_encoding};
 
-    ghost encoding = { live_port_encoding };
+    ghost encoding = { λ version. live_port_encoding };
 
     ghost fits = { FitsLivePort };
 
-    fn take(alloc: Global, bytes: &[u8]) -> Result<Option<(Self, &[u8])>, AllocError> {
+    fn take(
+        alloc: Global,
+        version: StoreVersion,
+        bytes: &[u8],
+    ) -> Result<Option<(Self, &[u8])>, AllocError> {
         let Some((serial, rest)) = take_long_word(bytes) else {
             return Ok(None);
         };
-        let Some((state, rest)) = take_port(alloc, rest)? else {
+        let Some((state, rest)) = take_port(alloc, version, rest)? else {
             return Ok(None);
         };
         Ok(Some((LivePort { serial, state }, rest)))

@@ -1,5 +1,5 @@
 -- What stands on the disk of a copy.
-use Rattle.std.proofs.Common.{◌≡◌, inl, List, ℕ, [], Result, Ok, Err, refl, sym, ap, subst, ◌∙◌, arith}
+use Rattle.std.proofs.Common.{◌≡◌, inl, [], Result, Ok, Err, refl, sym, ap, subst, ◌∙◌, arith}
 use Rattle.disk.specs.Moments.{View}
 use Rattle.disk.specs.Slots.{Slots}
 use Rattle.checkpoint.specs.Images.{ImageValue, open_image, unwritten}
@@ -16,7 +16,6 @@ use Rattle.store_fault.specs.declared.fault.StoreFault.TheVariants as fault
 use Rattle.recover.proofs.Gates.{empty_has_gate}
 use Rattle.recover.proofs.Stages.{empty_encodes, one_stands}
 use Rattle.recover.specs.AtRest.{IsAtRest}
-use Rattle.recover.specs.Found.{Reads}
 use Rattle.recover.specs.Looked.{IsLook}
 use Rattle.recover.specs.Making.{empty_segment}
 use Rattle.recover.specs.declared.looking.Looked.{Looked}

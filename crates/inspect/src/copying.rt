@@ -5,14 +5,17 @@ ghost use Rattle.disk.specs.Slots.{empty_slots};
 ghost use Rattle.inspect.specs.Copied.{IsCopyOf, IsImageOfRows, IsOfCopy, store_of};
 ghost use Rattle.ipc_model.specs.store.Recovery.{IsDamaged, IsOtherVersion};
 ghost use Rattle.recover.specs.AtRest.{IsAtRest};
+ghost use Rattle.recover.specs.Making.{empty_segment};
 ghost use Rattle.store_layout.specs.Standing.{as_written};
 
 use crate::ListFault;
 use crate::looking::look_still;
 use checkpoint::Image;
+use codes::StoreVersion;
 use disk::{Disk, DiskFault, Slot};
 use image::image_is_of_state;
 use kernel::{Kernel, Snapshot};
+use slot_steps::OPEN_GATE;
 use std::alloc::Global;
 use store_fault::StoreFault;
 
@@ -55,8 +58,15 @@ impl From<DiskFault> for CopyStoreFault {
     }
 }
 
-/// The segment of epoch 0 without a record: an open gate, version 1, the epoch, and a closed gate.
-const EMPTY_SEGMENT: [u8; 17] = [0x5a, 1, 0, 0, 0, 0, 0, 0, 0, 0, 0, 0, 0, 0, 0, 0, 0];
+/// The segment of epoch 0 without a record: an open gate, the version, the epoch, and a closed gate.
+fn first_segment() -> [u8; 17]
+    ensures { result ≡ empty_segment 0 }
+{
+    let version = StoreVersion::current().number();
+    [
+        OPEN_GATE, version, 0, 0, 0, 0, 0, 0, 0, 0, 0, 0, 0, 0, 0, 0, 0,
+    ]
+}
 
 /// The image of the state with these rows, of epoch 0.
 ///
@@ -98,7 +108,7 @@ fn write_store<E: Disk>(to: &mut E, image: &Image) -> Result<(), DiskFault>
     ensures rest { E.honest → OnOk result (IsAtRest (E.view to.new)) }
     ensures failures { CountsFailure (E.failed_calls to.old) (E.failed_calls to.new) result }
 {
-    to.write_at(Slot::Segment0, 0, &EMPTY_SEGMENT)?;
+    to.write_at(Slot::Segment0, 0, &first_segment())?;
     image.write(to)?;
     sync_all(to)
 }

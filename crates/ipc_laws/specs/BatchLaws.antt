@@ -4,7 +4,7 @@ use Rattle.std.proofs.Common.{refl, sym, ap, ◌∙◌, subst, arith, append_ass
 use Rattle.codes.specs.declared.limits.TheConstants.{MAX_RECORDS}
 use Rattle.ipc_model.specs.declared.record.Record.{Record}
 use Rattle.ipc_laws.specs.ListLaws.{same_back}
-use Rattle.ipc_model.specs.store.Store.{open_gate, batch_encoding, batches_encoding, all_records, segment_header, IsClosed, AreRecords, EncodesBatches, EncodesSegment}
+use Rattle.ipc_model.specs.store.Store.{open_gate, batch_encoding, batches_encoding, all_records, segment_header_of, IsClosed, AreRecords, EncodesBatches, EncodesSegment}
 use Rattle.ipc_laws.specs.EncodingLaws.{word_once, long_word_once, records_once}
 use Rattle.ipc_laws.specs.CanonicalLaws.{canonical_call_long}
 use Rattle.ipc_model.specs.encodings.Encodings.{call_encoding, canonical_call, reply_encoding, record_encoding, records_encoding, IsRecord}
@@ -163,6 +163,7 @@ one_reading bytes r1 r2 is is_too =
 pub one_segment : (epoch : ℕ) (bytes : List ℕ) (r1 r2 : List Record) → EncodesSegment epoch bytes r1
     → EncodesSegment epoch bytes r2 → r1 ≡ r2
 one_segment epoch bytes r1 r2 is is_too =
-    let header = segment_header open_gate epoch in
-    let same = same_back header header is.content is_too.content refl (sym is.encoding ∙ is_too.encoding) in
+    let same =
+    same_back (segment_header_of is.version open_gate epoch) (segment_header_of is_too.version open_gate epoch) is.content
+    is_too.content refl (sym is.encoding ∙ is_too.encoding) in
     one_reading is_too.content r1 r2 (subst (λ content. EncodesBatches content r1) same is.encoded) is_too.encoded

@@ -4,6 +4,7 @@ use Rattle.std.proofs.Common.{sym, ◌∙◌, ap, arith, append_assoc}
 use Rattle.std.specs.Ordering.{nat_cmp}
 use Rattle.std.specs.FinMap as finmap
 use Rattle.std.specs.FinMap.{FinMap, len-entries, same_entries_map}
+use Rattle.codes.specs.declared.store_version.StoreVersion.{StoreVersion}
 use Rattle.ipc_model.specs.declared.entry.Entry.{Entry}
 use Rattle.ipc_model.specs.declared.entry.Entry.TheVariants.{Port, SendOnce, Set, Dead}
 use Rattle.ipc_model.specs.declared.message.CarriedRight.{CarriedRight}
@@ -14,7 +15,7 @@ use Rattle.ipc_model.specs.declared.message.RightKind.{RightKind}
 use Rattle.ipc_model.specs.declared.message.RightKind.TheVariants as kind
 use Rattle.ipc_model.specs.declared.port.PortState.{PortState}
 use Rattle.ipc_model.specs.rights.Dispositions.{number_of_kind}
-use Rattle.ipc_model.specs.encodings.Images.{number_or_0, entry_encoding, names_encoding, place_encoding, carried_encoding, reply_right_encoding, message_image, port_encoding, image_encoding}
+use Rattle.ipc_model.specs.encodings.Images.{number_or_0, entry_encoding, names_encoding, place_encoding, carried_encoding, reply_right_encoding, message_image, port_encoding, request_encoding, space_encoding, image_encoding_of}
 use Rattle.ipc_model.specs.state.Lawful.{kind_of_number}
 use Rattle.ipc_laws.specs.ListLaws.{same_front, same_back, same_head, same_tail}
 use Rattle.ipc_model.specs.messages.Receiving.{message_size}
@@ -460,15 +461,19 @@ names_once a b x y fits fits_too e =
     map_once named_encoding EncodableNamed named_once a b x y fits.few fits_too.few fits.entries fits_too.entries whole
 
 -- a space's number and its names, and a port's serial and what it keeps
-abbrev space_encoding : ℕ × Names → List ℕ
-space_encoding e = word e.0 ++ names_encoding e.1
+space_apart : (version : StoreVersion) (e : ℕ × Names) (rest : List ℕ)
+    → space_encoding version e ++ rest ≡ word e.0 ++ (request_encoding version ++ (names_encoding e.1 ++ rest))
+space_apart version e rest = simp append_assoc
 
-pub space_once : HasOneEncoding space_encoding EncodableSpace
-space_once a b x y fits fits_too e =
-    let whole =
-    sym (append_assoc (word a.0) (names_encoding a.1) x) ∙ e ∙ append_assoc (word b.0) (names_encoding b.1) y in
-    let space = word_once a.0 b.0 (names_encoding a.1 ++ x) (names_encoding b.1 ++ y) fits.0 fits_too.0 whole in
-    let names = names_once a.1 b.1 x y fits.1 fits_too.1 space.1 in
+pub space_once : (version : StoreVersion) → HasOneEncoding (space_encoding version) EncodableSpace
+space_once version a b x y fits fits_too e =
+    let request = request_encoding version in
+    let whole = sym (space_apart version a x) ∙ e ∙ space_apart version b y in
+    let space =
+    word_once a.0 b.0 (request ++ (names_encoding a.1 ++ x)) (request ++ (names_encoding b.1 ++ y)) fits.0 fits_too.0
+    whole in
+    let beyond = same_back request request (names_encoding a.1 ++ x) (names_encoding b.1 ++ y) refl space.1 in
+    let names = names_once a.1 b.1 x y fits.1 fits_too.1 beyond in
     ((λ i. (space.0 i, names.0 i)), names.1)
 
 abbrev live_port_encoding : ℕ × PortState → List ℕ
@@ -488,27 +493,29 @@ abbrev after_spaces : State → List ℕ → List ℕ
 after_spaces state rest =
     word (finmap.len state.ports) ++ (flat_map live_port_encoding (finmap.entries state.ports) ++ rest)
 
-abbrev after_next : State → List ℕ → List ℕ
-after_next state rest =
-    word (finmap.len state.spaces) ++ (flat_map space_encoding (finmap.entries state.spaces) ++ after_spaces state rest)
+abbrev after_next : StoreVersion → State → List ℕ → List ℕ
+after_next version state rest =
+    word (finmap.len state.spaces)
+    ++ (flat_map (space_encoding version) (finmap.entries state.spaces) ++ after_spaces state rest)
 
-image_apart : (state : State) (rest : List ℕ)
-    → image_encoding state ++ rest ≡ long_word state.next ++ after_next state rest
-unfolding image_encoding
-image_apart state rest = simp append_assoc
+image_apart : (version : StoreVersion) (state : State) (rest : List ℕ)
+    → image_encoding_of version state ++ rest ≡ long_word state.next ++ after_next version state rest
+unfolding image_encoding_of
+image_apart version state rest = simp append_assoc
 
 -- Equal bytes that begin with the image of a state begin with the image of only that state, followed by the same bytes.
 abbrev pub ImagesHaveOneEncoding : Type 0
 ImagesHaveOneEncoding =
-    (a b : State) (x y : List ℕ) → Encodable a → Encodable b → image_encoding a ++ x ≡ image_encoding b ++ y → (a ≡ b)
-    × (x ≡ y)
+    (version : StoreVersion) (a b : State) (x y : List ℕ) → Encodable a → Encodable b
+    → image_encoding_of version a ++ x ≡ image_encoding_of version b ++ y → (a ≡ b) × (x ≡ y)
 
 pub image_once : ImagesHaveOneEncoding
-image_once a b x y fits fits_too e =
-    let whole = sym (image_apart a x) ∙ e ∙ image_apart b y in
-    let next = long_word_once a.next b.next (after_next a x) (after_next b y) fits.next fits_too.next whole in
+image_once version a b x y fits fits_too e =
+    let whole = sym (image_apart version a x) ∙ e ∙ image_apart version b y in
+    let next =
+    long_word_once a.next b.next (after_next version a x) (after_next version b y) fits.next fits_too.next whole in
     let spaces =
-    map_once space_encoding EncodableSpace space_once a.spaces b.spaces (after_spaces a x)
+    map_once (space_encoding version) EncodableSpace (space_once version) a.spaces b.spaces (after_spaces a x)
     (after_spaces b y) fits.few_spaces fits_too.few_spaces fits.spaces fits_too.spaces next.1 in
     let ports =
     map_once live_port_encoding EncodableLivePort live_port_once a.ports b.ports x y fits.few_ports

@@ -9,7 +9,7 @@ use Rattle.ipc_model.specs.declared.port.PortState.{PortState}
 use Rattle.ipc_model.specs.state.Circular.{Acyclic, Carries}
 use Rattle.ipc_model.specs.state.Lawful.{Lawful, LawfulNames}
 use Rattle.ipc_laws.specs.LawfulLaws.{alone}
-use Rattle.ipc_model.specs.encodings.Images.{image_encoding}
+use Rattle.ipc_model.specs.encodings.Images.{image_encoding, image_encoding_of}
 use Rattle.ipc_laws.specs.ListLaws.{some_same}
 use Rattle.ipc_laws.specs.MapLaws.{get-here, get-there, map_rules}
 use Rattle.ipc_laws.specs.MapSums.{total, total-new, weigh}
@@ -93,6 +93,6 @@ opening_is_lawful = (
 
 -- its image
 pub opening-image : image_encoding opening_state
-    ≡ 1 ∷ 0 ∷ 0 ∷ 0 ∷ 0 ∷ 0 ∷ 0 ∷ 0 ∷ 1 ∷ 0 ∷ 0 ∷ 0 ∷ 1 ∷ 0 ∷ 0 ∷ 0 ∷ 0 ∷ 0 ∷ 0 ∷ 0 ∷ 0 ∷ 0 ∷ 0 ∷ 0 ∷ []
-unfolding image_encoding
+    ≡ 1 ∷ 0 ∷ 0 ∷ 0 ∷ 0 ∷ 0 ∷ 0 ∷ 0 ∷ 1 ∷ 0 ∷ 0 ∷ 0 ∷ 1 ∷ 0 ∷ 0 ∷ 0 ∷ 0 ∷ 0 ∷ 0 ∷ 0 ∷ 0 ∷ 0 ∷ 0 ∷ 0 ∷ 0 ∷ 0 ∷ 0 ∷ 0 ∷ []
+unfolding image_encoding_of
 opening-image = simp map_rules

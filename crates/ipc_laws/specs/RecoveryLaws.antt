@@ -1,11 +1,14 @@
 -- A disk encodes one thing, and what is recovered from it is one lawful and acyclic state.
 use Rattle.std.specs.Prelude.{◌≡◌, ℕ, ◌+◌, ◌%◌, ◌^◌, ◌<◌, ◌∷◌, [], ◌++◌, List, length, drop, slice_index, refl}
 use Rattle.std.proofs.Common.{sym, ◌∙◌, ap, subst, inl, inr, arith}
+use Rattle.codes.specs.StoreVersion.{version_number}
+use Rattle.codes.specs.declared.store_version.StoreVersion.{StoreVersion}
+use Rattle.codes.specs.declared.store_version.StoreVersion.TheVariants.{One, Two}
 use Rattle.ipc_model.specs.declared.record.Record.{Record}
 use Rattle.ipc_laws.specs.BatchLaws.{one_segment}
 use Rattle.ipc_model.specs.state.Circular.{Acyclic}
 use Rattle.ipc_laws.specs.ImageLaws.{image_once}
-use Rattle.ipc_model.specs.encodings.Images.{image_encoding}
+use Rattle.ipc_model.specs.encodings.Images.{image_encoding_of}
 use Rattle.ipc_model.specs.state.Lawful.{Lawful}
 use Rattle.ipc_laws.specs.OpeningLaws.{opening_is_lawful}
 use Rattle.ipc_model.specs.store.Recovery.{Slots, IsOpen, IsOfEpoch, IsNew, HoldsImage, Continues, IsStored, Encodes, Recovered, IsOtherVersion, HasOtherVersion, image_header, segment_header_length}
@@ -13,13 +16,24 @@ use Rattle.ipc_laws.specs.Encoding.{lawful_is_encodable}
 use Rattle.ipc_model.specs.state.State.{State}
 use Rattle.ipc_model.specs.calls.Step.{Run}
 use Rattle.ipc_laws.specs.StepsKeep.{FitCalls, one_run, runs_keep_lawful}
-use Rattle.ipc_model.specs.store.Store.{EncodesSegment, AreRecords, open_gate, segment_header, image_content}
+use Rattle.ipc_model.specs.store.Store.{EncodesSegment, AreRecords, open_gate, image_content_of}
 use Rattle.words.specs.WordLaws.{same_long_word}
 use Rattle.words.specs.Words.{long_word}
 
+-- a version has one number
+pub same_version : (one other : StoreVersion) → version_number one ≡ version_number other → one ≡ other
+same_version One One is = refl
+same_version One Two is = absurd (omega (arith, is))
+same_version Two One is = absurd (omega (arith, is))
+same_version Two Two is = refl
+
+-- an open slot's header, with any number for its version
+abbrev pub header_with : ℕ → ℕ → List ℕ
+header_with number epoch = open_gate ∷ number ∷ 0 ∷ 0 ∷ 0 ∷ 0 ∷ 0 ∷ 0 ∷ long_word epoch
+
 -- a header has one epoch
-pub one_epoch : (one other : ℕ) (xs ys : List ℕ) → one < 2 ^ 64 → other < 2 ^ 64
-    → segment_header open_gate one ++ xs ≡ segment_header open_gate other ++ ys → one ≡ other
+pub one_epoch : {a b : ℕ} (one other : ℕ) (xs ys : List ℕ) → one < 2 ^ 64 → other < 2 ^ 64
+    → header_with a one ++ xs ≡ header_with b other ++ ys → one ≡ other
 one_epoch one other xs ys fits fits_too is =
     same_long_word one other xs ys fits fits_too (ap (λ (l : List ℕ). drop 8 l) is)
 
@@ -27,7 +41,9 @@ one_epoch one other xs ys fits fits_too is =
 pub image_header_is : (epoch : ℕ) (slot : List ℕ) (state : State) → epoch < 2 ^ 64 → HoldsImage epoch slot state
     → IsOfEpoch (epoch % 2) epoch slot
 image_header_is epoch slot state fits image = record {
-  rest = (long_word (length (image_encoding state)) ++ image_encoding state) ++ image.rest;
+  version = image.version;
+  rest =
+      (long_word (length (image_encoding_of image.version state)) ++ image_encoding_of image.version state) ++ image.rest;
   encoding = image.encoding;
   fits = fits;
   of_number = refl;
@@ -54,19 +70,23 @@ same_epoch slots base other records more one two =
     )
 
 -- a slot holds the image of one state
-one_image : (epoch : ℕ) (slot : List ℕ) (one other : State) → HoldsImage epoch slot one → HoldsImage epoch slot other
+pub one_image : (epoch : ℕ) (slot : List ℕ) (one other : State) → HoldsImage epoch slot one → HoldsImage epoch slot other
     → one ≡ other
 one_image epoch slot one other first second =
-    let whole : (open_gate ∷ image_content epoch (image_encoding one)) ++ first.rest
-    ≡ (open_gate ∷ image_content epoch (image_encoding other)) ++ second.rest = sym first.encoding
+    let v = first.version in
+    let w = second.version in
+    let whole : (open_gate ∷ image_content_of v epoch (image_encoding_of v one)) ++ first.rest
+    ≡ (open_gate ∷ image_content_of w epoch (image_encoding_of w other)) ++ second.rest = sym first.encoding
     ∙ second.encoding in
-    let beyond : (long_word (length (image_encoding one)) ++ image_encoding one) ++ first.rest
-    ≡ (long_word (length (image_encoding other)) ++ image_encoding other) ++ second.rest = ap
+    let same : v ≡ w = same_version v w (ap (λ (l : List ℕ). slice_index l 1) whole) in
+    let beyond : (long_word (length (image_encoding_of v one)) ++ image_encoding_of v one) ++ first.rest
+    ≡ (long_word (length (image_encoding_of w other)) ++ image_encoding_of w other) ++ second.rest = ap
     (λ (l : List ℕ). drop 16 l) whole in
-    let encodings : image_encoding one ++ first.rest ≡ image_encoding other ++ second.rest =
+    let encodings : image_encoding_of v one ++ first.rest ≡ image_encoding_of w other ++ second.rest =
     ap (λ (l : List ℕ). drop 8 l) beyond in
-    (image_once one other first.rest second.rest (lawful_is_encodable one first.lawful first.short)
-    (lawful_is_encodable other second.lawful second.short) encodings).0
+    (image_once w one other first.rest second.rest (lawful_is_encodable one first.lawful first.short)
+    (lawful_is_encodable other second.lawful second.short)
+    (subst (λ u. image_encoding_of u one ++ first.rest ≡ image_encoding_of w other ++ second.rest) same encodings)).0
 
 -- what the other segment adds is determined
 
@@ -222,19 +242,19 @@ recovers_lawful slots state recovered =
     let begins = beginning slots recovered.base recovered.records recovered.encoded in
     runs_keep_lawful recovered.base recovered.records state begins.fit begins.lawful begins.acyclic recovered.run
 
--- And no disk from which a state is recovered is of another version.
+-- And no disk from which a state is recovered has a slot of another version.
 
-of_version_one : (header number epoch : ℕ) (slot : List ℕ) → IsOfEpoch number epoch slot → HasOtherVersion header slot
-    → ⊥
-of_version_one header number epoch slot is other = other.1 (ap (λ (l : List ℕ). slice_index l 1) is.encoding)
+of_a_version : (header number epoch : ℕ) (slot : List ℕ) → IsOfEpoch number epoch slot → HasOtherVersion header slot → ⊥
+of_a_version header number epoch slot is other =
+    other.1 is.version (sym (ap (λ (l : List ℕ). slice_index l 1) is.encoding))
 
-abbrev pub RecoversVersionOne : Type 0
-RecoversVersionOne = (slots : Slots) (state : State) → Recovered slots state → IsOtherVersion slots → ⊥
+abbrev pub RecoversKnownVersions : Type 0
+RecoversKnownVersions = (slots : Slots) (state : State) → Recovered slots state → IsOtherVersion slots → ⊥
 
-pub recovers_version_one : RecoversVersionOne
-recovers_version_one slots state recovered (number, small, inl image) =
+pub recovers_known_versions : RecoversKnownVersions
+recovers_known_versions slots state recovered (number, small, inl image) =
     let header = (recovered.encoded.headers number small).0 image.0 in
-    of_version_one image_header number header.0 (slots.image number) header.1 image
-recovers_version_one slots state recovered (number, small, inr segment) =
+    of_a_version image_header number header.0 (slots.image number) header.1 image
+recovers_known_versions slots state recovered (number, small, inr segment) =
     let header = (recovered.encoded.headers number small).1 segment.0 in
-    of_version_one segment_header_length number header.0 (slots.segment number) header.1 segment
+    of_a_version segment_header_length number header.0 (slots.segment number) header.1 segment

@@ -2,8 +2,12 @@
 use Rattle.std.specs.Prelude.{◌≡◌, ℕ, ◌+◌, ◌<◌, List, [], ◌∷◌, ◌++◌, length}
 use Rattle.std.proofs.Common.{refl, sym, ap, ◌∙◌, arith, append_assoc, length-append}
 use Rattle.std.proofs.lemmas.List.{append-nil}
+use Rattle.codes.specs.StoreVersion.{current}
+use Rattle.codes.specs.declared.store_version.StoreVersion.{StoreVersion}
+use Rattle.ipc_model.specs.declared.call.Call.{Call}
+use Rattle.ipc_model.specs.declared.call.Call.TheVariants.{SetQlimit}
 use Rattle.ipc_model.specs.declared.record.Record.{Record}
-use Rattle.ipc_model.specs.store.Store.{open_gate, batch_encoding, batches_encoding, all_records, IsClosed, NoneEmpty, AreRecords, EncodesBatches, EncodesSegment, IsInUse}
+use Rattle.ipc_model.specs.store.Store.{open_gate, batch_encoding, batches_encoding, all_records, IsClosed, NoneEmpty, AreRecords, AreWithin, IsWithin, EncodesBatches, EncodesSegment, IsInUseOf}
 
 pub all_records-push : (batches : List (List Record)) (batch : List Record)
     → all_records (batches ++ batch ∷ []) ≡ all_records batches ++ batch
@@ -48,7 +52,27 @@ other_end content records s rest closed = record {
 }
 
 -- a segment in use encodes its records
-pub in_use_encodes : (epoch : ℕ) (bytes : List ℕ) (records : List Record) → IsInUse epoch bytes records
-    → EncodesSegment epoch bytes records
-in_use_encodes epoch bytes records used =
-    record { content = used.content; encoding = used.encoding; encoded = used.encoded }
+pub in_use_encodes : {version : StoreVersion} (epoch : ℕ) (bytes : List ℕ) (records : List Record)
+    → IsInUseOf version epoch bytes records → EncodesSegment epoch bytes records
+in_use_encodes {version = version} epoch bytes records used = record {
+  version = version;
+  content = used.content;
+  encoding = used.encoding;
+  encoded = used.encoded;
+  within = used.within;
+  next = used.next;
+}
+
+-- what more records may be in a segment of a version, and all of the current one's
+pub within-join : (version : StoreVersion) (records more : List Record) → AreWithin version records
+    → AreWithin version more → AreWithin version (records ++ more)
+within-join version [] more are are_too = are_too
+within-join version (first ∷ records) more are are_too = (are.0, within-join version records more are.1 are_too)
+
+pub within_current : (c : Call) → IsWithin current c
+within_current (SetQlimit name limit) = tt
+within_current c = tt
+
+pub all_within : (records : List Record) → AreWithin current records
+all_within [] = tt
+all_within (first ∷ records) = (within_current first.call, all_within records)

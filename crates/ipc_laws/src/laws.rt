@@ -17,7 +17,7 @@ ghost use Rattle.ipc_laws.specs.RecordedMessages.{RecordedSendsAreDone};
 ghost use Rattle.ipc_laws.specs.RecordedReceives.{RecordedReceivesAreDone};
 ghost use Rattle.ipc_laws.specs.RecordedReplies.{RepliesByCall};
 ghost use Rattle.ipc_laws.specs.RecordedSteps.{RecordedStepsAreRecords};
-ghost use Rattle.ipc_laws.specs.RecoveryLaws.{RecoversLawful, RecoversOnce, RecoversVersionOne, EncodesOnce};
+ghost use Rattle.ipc_laws.specs.RecoveryLaws.{RecoversKnownVersions, RecoversLawful, RecoversOnce, EncodesOnce};
 ghost use Rattle.ipc_laws.specs.RunLaws.{RecordsRunAsCanonical};
 ghost use Rattle.ipc_laws.specs.Encoding.{LawfulIsEncodable};
 ghost use Rattle.ipc_laws.specs.Settling.{AlwaysSettles, EffectsLower};
@@ -194,9 +194,9 @@ pub fn recovers_lawful()
     ensures { RecoversLawful }
 {}
 
-/// Slots from which a state is recovered have no open slot of another version.
-pub fn recovers_version_one()
-    ensures { RecoversVersionOne }
+/// Slots from which a state is recovered have no open slot of a version that there isn't.
+pub fn recovers_known_versions()
+    ensures { RecoversKnownVersions }
 {}
 
 /// Whatever events come after an opening, no more is acknowledged than was applied, and no more is stored.

@@ -11,6 +11,6 @@ pub use laws::{
     not_now_exactly, nothing_new_is_acknowledged, one_end, one_new_state, one_run,
     opening_is_lawful, others_fade, places_hold_calls, port_moves_lawfully, reads_own_writes,
     record_once, recorded_receives_are_done, recorded_sends_are_done, records_are_owned,
-    recovers_lawful, recovers_once, recovers_version_one, replies_by_call, runs_keep_lawful,
+    recovers_known_versions, recovers_lawful, recovers_once, replies_by_call, runs_keep_lawful,
     settled_is_lawful, spaces_are_made, steps_keep_lawful, tickets_are_steps,
 };

@@ -7,18 +7,37 @@ ghost use Rattle.ipc_model.specs.store.Store.{epoch_encoding, open_gate, closed_
 ghost use Rattle.slot_steps.specs.Steps.{HasSomeGate, IsClosing, IsShut, IsStillClosed, segment_slot as slot_of_epoch};
 
 use crate::Segment;
+use codes::StoreVersion;
 use disk::{Disk, DiskFault, Slot};
 use slot_steps::{
     CLOSED_GATE, OPEN_GATE, SEGMENT_HEADER, close_slot, cut_after, segment_slot, sync_after,
     write_after, write_gate,
 };
 
-/// What stands after the gate of a segment without batches: version 1, six zero bytes, its epoch, and a closed gate.
+/// What stands after the gate of a segment without batches: the version, six zero bytes, its epoch, and a closed gate.
 fn segment_start(epoch: u64) -> [u8; 16]
     ensures { result ≡ epoch_encoding epoch ++ closed_gate ∷ [] }
 {
     let [a, b, c, d, e, f, g, h] = epoch.to_le_bytes();
-    [1, 0, 0, 0, 0, 0, 0, a, b, c, d, e, f, g, h, CLOSED_GATE]
+    let version = StoreVersion::current().number();
+    [
+        version,
+        0,
+        0,
+        0,
+        0,
+        0,
+        0,
+        a,
+        b,
+        c,
+        d,
+        e,
+        f,
+        g,
+        h,
+        CLOSED_GATE,
+    ]
 }
 
 /// Writes the header of a segment after a slot's gate, and a closed gate after the header.

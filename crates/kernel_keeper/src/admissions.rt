@@ -48,7 +48,8 @@ impl<L: Founding> Model for Admission<L> {
 }
 
 impl<L: Founding> Admissions<L> {
-    /// The ledger of a history: the book that counts the records of all sessions, and all admissions, none of them given.
+    /// The ledger of a history: the book that counts the records of all sessions, and all admissions, none of them
+    /// given.
     pub fn open(blank: Blank) -> (Book<L>, Admissions<L>)
         requires blank { (blank.name ≡ L.name) × (blank.parts ≡ L.parts) × (L.parts ≡ MOST_SESSIONS) }
         ensures book { result.0.total ≡ 0 }

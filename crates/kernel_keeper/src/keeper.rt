@@ -28,8 +28,8 @@ use stored_mark::Stored;
 use system::{Kernel, SubmitFault, Ticket};
 use waiting::Places;
 
-/// What lies under the lock of the kernel: the half that makes calls together with the history, and the book that counts
-/// all sessions' records.
+/// What lies under the lock of the kernel: the half that makes calls together with the history, and the book that
+/// counts all sessions' records.
 pub struct KernelKeeper<L: Founding> {
     core: KernelCore<L>,
     book: Book<L>,
@@ -136,8 +136,8 @@ impl<L: Founding> KernelKeeper<L> {
             .places_of_call(session.own_state.space, call)
     }
 
-    /// A new session, of a task that is attached to space 1. It has seen all of the history. If an allocation fails, the
-    /// admission comes back.
+    /// A new session, of a task that is attached to space 1. It has seen all of the history. If an allocation fails,
+    /// the admission comes back.
     pub fn session(
         &mut self,
         admission: Admission<L>,

@@ -25,8 +25,8 @@ pub struct Unmet<L: Founding> {
 
 /// Two sessions meet: both have then seen what either had, and no place belongs to both. It takes no lock.
 ///
-/// With `Unmet` they come back as they were. `SameNumber` and `Apart` don't come for two sessions of one `Shared`, which
-/// no clause says.
+/// With `Unmet` they come back as they were. `SameNumber` and `Apart` don't come for two sessions of one `Shared`,
+/// which no clause says.
 pub fn meet<L: Founding>(
     one: Session<L>,
     other: Session<L>,

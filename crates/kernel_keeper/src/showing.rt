@@ -11,8 +11,8 @@ use std::sync::Wait;
 use store_keeper::StoreKeeper;
 use stored_mark::Mark;
 
-/// Shows that what was acknowledged to a session is stored, by whoever holds the lock of the store: a crash then leaves at
-/// least as many records, and from then on too. It does nothing else.
+/// Shows that what was acknowledged to a session is stored, by whoever holds the lock of the store: a crash then leaves
+/// at least as many records, and from then on too. It does nothing else.
 pub fn show_stored<L: Founding, D: Disk, R: Wait>(
     rt: &R,
     mark: &Mark<L>,

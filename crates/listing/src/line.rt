@@ -43,8 +43,8 @@ pub(crate) fn hexadecimal(alloc: Global, number: u32) -> Result<String, AllocErr
     hex::encode(alloc, number.to_be_bytes())
 }
 
-#[tactic(auto, unfolding(crate::specs::Listing::name_line))]
 /// The line of a name.
+#[tactic(auto, unfolding(crate::specs::Listing::name_line))]
 pub(crate) fn name_line(alloc: Global, name: u32, entry: &Entry) -> Result<String, AllocError>
     ensures { IfOk result (λ line. string_bytes line ≡ name_line name entry.now) }
 {
@@ -58,8 +58,8 @@ pub(crate) fn name_line(alloc: Global, name: u32, entry: &Entry) -> Result<Strin
     line
 }
 
-#[tactic(auto, unfolding(crate::specs::Listing::space_line))]
 /// The line of a space.
+#[tactic(auto, unfolding(crate::specs::Listing::space_line))]
 pub(crate) fn space_line(alloc: Global, space: u32) -> Result<String, AllocError>
     ensures { IfOk result (λ line. string_bytes line ≡ space_line space) }
 {
@@ -80,8 +80,8 @@ fn standing_text(alloc: Global, receive: Option<Standing>) -> Result<String, All
     }
 }
 
-#[tactic(auto, unfolding(crate::specs::Listing::queue_text))]
 /// The end of a port's line.
+#[tactic(auto, unfolding(crate::specs::Listing::queue_text))]
 fn queue_text(alloc: Global, port: &PortState) -> Result<String, AllocError>
     ensures { IfOk result (λ text. string_bytes text ≡ queue_text port.now) }
 {
@@ -92,8 +92,8 @@ fn queue_text(alloc: Global, port: &PortState) -> Result<String, AllocError>
     format!(in alloc; " queue {queued} of {limit} seqno {seqno} mscount {mscount}\n")
 }
 
-#[tactic(auto, unfolding(crate::specs::Listing::port_encoding))]
 /// The line of a port.
+#[tactic(auto, unfolding(crate::specs::Listing::port_encoding))]
 pub(crate) fn port_line(
     alloc: Global,
     serial: u64,
@@ -113,8 +113,8 @@ pub(crate) fn port_line(
     line
 }
 
-#[tactic(auto, unfolding(crate::specs::Listing::store_line))]
 /// The line of what a store counts.
+#[tactic(auto, unfolding(crate::specs::Listing::store_line))]
 pub(crate) fn store_line(alloc: Global, epoch: u64, records: u64) -> Result<String, AllocError>
     ensures { IfOk result (λ line. string_bytes line ≡ store_line epoch records) }
 {

@@ -23,8 +23,8 @@ fn port_node(alloc: Global, serial: u64) -> Result<String, AllocError>
     format!(in alloc; "p{serial}")
 }
 
-#[tactic(auto, unfolding(crate::specs::Drawing::name_node_line))]
 /// The node of a name.
+#[tactic(auto, unfolding(crate::specs::Drawing::name_node_line))]
 pub(crate) fn name_node_line(
     alloc: Global,
     space: u32,
@@ -40,8 +40,8 @@ pub(crate) fn name_node_line(
     format!(in alloc; "    {node} [label=\"{name} {bits} refs {references}\"];\n")
 }
 
-#[tactic(auto, unfolding(crate::specs::Drawing::cluster_head))]
 /// The head of a space's cluster.
+#[tactic(auto, unfolding(crate::specs::Drawing::cluster_head))]
 pub(crate) fn cluster_head(alloc: Global, space: u32) -> Result<String, AllocError>
     ensures { IfOk result (λ text. string_bytes text ≡ cluster_head space) }
 {
@@ -59,8 +59,8 @@ fn queue_label(alloc: Global, port: &PortState) -> Result<String, AllocError>
     format!(in alloc; "queue {queued} of {limit}\\nseqno {seqno} mscount {mscount}")
 }
 
-#[tactic(auto, unfolding(crate::specs::Drawing::port_node_text))]
 /// The node of a port.
+#[tactic(auto, unfolding(crate::specs::Drawing::port_node_text))]
 pub(crate) fn port_node_line(
     alloc: Global,
     serial: u64,
@@ -135,8 +135,8 @@ fn label(
     }
 }
 
-#[tactic(auto, unfolding(crate::specs::Drawing::edge_text))]
 /// The edge of a right.
+#[tactic(auto, unfolding(crate::specs::Drawing::edge_text))]
 pub(crate) fn edge_line(alloc: Global, right: StandingRight) -> Result<String, AllocError>
     ensures { IfOk result (λ line. string_bytes line ≡ edge_of right) }
 {

@@ -107,8 +107,8 @@ impl Visitor for Tallies {
     }
 }
 
-#[tactic(auto, unfolding(crate::specs::Gathering::gathered))]
 /// The rights of a snapshot's ports, by one walk over it. It fails if memory runs out.
+#[tactic(auto, unfolding(crate::specs::Gathering::gathered))]
 pub(crate) fn gather(alloc: Global, snapshot: &Snapshot) -> Result<Tallies, AllocError>
     ensures { IfOk result (λ tallies. tallies.by_port ≡ gathered snapshot.now) }
 {

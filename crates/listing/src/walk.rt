@@ -238,8 +238,8 @@ fn see_ports<V: Visitor>(visitor: &mut V, ports: &[LivePort]) -> Result<(), Allo
     Ok(())
 }
 
-#[tactic(auto, unfolding(crate::specs::Walking::snapshot_seen))]
 /// Shows all rights of a snapshot. It fails if memory runs out.
+#[tactic(auto, unfolding(crate::specs::Walking::snapshot_seen))]
 pub(crate) fn see_snapshot<V: Visitor>(
     visitor: &mut V,
     snapshot: &Snapshot,

@@ -4,7 +4,7 @@ use Rattle.std.proofs.Common.{sym, ap, inl, inr, ◌∙◌, arith, append_assoc,
 use Rattle.std.proofs.Math.Seq.{take-append-add}
 use Rattle.std.proofs.lemmas.List.{take-take}
 use Rattle.ipc_model.specs.store.Recovery.{IsOfEpoch, IsOpen, image_header, segment_header_length}
-use Rattle.ipc_model.specs.store.Store.{open_gate, segment_header}
+use Rattle.ipc_model.specs.store.Store.{open_gate, segment_header_of}
 use Rattle.store_layout.specs.Standing.{IsPassedImage, IsPassedSegment}
 
 open_alike : (header : ℕ) (x y : List ℕ) → 1 ≤ header → take header x ≡ take header y → IsOpen header x
@@ -18,14 +18,16 @@ epoch_alike : (header number epoch : ℕ) (x y : List ℕ) → 16 ≤ header →
     → IsOfEpoch number epoch x → IsOfEpoch number epoch y
 epoch_alike header number epoch x y whole same is =
     let apart : header ≡ 16 + (header - 16) = omega (arith, whole) in
-    let front : take header x ≡ segment_header open_gate epoch ++ take (header - 16) is.rest =
-    ap (take header) is.encoding ∙ ap (λ k. take k (segment_header open_gate epoch ++ is.rest)) apart
-    ∙ take-append-add (segment_header open_gate epoch) is.rest (header - 16) in
+    let begins : List ℕ = segment_header_of is.version open_gate epoch in
+    let front : take header x ≡ begins ++ take (header - 16) is.rest =
+    ap (take header) is.encoding ∙ ap (λ k. take k (begins ++ is.rest)) apart
+    ∙ take-append-add begins is.rest (header - 16) in
     record {
+      version = is.version;
       rest = take (header - 16) is.rest ++ drop header y;
       encoding =
           sym (take-append-drop header y) ∙ ap (λ l. l ++ drop header y) (sym same ∙ front)
-          ∙ append_assoc (segment_header open_gate epoch) (take (header - 16) is.rest) (drop header y);
+          ∙ append_assoc begins (take (header - 16) is.rest) (drop header y);
       fits = is.fits;
       of_number = is.of_number;
     }

@@ -2,12 +2,14 @@
 use Rattle.std.specs.Prelude.{◌≡◌, ℕ, ◌+◌, ◌∷◌, Bool, true, false, List, [], ◌++◌, length}
 use Rattle.std.proofs.Common.{refl, sym, ap, subst, ◌∙◌, arith, append_assoc}
 use Rattle.std.proofs.lemmas.List.{append-nil}
+use Rattle.codes.specs.StoreVersion.{current}
 use Rattle.disk.specs.Slots.{slot_of}
 use Rattle.disk.specs.declared.slot.Slot.{Slot}
+use Rattle.ipc_laws.specs.StoreLaws.{all_within}
 use Rattle.ipc_model.specs.declared.record.Record.{Record}
 use Rattle.ipc_model.specs.store.Recovery.{HoldsImage}
-use Rattle.ipc_model.specs.store.Store.{IsClosed, EncodesSegment, all_records, batch_encoding, batches_encoding, image_content, open_gate, segment_header}
-use Rattle.ipc_model.specs.encodings.Images.{image_encoding}
+use Rattle.ipc_model.specs.store.Store.{IsClosed, EncodesSegment, all_records, batch_encoding, batches_encoding, image_content_of, open_gate, segment_header}
+use Rattle.ipc_model.specs.encodings.Images.{image_encoding_of}
 use Rattle.slot_steps.specs.Steps.{image_slot, segment_slot}
 use Rattle.store_layout.specs.Standing.{IsPassedSegment}
 use Rattle.still_disk.specs.Live.{IsCopy}
@@ -41,6 +43,7 @@ encodes_front : (epoch : ℕ) (slot copy : List ℕ) (batches : List (List Recor
     → HoldsBatches epoch slot batches → copy ≡ front epoch batches ++ rest → IsClosed rest
     → EncodesSegment epoch copy (all_records batches)
 encodes_front epoch slot copy batches rest held encoding shut = record {
+  version = current;
   content = batches_encoding 0 batches ++ rest;
   encoding = encoding ∙ append_assoc (segment_header open_gate epoch) (batches_encoding 0 batches) rest;
   encoded = record {
@@ -53,6 +56,8 @@ encodes_front epoch slot copy batches rest held encoding shut = record {
     canonical = held.canonical;
     bounded = held.bounded;
   };
+  within = all_within (all_records batches);
+  next = tt;
 }
 
 -- the next segment of a store that has rotated
@@ -85,16 +90,19 @@ module _ (start : Moment) where
       copy_ends Appends nothing_appended more_appended (at_slot (image_slot start.epoch)) (λ m. slot) begun
       (λ m later. ([], same m later ∙ sym (append-nil slot), tt))
       (λ a b later more. ([], sym (append-nil slot))) ended copy is in
+      let v = start.image.version in
       record {
+        version = v;
         rest = start.image.rest ++ ends.rest;
         encoding =
             ends.encoding ∙ ap (λ l. l ++ ends.rest) start.image.encoding
-            ∙ append_assoc (open_gate ∷ image_content start.epoch (image_encoding start.base)) start.image.rest
+            ∙ append_assoc (open_gate ∷ image_content_of v start.epoch (image_encoding_of v start.base)) start.image.rest
             ends.rest;
         fits = start.image.fits;
         lawful = start.image.lawful;
         acyclic = start.image.acyclic;
         short = start.image.short;
+        limits = start.image.limits;
       }
 
   -- A segment in use: its copy encodes what the segment encoded at some moment.

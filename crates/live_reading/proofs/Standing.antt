@@ -3,6 +3,7 @@ use Rattle.std.specs.Prelude.{◌≡◌, ℕ, ◌+◌, ◌*◌, ◌%◌, ◌^◌
 use Rattle.std.proofs.Common.{refl, sym, ap, subst, inl, inr, ◌∙◌, arith, append_assoc}
 use Rattle.std.proofs.lemmas.Bool.{cases_lt}
 use Rattle.std.proofs.lemmas.List.{append-nil}
+use Rattle.codes.specs.StoreVersion.{current}
 use Rattle.disk.specs.Slots.{Slots, slot_of}
 use Rattle.disk.specs.declared.slot.Slot.{Slot}
 use Rattle.ipc_laws.specs.RecoveryLaws.{image_header_is, image_is_open, one_epoch}
@@ -28,6 +29,7 @@ segment_is_open epoch slot batches held = subst (IsOpen segment_header_length) (
 segment_is_of : (epoch : ℕ) (slot : List ℕ) (batches : _) → epoch < 2 ^ 64 → HoldsBatches epoch slot batches
     → IsOfEpoch (epoch % 2) epoch slot
 segment_is_of epoch slot batches fits held = record {
+  version = current;
   rest = batches_encoding 0 batches ++ held.beyond;
   encoding = held.encoding ∙ append_assoc (segment_header open_gate epoch) (batches_encoding 0 batches) held.beyond;
   fits = fits;

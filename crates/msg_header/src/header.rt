@@ -67,10 +67,10 @@ impl Header {
         }
     }
 
-    #[tactic(auto, unfolding(crate::specs::Headers::header_encoding))]
     /// Adds the header's 24 bytes, with this sequence number (`msgh_seqno`). The size must fit four bytes.
     ///
     /// If an allocation fails, nothing changed. It takes no memory if there is room for 24 bytes.
+    #[tactic(auto, unfolding(crate::specs::Headers::header_encoding))]
     pub fn write_into(&self, sequence_number: u32, out: &mut Vec<u8>) -> Result<(), AllocError>
         requires { self.now.size < 2 ^ 32 }
         ensures ok { OnOk result (out.new.items ≡ out.old.items ++ header_encoding self.now sequence_number) }

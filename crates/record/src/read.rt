@@ -53,8 +53,8 @@ fn read_record(
     Ok(Some(Record { space, call, reply }))
 }
 
-#[tactic(auto, unfolding(ipc_model::specs::encodings::Encodings::record_encoding))]
 /// The record in front, with its number, and the bytes after it. It can run out of memory only for messages.
+#[tactic(auto, unfolding(ipc_model::specs::encodings::Encodings::record_encoding))]
 pub fn take_record(alloc: Global, bytes: &[u8]) -> Result<Option<(u64, Record, &[u8])>, AllocError>
     ensures found { IfOk result (λ found. IfSome found (λ r.
         (bytes.now ≡ record_encoding r.0 r.1 ++ r.2.now) × IsRecord r.1)) }

@@ -32,9 +32,9 @@ fn push_reply_frame(out: &mut Vec<u8>, reply: &Reply) -> Result<(), AllocError>
     Ok(())
 }
 
-#[tactic(auto, unfolding(ipc_model::specs::encodings::Encodings::record_encoding))]
 /// Adds the record of a call of a task of this space with this reply, with its number: the call as a record keeps it.
 /// If an allocation fails, some of its bytes may have been added.
+#[tactic(auto, unfolding(ipc_model::specs::encodings::Encodings::record_encoding))]
 pub fn push_exchange(
     alloc: Global,
     out: &mut Vec<u8>,

@@ -3,10 +3,12 @@ use Rattle.std.proofs.Common.{◌≡◌, inl, inr, ℕ, ◌+◌, ◌<◌, ◌≤
 use Rattle.std.specs.Prelude.{◌-◌}
 use Rattle.std.proofs.lemmas.Bool.{cases_eq}
 use Rattle.std.proofs.lemmas.List.{take_at}
+use Rattle.codes.specs.StoreVersion.{current}
+use Rattle.codes.specs.declared.store_version.StoreVersion.{StoreVersion}
 use Rattle.ipc_model.specs.declared.record.Record.{Record}
-use Rattle.ipc_model.specs.store.Store.{AreRecords, EncodesBatches, EncodesSegment, IsInUse, IsClosed, all_records, batch_encoding, batches_encoding, open_gate, closed_gate, segment_header}
+use Rattle.ipc_model.specs.store.Store.{AreRecords, EncodesBatches, EncodesSegment, IsInUse, IsInUseOf, IsClosed, all_records, batch_encoding, batches_encoding, open_gate, closed_gate, segment_header, segment_header_of}
 use Rattle.ipc_laws.specs.BatchLaws.{same_batches, are_records-front, are_records-back}
-use Rattle.ipc_laws.specs.StoreLaws.{all_records-push, batches_encoding-push, none_empty-push, are_records-join}
+use Rattle.ipc_laws.specs.StoreLaws.{all_records-push, all_within, batches_encoding-push, none_empty-push, are_records-join}
 use Rattle.ipc_model.specs.store.Recovery.{IsOpen}
 use Rattle.journal.specs.Reading.{MAX_RECORDS}
 use Rattle.recover.specs.Making.{empty_segment}
@@ -69,13 +71,14 @@ has_gate epoch segment records known some other_epoch others other =
 pub shut_has_gate : (segment : List ℕ) → ¬ IsOpen 16 segment → HasLastGate segment
 shut_has_gate segment shut epoch records known =
     absurd (shut (subst (IsOpen 16) (sym known.encoding)
-    (omega (arith, length-append (segment_header open_gate epoch) known.content), refl)))
+    (omega (arith, length-append (segment_header_of known.version open_gate epoch) known.content), refl)))
 
 -- a segment that was never in use
 
 pub empty_has_gate : (epoch : ℕ) (segment : List ℕ) → segment ≡ empty_segment epoch → HasLastGate segment
 empty_has_gate epoch segment is = has_gate epoch segment []
     (record {
+      version = current;
       content = closed_gate ∷ [];
       encoding = is;
       encoded =
@@ -89,14 +92,23 @@ empty_has_gate epoch segment is = has_gate epoch segment []
             canonical = tt;
             bounded = omega arith;
           };
+      within = tt;
+      next = tt;
     }) (omega arith)
 
 -- a segment in use
-pub in_use_has_gate : (epoch : ℕ) (segment : List ℕ) (records : List Record) → IsInUse epoch segment records
-    → HasLastGate segment
-in_use_has_gate epoch segment records used =
+pub in_use_has_gate : {v : StoreVersion} (epoch : ℕ) (segment : List ℕ) (records : List Record)
+    → IsInUseOf v epoch segment records → HasLastGate segment
+in_use_has_gate {v = v} epoch segment records used =
     has_gate epoch segment records
-    (record { content = used.content; encoding = used.encoding; encoded = used.encoded }) (omega (arith, used.ended))
+    (record {
+      version = v;
+      content = used.content;
+      encoding = used.encoding;
+      encoded = used.encoded;
+      within = used.within;
+      next = used.next;
+    }) (omega (arith, used.ended))
 
 -- a segment in use to which a batch is appended
 
@@ -127,6 +139,7 @@ same_records epoch old new beyond records used shut some is =
     let encoded = used.encoded in
     has_gate epoch new records
     (record {
+      version = current;
       content = batches_encoding 0 encoded.batches ++ beyond;
       encoding = is;
       encoded = record {
@@ -139,6 +152,8 @@ same_records epoch old new beyond records used shut some is =
         canonical = encoded.canonical;
         bounded = encoded.bounded;
       };
+      within = used.within;
+      next = used.next;
     }) some
 
 more_records : (epoch : ℕ) (old new : List ℕ) (records batch : List Record) → (used : IsInUse epoch old records)
@@ -151,6 +166,7 @@ more_records epoch old new records batch used some are room is =
     let encoding : List ℕ = batch_encoding (length records) batch in
     has_gate epoch new (records ++ batch)
     (record {
+      version = current;
       content = batches_encoding 0 encoded.batches ++ (open_gate ∷ (encoding ++ closed_gate ∷ []));
       encoding = is;
       encoded = record {
@@ -167,6 +183,8 @@ more_records epoch old new records batch used some are room is =
         canonical = are_records-join records batch encoded.canonical are;
         bounded = omega (arith, room, length-append records batch);
       };
+      within = all_within (records ++ batch);
+      next = tt;
     }) (omega arith)
 
 pub append_keeps_gate : AppendKeepsGate

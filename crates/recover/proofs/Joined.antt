@@ -1,29 +1,34 @@
 -- What opening a store does, joined call by call.
 use Rattle.std.proofs.Common.{◌≡◌, inl, inr, ℕ, ◌+◌, ◌<◌, List, [], ◌∷◌, ◌++◌, length, take, refl, sym, ap, subst, ◌∙◌}
+use Rattle.codes.specs.StoreVersion.{version_number}
+use Rattle.codes.specs.declared.store_version.StoreVersion.{StoreVersion}
 use Rattle.disk.specs.declared.slot.Slot.{Slot}
 use Rattle.disk.specs.declared.slot.Slot.TheVariants.{Image0, Segment0}
 use Rattle.disk.specs.Moments.{View, MayLeave, Passes, Follows, IsSynced}
 use Rattle.disk.specs.Slots.{Slots, slot_of, with_slot}
 use Rattle.checkpoint.specs.Images.{ImageValue, open_image, unwritten}
+use Rattle.ipc_laws.specs.RecoveryLaws.{same_version}
 use Rattle.ipc_model.specs.state.State.{State, opening_state}
-use Rattle.ipc_model.specs.store.Recovery.{HoldsImage, IsNew}
+use Rattle.ipc_model.specs.store.Recovery.{HoldsImage, IsNew, version_of}
 use Rattle.ipc_model.specs.store.Store.{closed_gate}
 use Rattle.ipc_model.specs.encodings.Images.{image_encoding}
 use Rattle.journal.specs.declared.segment.Segment.{Segment}
 use Rattle.slot_steps.specs.Steps.{IsRemade, image_slot, segment_slot}
 use Rattle.disk.proofs.Moments.{passes_as, passes_then}
 use Rattle.store_layout.specs.Gates.{HaveLastGates, StandForState}
+use Rattle.store_layout.specs.Slots.{alongside_image}
 use Rattle.store_layout.specs.Standing.{as_written, InOne}
 use Rattle.store_layout.proofs.Gates.{gates_alongside_image}
 use Rattle.recover.specs.AtRest.{IsAtRest}
-use Rattle.recover.specs.Kept.{IsKept}
+use Rattle.recover.specs.Kept.{IsKept, IsKeptIn}
 use Rattle.recover.specs.Making.{DiffersIn, empty_segment}
 use Rattle.recover.specs.Crashing.{LeavesSame, StandForSame}
 use Rattle.recover.specs.Surveyed.{IsUnused}
+use Rattle.recover.specs.Upgrading.{IsRead}
 use Rattle.recover.proofs.Gates.{empty_has_gate, in_use_has_gate}
 use Rattle.recover.proofs.Rest.{rest_after, rest_called, rest_is_synced, rest_kept}
 use Rattle.recover.proofs.Stages.{IsFresh, empty_in_use, first_made, fresh_gate, fresh_gates, fresh_image, fresh_recovered, fresh_segment, one_stands, same_by_one, segment_keeps_gate, unused_fresh}
-use Rattle.recover.proofs.Ways.{NextParts, OneParts, next_ending, next_written, next_writing, one_ending, one_kept, recover_as, same_after, still_same}
+use Rattle.recover.proofs.Ways.{NextParts, next_found, next_written, next_writing, one_ending, one_found, one_kept, recover_as, same_after, still_same}
 
 -- after reads
 
@@ -81,7 +86,7 @@ first_image_after mid new content rest fresh made image time =
 abbrev OpeningImage : ImageValue → Type 0
 OpeningImage image = image ≡ unwritten 0 (image_encoding opening_state)
 
-abbrev WritesImage : View → View → ImageValue → Type 0
+abbrev pub WritesImage : View → View → ImageValue → Type 0
 WritesImage mid new image =
     IsSynced mid (image_slot image.epoch)
     → Passes mid new (Follows mid (image_slot image.epoch) (IsRemade 24 (open_image image.epoch image.encoding)))
@@ -140,30 +145,34 @@ first_kept old mid new image segment rest unused is_new is holds first made sync
 -- a store continues
 
 -- the segment in this slot is ended
-abbrev EndsAt : View → View → Slot → ℕ → Type 0
+abbrev pub EndsAt : View → View → Slot → ℕ → Type 0
 EndsAt mid new slot end =
     IsAtRest mid → end < length (slot_of mid.seen slot)
     → Passes mid new (DiffersIn mid.seen slot
     (λ after. take (end + 1) after ≡ take (end + 1) (slot_of mid.seen slot)))
 
-pub go_on_same : (old mid new : View) (e : ℕ) (slot : Slot) (state : State) (count end : ℕ) → slot ≡ segment_slot e
-    → IsAtRest old → HaveLastGates old.seen → Passes old mid (MayLeave old) → mid.seen ≡ old.seen
-    → OneParts old.seen e state count end
-    → EndsAt mid new slot end → Passes old new (StandForSame old.seen)
-go_on_same old mid new e slot state count end is rest gates still same parts ends =
-    let rested = rest_kept old mid still same rest in
-    still_then_same old mid new rest gates still same
-    (one_ending mid new e state count end rested (subst HaveLastGates (sym same) gates)
-    (subst (λ (s : Slots). OneParts s e state count end) (sym same) parts)
-    (subst (λ s. EndsAt mid new s end) is ends rested))
+pub end_same : (old new : View) (e : ℕ) (slot : Slot) (state : State) (count end : ℕ) → slot ≡ segment_slot e
+    → IsAtRest old → HaveLastGates old.seen → IsRead old.seen e state count end → EndsAt old new slot end
+    → Passes old new (StandForSame old.seen)
+end_same old new e slot state count end is rest gates read ends =
+    one_ending old new e state count end rest gates read (subst (λ s. EndsAt old new s end) is ends rest)
 
-pub go_on_kept : (old mid new : View) (e : ℕ) (slot : Slot) (state : State) (count end : ℕ) → slot ≡ segment_slot e
-    → mid.seen ≡ old.seen → OneParts old.seen e state count end → IsAtRest new
-    → new.seen ≡ with_slot mid.seen slot (take (end + 1) (slot_of mid.seen slot ++ closed_gate ∷ []))
-    → IsKept new (record { epoch = e; records = count }) state
-go_on_kept old mid new e slot state count end is same parts rest ended =
-    one_kept mid.seen new e state count end (subst (λ (s : Slots). OneParts s e state count end) (sym same) parts) rest
-    (subst (λ s. new.seen ≡ with_slot mid.seen s (take (end + 1) (slot_of mid.seen s ++ closed_gate ∷ []))) is ended)
+-- the version that was read is the header's
+version_read : (s : Slots) (e : ℕ) (state : State) (count end : ℕ) (v : StoreVersion)
+    → (parts : IsRead s e state count end) → version_of (slot_of s (segment_slot e)) ≡ version_number v
+    → parts.replays.version ≡ v
+version_read s e state count end v parts says = same_version parts.replays.version v (sym parts.replays.says ∙ says)
+
+pub end_kept : (old new : View) (e : ℕ) (slot : Slot) (state : State) (count end : ℕ) (v : StoreVersion)
+    → slot ≡ segment_slot e → IsRead old.seen e state count end
+    → version_of (slot_of old.seen (segment_slot e)) ≡ version_number v → IsAtRest new
+    → new.seen ≡ with_slot old.seen slot (take (end + 1) (slot_of old.seen slot ++ closed_gate ∷ []))
+    → IsKeptIn v new (record { epoch = e; records = count }) state
+end_kept old new e slot state count end v is read says rest ended =
+    subst (λ (w : StoreVersion). IsKeptIn w new (record { epoch = e; records = count }) state)
+    (version_read old.seen e state count end v read says)
+    (one_kept old.seen new e state count end read rest
+    (subst (λ s. new.seen ≡ with_slot old.seen s (take (end + 1) (slot_of old.seen s ++ closed_gate ∷ []))) is ended))
 
 -- in the next epoch
 
@@ -192,43 +201,53 @@ next_rest mid written e base image is rested writes made synced =
     (open_image image.epoch image.encoding)
     (writes (rest_is_synced (image_slot image.epoch) mid rested)) made synced rested
 
-pub next_end_same : (old mid written new : View) (e : ℕ) (base state : State) (image : ImageValue) (slot : Slot)
-    (count end : ℕ) → image ≡ unwritten (e + 1) (image_encoding base) → slot ≡ segment_slot (e + 1) → IsAtRest old
-    → HaveLastGates old.seen
+next_placed : (mid written : View) (e : ℕ) (base : State) (image : ImageValue)
+    → image ≡ unwritten (e + 1) (image_encoding base)
+    → written.seen ≡ with_slot mid.seen (image_slot image.epoch) (open_image image.epoch image.encoding)
+    → written.seen ≡ with_slot mid.seen (image_slot (e + 1)) (NextContent e base)
+next_placed mid written e base image is made =
+    subst (λ (i : ImageValue). written.seen ≡ with_slot mid.seen (image_slot i.epoch) (open_image i.epoch i.encoding))
+    is made
+
+pub next_read : (old mid written : View) (e : ℕ) (base state : State) (image : ImageValue) (count end : ℕ)
+    → image ≡ unwritten (e + 1) (image_encoding base) → mid.seen ≡ old.seen
+    → NextParts old.seen e (NextContent e base) state count end
+    → written.seen ≡ with_slot mid.seen (image_slot image.epoch) (open_image image.epoch image.encoding)
+    → IsRead written.seen (e + 1) state count end
+next_read old mid written e base state image count end is same parts made =
+    let content : List ℕ = NextContent e base in
+    next_written mid.seen written.seen e content state count end
+    (subst (λ (s : Slots). NextParts s e content state count end) (sym same) parts)
+    (next_placed mid written e base image is made)
+
+-- the segment is as it was
+pub next_says : (old mid written : View) (e : ℕ) (base : State) (image : ImageValue) (v : StoreVersion)
+    → image ≡ unwritten (e + 1) (image_encoding base) → mid.seen ≡ old.seen
+    → written.seen ≡ with_slot mid.seen (image_slot image.epoch) (open_image image.epoch image.encoding)
+    → version_of (slot_of old.seen (segment_slot (e + 1))) ≡ version_number v
+    → version_of (slot_of written.seen (segment_slot (e + 1))) ≡ version_number v
+next_says old mid written e base image v is same made says =
+    let alongside : slot_of written.seen (segment_slot (e + 1)) ≡ slot_of old.seen (segment_slot (e + 1)) =
+    ap (λ (s : Slots). slot_of s (segment_slot (e + 1))) (next_placed mid written e base image is made)
+    ∙ (alongside_image mid.seen (NextContent e base) e).2 ∙ ap (λ (s : Slots). slot_of s (segment_slot (e + 1))) same in
+    ap version_of alongside ∙ says
+
+pub next_end_same : (old mid written new : View) (e : ℕ) (base state : State) (image : ImageValue) (count end : ℕ)
+    → image ≡ unwritten (e + 1) (image_encoding base) → IsAtRest old → HaveLastGates old.seen
     → Passes old mid (MayLeave old) → mid.seen ≡ old.seen → NextParts old.seen e (NextContent e base) state count end
     → WritesImage mid written image
     → written.seen ≡ with_slot mid.seen (image_slot image.epoch) (open_image image.epoch image.encoding)
-    → IsSynced written (image_slot image.epoch) → EndsAt written new slot end → Passes old new (StandForSame old.seen)
-next_end_same old mid written new e base state image slot count end is at rest gates still same parts writes made synced
-    ends =
-    let rested = rest_kept old mid still same rest in
-    let after = next_rest mid written e base image is rested writes made synced in
+    → (HaveLastGates written.seen → Passes written new (StandForSame written.seen))
+    → Passes old new (StandForSame old.seen)
+next_end_same old mid written new e base state image count end is rest gates still same parts writes made ends =
     let content : List ℕ = NextContent e base in
-    still_then_same old mid new rest gates still same
-    (next_ending mid written new e content state count end rested after (subst HaveLastGates (sym same) gates)
-    (subst (λ (s : Slots). NextParts s e content state count end) (sym same) parts)
-    (subst (λ (i : ImageValue). written.seen ≡ with_slot mid.seen (image_slot i.epoch) (open_image i.epoch i.encoding))
-    is made)
-    (subst (WritesImage mid written) is writes (rest_is_synced (image_slot (e + 1)) mid rested))
-    (subst (λ s. EndsAt written new s end) at ends after))
-
-pub next_kept : (old mid written new : View) (e : ℕ) (base state : State) (image : ImageValue) (slot : Slot)
-    (count end : ℕ) → image ≡ unwritten (e + 1) (image_encoding base) → slot ≡ segment_slot (e + 1)
-    → mid.seen ≡ old.seen
-    → NextParts old.seen e (NextContent e base) state count end
-    → written.seen ≡ with_slot mid.seen (image_slot image.epoch) (open_image image.epoch image.encoding) → IsAtRest new
-    → new.seen ≡ with_slot written.seen slot (take (end + 1) (slot_of written.seen slot ++ closed_gate ∷ []))
-    → IsKept new (record { epoch = e + 1; records = count }) state
-next_kept old mid written new e base state image slot count end is at same parts made rest ended =
-    let content : List ℕ = NextContent e base in
-    let one =
-    next_written mid.seen written.seen e content state count end
-    (subst (λ (s : Slots). NextParts s e content state count end) (sym same) parts)
-    (subst (λ (i : ImageValue). written.seen ≡ with_slot mid.seen (image_slot i.epoch) (open_image i.epoch i.encoding))
-    is made) in
-    one_kept written.seen new (e + 1) state count end one rest
-    (subst (λ s. new.seen ≡ with_slot written.seen s (take (end + 1) (slot_of written.seen s ++ closed_gate ∷ [])))
-    at ended)
+    let read = next_read old mid written e base state image count end is same parts made in
+    same_after old written new
+    (next_image_same old mid written e base state image count end is rest gates still same parts writes)
+    (same_by_one old.seen written.seen state (next_found old.seen e content state count end parts)
+    (one_found written.seen (e + 1) state count end read))
+    (ends (subst HaveLastGates (sym (next_placed mid written e base image is made))
+    (gates_alongside_image mid.seen content (e + 1) (subst HaveLastGates (sym same) gates))))
 
 pub rested_after_image : (old mid written : View) (e : ℕ) (base : State) (image : ImageValue)
     → image ≡ unwritten (e + 1) (image_encoding base) → IsAtRest old → Passes old mid (MayLeave old)

@@ -9,4 +9,5 @@ pub mod Stages
 pub mod Streams
 pub mod Surveys
 pub mod Texts
+mod Upgraded
 pub mod Ways

@@ -5,13 +5,16 @@ use Rattle.std.proofs.lemmas.Bool.{cases_eq}
 use Rattle.std.proofs.Math.Seq.{take-append-add}
 use Rattle.disk.specs.declared.slot.Slot.TheVariants.{Image0, Segment0}
 use Rattle.disk.specs.Slots.{Slots, slot_of, with_slot}
+use Rattle.codes.specs.StoreVersion.{current}
+use Rattle.codes.specs.declared.store_version.StoreVersion.{StoreVersion}
+use Rattle.codes.specs.declared.store_version.StoreVersion.TheVariants.{One, Two}
 use Rattle.ipc_laws.specs.Counted.{EncodesCounted}
 use Rattle.ipc_laws.specs.RecoveryLaws.{one_epoch, recovers_once, segment_is_open}
 use Rattle.ipc_model.specs.calls.Step.{Run}
 use Rattle.ipc_model.specs.declared.record.Record.{Record}
 use Rattle.ipc_model.specs.state.State.{State, opening_state}
 use Rattle.ipc_model.specs.store.Recovery.{HasHeader, HoldsImage, IsNew, IsOfEpoch, IsOpen, Recovered, Encodes, image_header, segment_header_length}
-use Rattle.ipc_model.specs.store.Store.{EncodesBatches, EncodesSegment, IsClosed, IsInUse, NoneEmpty, all_records, open_gate, closed_gate, segment_header, batches_encoding}
+use Rattle.ipc_model.specs.store.Store.{AreWithin, EncodesBatches, EncodesSegment, IsClosed, IsInUse, IsInUseOf, LeavesAnEpoch, NoneEmpty, all_records, open_gate, closed_gate, segment_header_of, batches_encoding}
 use Rattle.slot_steps.specs.Steps.{IsRemade, image_slot, segment_slot}
 use Rattle.store_layout.specs.Changes.{closing_image, two_finished, two_image_changed}
 use Rattle.store_layout.specs.Encoded.{one_encodes, two_encodes}
@@ -90,6 +93,10 @@ no_records content shut =
       bounded = omega arith;
     }
 
+first_leaves : (version : StoreVersion) → LeavesAnEpoch version 0
+first_leaves One = omega arith
+first_leaves Two = tt
+
 pub unused_fresh : (s : Slots) → IsUnused s → IsNew (as_written s) → IsFresh s
 unused_fresh s unused new = record {
   image0 = unused.no_image 0 (omega arith);
@@ -98,9 +105,12 @@ unused_fresh s unused new = record {
       let is = unused.first is_open in
       let shut = (new.unused 0 0 (omega arith) is_open is).1 in
       record {
+        version = is.version;
         content = is.rest;
         encoding = is.encoding;
         encoded = no_records is.rest (subst IsClosed (ap (λ (l : List ℕ). drop 16 l) is.encoding) shut);
+        within = tt;
+        next = first_leaves is.version;
       };
   segment1 = unused.second;
 }
@@ -119,7 +129,13 @@ closed_after content encoded =
 
 of_epoch_0 : (slot : List ℕ) → EncodesSegment 0 slot [] → IsOfEpoch 0 0 slot
 of_epoch_0 slot encoded =
-    record { rest = encoded.content; encoding = encoded.encoding; fits = omega arith; of_number = refl }
+    record {
+      version = encoded.version;
+      rest = encoded.content;
+      encoding = encoded.encoding;
+      fits = omega arith;
+      of_number = refl;
+    }
 
 pub fresh_encodes : (s : Slots) → IsFresh s → Encodes (as_written s) opening_state []
 fresh_encodes s fresh = record {
@@ -176,7 +192,14 @@ fresh_gate s fresh gates f more encoded =
 
 pub empty_encodes : (e : ℕ) (slot : List ℕ) → slot ≡ empty_segment e → EncodesSegment e slot []
 empty_encodes e slot is =
-    record { content = closed_gate ∷ []; encoding = is; encoded = no_records (closed_gate ∷ []) (λ e. cc) }
+    record {
+      version = current;
+      content = closed_gate ∷ [];
+      encoding = is;
+      encoded = no_records (closed_gate ∷ []) (λ e. cc);
+      within = tt;
+      next = tt;
+    }
 
 pub empty_in_use : (e : ℕ) (slot : List ℕ) → slot ≡ empty_segment e → IsInUse e slot []
 empty_in_use e slot is =
@@ -184,6 +207,8 @@ empty_in_use e slot is =
       content = closed_gate ∷ [];
       encoding = is;
       encoded = no_records (closed_gate ∷ []) (λ e. cc);
+      within = tt;
+      next = tt;
       ended = refl;
     }
 
@@ -262,13 +287,14 @@ gate_after : (rest : List ℕ) → IsClosed rest → IsClosed (take 1 (rest ++ c
 gate_after [] is = (λ e. cc, refl)
 gate_after (gate ∷ rest) is = (is, refl)
 
-pub ended_in_use : (e : ℕ) (segment batches new : List ℕ) (records : List Record) (size end : ℕ)
-    → segment ≡ segment_header open_gate e ++ batches → EncodesCounted batches records size → end ≡ 16 + size
+pub ended_in_use : (v : StoreVersion) (e : ℕ) (segment batches new : List ℕ) (records : List Record) (size end : ℕ)
+    → AreWithin v records → LeavesAnEpoch v e
+    → segment ≡ segment_header_of v open_gate e ++ batches → EncodesCounted batches records size → end ≡ 16 + size
     → new ≡ take (end + 1) (segment ++ closed_gate ∷ [])
-    → IsInUse e new records
-ended_in_use e segment batches new records size end is counted placed cut =
+    → IsInUseOf v e new records
+ended_in_use v e segment batches new records size end within next is counted placed cut =
     let encoded = counted.encoded in
-    let header : List ℕ = segment_header open_gate e in
+    let header : List ℕ = segment_header_of v open_gate e in
     let encoding : List ℕ = batches_encoding 0 encoded.batches in
     let tail : List ℕ = take 1 (encoded.rest ++ closed_gate ∷ []) in
     let gate = gate_after encoded.rest encoded.closed in
@@ -296,13 +322,10 @@ ended_in_use e segment batches new records size end is counted placed cut =
         canonical = encoded.canonical;
         bounded = encoded.bounded;
       };
+      within = within;
+      next = next;
       ended = gate.1;
     }
-
-pub in_use_encodes : (e : ℕ) (segment : List ℕ) (records : List Record) → IsInUse e segment records
-    → EncodesSegment e segment records
-in_use_encodes e segment records used =
-    record { content = used.content; encoding = used.encoding; encoded = used.encoded }
 
 some_with_tail : (rest tail : List ℕ) → 0 < length rest → 0 < length (take 1 rest ++ tail)
 some_with_tail [] tail some = absurd (omega (arith, some))
@@ -312,14 +335,15 @@ gate_and_tail : (rest tail : List ℕ) → 0 < length rest → IsClosed rest →
 gate_and_tail [] tail some shut = absurd (omega (arith, some))
 gate_and_tail (gate ∷ rest) tail some shut = shut
 
-pub cut_encodes : (e : ℕ) (segment batches after : List ℕ) (records : List Record) (size end : ℕ)
-    → segment ≡ segment_header open_gate e ++ batches → (counted : EncodesCounted batches records size)
+pub cut_encodes : (v : StoreVersion) (e : ℕ) (segment batches after : List ℕ) (records : List Record) (size end : ℕ)
+    → AreWithin v records → LeavesAnEpoch v e
+    → segment ≡ segment_header_of v open_gate e ++ batches → (counted : EncodesCounted batches records size)
     → end ≡ 16 + size → 0 < length counted.encoded.rest
     → take (end + 1) after ≡ take (end + 1) segment → (known : EncodesSegment e after records)
     × (0 < length known.encoded.rest)
-cut_encodes e segment batches after records size end is counted placed some same =
+cut_encodes v e segment batches after records size end within next is counted placed some same =
     let encoded = counted.encoded in
-    let header : List ℕ = segment_header open_gate e in
+    let header : List ℕ = segment_header_of v open_gate e in
     let encoding : List ℕ = batches_encoding 0 encoded.batches in
     let tail : List ℕ = drop (end + 1) after in
     let sized : size ≡ length encoding =
@@ -335,6 +359,7 @@ cut_encodes e segment batches after records size end is counted placed some same
     ∙ append_assoc (header ++ encoding) (take 1 encoded.rest) tail
     ∙ append_assoc header encoding (take 1 encoded.rest ++ tail) in (
       record {
+        version = v;
         content = encoding ++ (take 1 encoded.rest ++ tail);
         encoding = whole;
         encoded = record {
@@ -347,6 +372,8 @@ cut_encodes e segment batches after records size end is counted placed some same
           canonical = encoded.canonical;
           bounded = encoded.bounded;
         };
+        within = within;
+        next = next;
       },
       some_with_tail encoded.rest tail some,
     )

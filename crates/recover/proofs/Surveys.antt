@@ -56,7 +56,13 @@ reported_epoch length number n e o slot tells is =
 encoded_epoch : (e : ℕ) (slot : List ℕ) (records : List Record) → e < 2 ^ 64 → EncodesSegment e slot records
     → IsOfEpoch (e % 2) e slot
 encoded_epoch e slot records fits encoded =
-    record { rest = encoded.content; encoding = encoded.encoding; fits = fits; of_number = refl }
+    record {
+      version = encoded.version;
+      rest = encoded.content;
+      encoding = encoded.encoding;
+      fits = fits;
+      of_number = refl;
+    }
 
 -- if the disk encodes something, its epoch is the latest image's
 
@@ -205,9 +211,9 @@ unused_damaged s segment0 segment1 tells wrong base records encoded = elim encod
 
 -- headers
 
-of_version_one : (header number epoch : ℕ) (slot : List ℕ) → IsOfEpoch number epoch slot → HasOtherVersion header slot
-    → ⊥
-of_version_one header number epoch slot is other = other.1 (ap (λ (l : List ℕ). slice_index l 1) is.encoding)
+of_a_version : (header number epoch : ℕ) (slot : List ℕ) → IsOfEpoch number epoch slot → HasOtherVersion header slot → ⊥
+of_a_version header number epoch slot is other =
+    other.1 is.version (sym (ap (λ (l : List ℕ). slice_index l 1) is.encoding))
 
 -- a header that no slot of its number may have
 foreign_fails : (header number : ℕ) (slot : List ℕ) (h : Header) → Says header slot h → IsForeign h number
@@ -218,7 +224,7 @@ foreign_fails header number slot (Open epoch) says foreign fits =
     foreign (ap (λ e. e % 2) (one_epoch epoch known.0 says.1.rest known.1.rest says.1.fits known.1.fits
     (sym says.1.encoding ∙ known.1.encoding)) ∙ known.1.of_number)
 foreign_fails header number slot OtherVersion says foreign fits =
-    let known = fits says.0 in of_version_one header number known.0 slot known.1 says
+    let known = fits says.0 in of_a_version header number known.0 slot known.1 says
 foreign_fails header number slot Unreadable says foreign fits = let known = fits says.0 in says.2 number known.0 known.1
 
 pub foreign_damaged : (s : Slots) (image0 image1 segment0 segment1 : Header) → SayAll s image0 image1 segment0 segment1
@@ -246,8 +252,16 @@ says_tells header number slot h o says (inl none) =
     subst (Tells header number slot) (sym none.0) (subst (Says header slot) none.1 says)
 says_tells header number slot h o says (inr some) =
     let said = subst (Says header slot) some.2 says in
-    subst (Tells header number slot) (sym some.1)
-    (said.0, record { rest = said.1.rest; encoding = said.1.encoding; fits = said.1.fits; of_number = some.3 })
+    subst (Tells header number slot) (sym some.1) (
+      said.0,
+      record {
+        version = said.1.version;
+        rest = said.1.rest;
+        encoding = said.1.encoding;
+        fits = said.1.fits;
+        of_number = some.3;
+      },
+    )
 
 pub tells_of : (header number : ℕ) (slot : List ℕ) (h : Header) (o : Option ℕ) → Says header slot h
     → IfSome o (λ epoch. (h ≡ Open epoch) × (epoch % 2 ≡ number)) → IfNone o (h ≡ Closed) → Tells header number slot o

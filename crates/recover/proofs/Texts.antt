@@ -1,24 +1,31 @@
 -- Images that are read from their slots.
 use Rattle.std.proofs.Common.{◌≡◌, ℕ, ◌≤◌, ◌<◌, ◌^◌, List, [], ◌∷◌, ◌++◌, length, take, drop, refl, sym, ap, subst, ◌∙◌, arith, append_assoc, length-append, take-append-drop, length-take, length-drop}
-use Rattle.std.specs.Prelude.{◌-◌, min}
+use Rattle.std.specs.Prelude.{◌-◌, All, map, min, slice_index}
+use Rattle.std.specs.FinMap.{entries}
+use Rattle.std.proofs.lemmas.List.Elements.{All-cons, All-head, All-map, All-nil, All-tail}
 use Rattle.std.proofs.lemmas.List.{append-nil, drop-drop, take_at}
+use Rattle.codes.specs.StoreVersion.{version_number}
+use Rattle.codes.specs.declared.store_version.StoreVersion.{StoreVersion}
+use Rattle.ipc_laws.specs.RecoveryLaws.{same_version}
+use Rattle.ipc_model.specs.declared.port.PortState.{PortState}
 use Rattle.words.specs.WordLaws.{same_long_word}
 use Rattle.words.specs.Words.{long_word}
 use Rattle.ipc_model.specs.state.Circular.{Acyclic}
 use Rattle.ipc_model.specs.state.Lawful.{Lawful, ShortQueues}
 use Rattle.ipc_model.specs.state.State.{State}
-use Rattle.ipc_model.specs.store.Recovery.{HoldsImage, IsImageOf, IsOfEpoch}
-use Rattle.ipc_model.specs.store.Store.{image_content, open_gate, segment_header}
-use Rattle.ipc_model.specs.encodings.Images.{image_encoding}
+use Rattle.ipc_model.specs.store.Recovery.{HasLimits, HoldsImage, IsImageIn, IsOfEpoch, version_of}
+use Rattle.ipc_model.specs.store.Store.{image_content_of, open_gate, segment_header_of}
+use Rattle.ipc_model.specs.encodings.Images.{image_encoding_of}
 use Rattle.image.specs.Fitting.{FitsImage}
 use Rattle.image.specs.LawfulFits.{lawful_snapshots_fit}
 use Rattle.image.specs.RowLaws.{image_of_state}
-use Rattle.image.specs.Rows.{snapshot_encoding}
+use Rattle.image.specs.Rows.{snapshot_encoding_of}
 use Rattle.snapshot.specs.LawfulSnapshot.{IsLawfulSnapshot}
-use Rattle.snapshot.specs.Rows.{one_state}
+use Rattle.snapshot.specs.Rows.{all_entries, each_entry, one_state, port_row}
 use Rattle.snapshot.specs.Snapshots.{snapshot_of}
 use Rattle.snapshot.specs.declared.rows.Snapshot.{Snapshot}
-use Rattle.recover.specs.Loaded.{HoldsEncoding}
+use Rattle.recover.specs.Loaded.{HasLimit, HoldsEncoding}
+use Rattle.recover.proofs.Fronts.{header_version}
 
 -- bytes that follow their length are determined
 pub one_encoding : (a b x y : List ℕ) → length a < 2 ^ 64 → length b < 2 ^ 64
@@ -29,32 +36,40 @@ one_encoding a b x y fits fits_too is =
     sym (take_at a x (length b) long) ∙ ap (take (length b)) beyond ∙ take_at b y (length b) refl
 
 -- the image of a state, and its encoding
-pub image_after : (epoch : ℕ) (slot : List ℕ) (state : State) → HoldsImage epoch slot state
-    → HoldsEncoding slot (image_encoding state)
+pub image_after : (epoch : ℕ) (slot : List ℕ) (state : State)
+    → (image : HoldsImage epoch slot state) → HoldsEncoding slot (image_encoding_of image.version state)
 image_after epoch slot state image = record {
   rest = image.rest;
   fits = image.fits;
   beyond =
       ap (λ (l : List ℕ). drop 16 l) image.encoding
-      ∙ append_assoc (long_word (length (image_encoding state))) (image_encoding state) image.rest;
+      ∙ append_assoc (long_word (length (image_encoding_of image.version state)))
+      (image_encoding_of image.version state) image.rest;
 }
 
-pub encoding_is_image : (number epoch : ℕ) (slot encoding : List ℕ) (state : State) → IsOfEpoch number epoch slot
-    → HoldsEncoding slot encoding → IsImageOf encoding state → HoldsImage epoch slot state
-encoding_is_image number epoch slot encoding state is holds image =
+pub encoding_is_image : (version : StoreVersion) (number epoch : ℕ) (slot encoding : List ℕ) (state : State)
+    → version_of slot ≡ version_number version → IsOfEpoch number epoch slot
+    → HoldsEncoding slot encoding → IsImageIn version encoding state → HoldsImage epoch slot state
+encoding_is_image version number epoch slot encoding state says is holds image =
     let same : drop 16 slot ≡ is.rest = ap (λ (l : List ℕ). drop 16 l) is.encoding in
-    let whole : slot ≡ segment_header open_gate epoch ++ (long_word (length encoding) ++ (encoding ++ holds.rest)) =
-    is.encoding ∙ ap (λ (l : List ℕ). segment_header open_gate epoch ++ l) (sym same ∙ holds.beyond) in
+    let header : List ℕ = segment_header_of version open_gate epoch in
+    let begins : slot ≡ header ++ is.rest =
+    subst (λ (v : StoreVersion). slot ≡ segment_header_of v open_gate epoch ++ is.rest)
+    (header_version number epoch slot version is says) is.encoding in
+    let whole : slot ≡ header ++ (long_word (length encoding) ++ (encoding ++ holds.rest)) =
+    begins ∙ ap (λ (l : List ℕ). header ++ l) (sym same ∙ holds.beyond) in
     record {
+      version = version;
       rest = holds.rest;
       encoding =
-          whole ∙ ap (λ (l : List ℕ). segment_header open_gate epoch ++ l)
+          whole ∙ ap (λ (l : List ℕ). header ++ l)
           (sym (append_assoc (long_word (length encoding)) encoding holds.rest))
-          ∙ ap (λ (t : List ℕ). (open_gate ∷ image_content epoch t) ++ holds.rest) image.encoding_is;
+          ∙ ap (λ (t : List ℕ). (open_gate ∷ image_content_of version epoch t) ++ holds.rest) image.encoding_is;
       fits = subst (λ (t : List ℕ). length t < 2 ^ 64) image.encoding_is holds.fits;
       lawful = image.lawful;
       acyclic = image.acyclic;
       short = image.short;
+      limits = image.limits;
     }
 
 -- a word that is read after a slot's header
@@ -109,27 +124,57 @@ encoding_read slot buffer old rest n size word fits room long made count bytes =
 
 -- the image of a lawful state, read as rows
 
-pub image_fits : (encoding : List ℕ) (state : State) → IsImageOf encoding state → FitsImage (snapshot_of state)
-image_fits encoding state is = lawful_snapshots_fit state is.lawful is.short
+pub image_fits : (version : StoreVersion) (encoding : List ℕ) (state : State) → IsImageIn version encoding state
+    → FitsImage (snapshot_of state)
+image_fits version encoding state is = lawful_snapshots_fit state is.lawful is.short
 
-pub image_as_rows : (encoding : List ℕ) (state : State) → IsImageOf encoding state
-    → encoding ≡ snapshot_encoding (snapshot_of state)
-image_as_rows encoding state is = is.encoding_is ∙ sym (image_of_state state)
+pub image_as_rows : (version : StoreVersion) (encoding : List ℕ) (state : State) → IsImageIn version encoding state
+    → encoding ≡ snapshot_encoding_of version (snapshot_of state)
+image_as_rows version encoding state is = is.encoding_is ∙ sym (image_of_state version state)
 
-pub rows_are_image : (encoding : List ℕ) (snapshot : Snapshot) (state : State) → encoding ≡ snapshot_encoding snapshot
-    → snapshot ≡ snapshot_of state → IsLawfulSnapshot snapshot → IsImageOf encoding state
-rows_are_image encoding snapshot state is same lawful =
+-- what holds of what rows are made of
+All-unmap : {X Y : Type 0} (P : X → Type 0) (f : Y → X) (ys : List Y) → All P (map f ys) → All (λ y. P (f y)) ys
+All-unmap P f [] all = All-nil (λ y. P (f y))
+All-unmap P f (y ∷ ys) all =
+    All-cons (λ y. P (f y)) y ys (All-head P (f y) (map f ys) all) (All-unmap P f ys (All-tail P (f y) (map f ys) all))
+
+-- the limits of a state's queues, as rows have them
+rows_have_limits : (version : StoreVersion) (state : State) → HasLimits version state
+    → All (HasLimit version) (snapshot_of state).ports
+unfolding snapshot_of
+rows_have_limits version state limits =
+    All-map (HasLimit version) port_row (entries state.ports)
+    (all_entries (λ (e : ℕ × PortState). HasLimit version (port_row e)) state.ports limits)
+
+limits_of_rows : (version : StoreVersion) (state : State) → All (HasLimit version) (snapshot_of state).ports
+    → HasLimits version state
+unfolding snapshot_of
+limits_of_rows version state rows serial port at =
+    each_entry (λ (e : ℕ × PortState). HasLimit version (port_row e)) state.ports serial port
+    (All-unmap (HasLimit version) port_row (entries state.ports) rows) at
+
+pub rows_within : (version : StoreVersion) (encoding : List ℕ) (snapshot : Snapshot) (state : State)
+    → snapshot ≡ snapshot_of state → IsImageIn version encoding state → All (HasLimit version) snapshot.ports
+rows_within version encoding snapshot state same is =
+    subst (λ (s : Snapshot). All (HasLimit version) s.ports) (sym same) (rows_have_limits version state is.limits)
+
+pub rows_are_image : (version : StoreVersion) (encoding : List ℕ) (snapshot : Snapshot) (state : State)
+    → encoding ≡ snapshot_encoding_of version snapshot → snapshot ≡ snapshot_of state → IsLawfulSnapshot snapshot
+    → All (HasLimit version) snapshot.ports → IsImageIn version encoding state
+rows_are_image version encoding snapshot state is same lawful within =
     let one : lawful.state ≡ state = one_state lawful.state state (sym lawful.same ∙ same) in
     record {
-      encoding_is = is ∙ ap snapshot_encoding same ∙ image_of_state state;
+      encoding_is = is ∙ ap (snapshot_encoding_of version) same ∙ image_of_state version state;
       lawful = subst Lawful one lawful.lawful;
       acyclic = subst Acyclic one lawful.acyclic;
       short = subst ShortQueues one lawful.short;
+      limits = limits_of_rows version state
+          (subst (λ (s : Snapshot). All (HasLimit version) s.ports) same within);
     }
 
-pub lawful_rows : (encoding : List ℕ) (snapshot : Snapshot) (state : State) → snapshot ≡ snapshot_of state
-    → IsImageOf encoding state → IsLawfulSnapshot snapshot
-lawful_rows encoding snapshot state same is =
+pub lawful_rows : (version : StoreVersion) (encoding : List ℕ) (snapshot : Snapshot) (state : State)
+    → snapshot ≡ snapshot_of state → IsImageIn version encoding state → IsLawfulSnapshot snapshot
+lawful_rows version encoding snapshot state same is =
     record { state = state; same = same; lawful = is.lawful; acyclic = is.acyclic; short = is.short }
 
 -- a vector that was filled to its end
@@ -152,14 +197,21 @@ read_length slot buffer old n count bytes =
 
 -- the encoding that stands in a slot with an image is the image's
 pub encoding_of_image : (epoch : ℕ) (slot encoding : List ℕ) (state : State) → HoldsEncoding slot encoding
-    → HoldsImage epoch slot state → IsImageOf encoding state
+    → (image : HoldsImage epoch slot state) → IsImageIn image.version encoding state
 encoding_of_image epoch slot encoding state holds image =
     let own = image_after epoch slot state image in
     record {
       encoding_is =
-          one_encoding encoding (image_encoding state) holds.rest own.rest holds.fits own.fits
+          one_encoding encoding (image_encoding_of image.version state) holds.rest own.rest holds.fits own.fits
           (sym holds.beyond ∙ own.beyond);
       lawful = image.lawful;
       acyclic = image.acyclic;
       short = image.short;
+      limits = image.limits;
     }
+
+-- an image's version is the one that its header says
+pub image_version : (epoch : ℕ) (slot : List ℕ) (state : State) (version : StoreVersion)
+    → (image : HoldsImage epoch slot state) → version_of slot ≡ version_number version → image.version ≡ version
+image_version epoch slot state version image says =
+    same_version image.version version (sym (ap (λ (l : List ℕ). slice_index l 1) image.encoding) ∙ says)

@@ -1,21 +1,20 @@
 -- How a store in use is read and ended.
 use Rattle.std.proofs.Common.{◌≡◌, inl, inr, ℕ, ◌+◌, ◌%◌, ◌^◌, ◌<◌, ◌≤◌, List, [], ◌∷◌, ◌++◌, length, take, drop, refl, sym, ap, subst, ◌∙◌, arith, length-append}
 use Rattle.std.specs.Prelude.{◌-◌, Bool, true, false}
+use Rattle.codes.specs.declared.store_version.StoreVersion.{StoreVersion}
 use Rattle.disk.specs.Moments.{View, MayLeave, Passes, Follows}
 use Rattle.disk.specs.Slots.{Slots, slot_of, with_slot}
 use Rattle.ipc_laws.specs.BatchLaws.{one_segment}
 use Rattle.ipc_laws.specs.Counted.{EncodesCounted}
-use Rattle.ipc_laws.specs.ImageLaws.{image_once}
-use Rattle.ipc_laws.specs.RecoveryLaws.{image_header_is, image_is_open, one_epoch}
+use Rattle.ipc_laws.specs.RecoveryLaws.{image_header_is, image_is_open, one_epoch, one_image}
 use Rattle.ipc_laws.specs.RunLaws.{run_split}
-use Rattle.ipc_laws.specs.Encoding.{lawful_is_encodable}
+use Rattle.ipc_laws.specs.StoreLaws.{in_use_encodes}
 use Rattle.ipc_laws.specs.StepsKeep.{FitCalls, one_run}
 use Rattle.ipc_model.specs.calls.Step.{Run}
 use Rattle.ipc_model.specs.declared.record.Record.{Record}
 use Rattle.ipc_model.specs.state.State.{State, opening_state}
-use Rattle.ipc_model.specs.store.Recovery.{Continues, HoldsImage, IsNew, IsOfEpoch, IsOpen, IsStored, Recovered, image_header, segment_header_length}
-use Rattle.ipc_model.specs.store.Store.{AreRecords, EncodesBatches, EncodesSegment, IsInUse, image_content, open_gate, closed_gate, segment_header}
-use Rattle.ipc_model.specs.encodings.Images.{image_encoding}
+use Rattle.ipc_model.specs.store.Recovery.{Continues, HoldsImage, IsNew, IsOfEpoch, IsOpen, IsStored, Recovered, image_header, segment_header_length, version_of}
+use Rattle.ipc_model.specs.store.Store.{AreRecords, EncodesSegment, IsInUseOf, open_gate, closed_gate, segment_header_of}
 use Rattle.slot_steps.specs.Steps.{IsRemade, image_slot, segment_slot}
 use Rattle.disk.proofs.Moments.{passes_as, passes_then, own_bytes}
 use Rattle.store_layout.specs.Changes.{one_segment_changed, two_finished}
@@ -26,14 +25,16 @@ use Rattle.store_layout.specs.Standing.{as_written, InOne, InTwo}
 use Rattle.store_layout.proofs.Gates.{gates_alongside_image, one_gates, one_not_followed}
 use Rattle.recover.specs.AtRest.{IsAtRest}
 use Rattle.recover.specs.Found.{IsLatestEpoch, Reads, ReadsOne}
-use Rattle.recover.specs.Kept.{IsKept}
+use Rattle.recover.specs.Kept.{IsKeptIn}
 use Rattle.recover.specs.Making.{DiffersIn}
 use Rattle.recover.specs.Replayed.{ReplaysAll}
 use Rattle.recover.specs.Crashing.{RecoverSame, StandForSame}
 use Rattle.recover.specs.Surveyed.{IsInUse as Uses, IsUnused}
+use Rattle.recover.specs.Upgrading.{IsRead}
+use Rattle.recover.proofs.Fronts.{header_version}
 use Rattle.recover.proofs.Gates.{has_gate}
 use Rattle.recover.proofs.Rest.{rest_called}
-use Rattle.recover.proofs.Stages.{cut_encodes, ended_in_use, fresh_encodes, in_use_encodes, next_image, one_recovered, run_join, same_by_one, two_recovered, unused_fresh}
+use Rattle.recover.proofs.Stages.{cut_encodes, ended_in_use, fresh_encodes, next_image, one_recovered, run_join, same_by_one, two_recovered, unused_fresh}
 use Rattle.recover.proofs.Surveys.{never_new, parts_of}
 
 -- stretches of time in which a store stands for the same
@@ -73,15 +74,24 @@ own_last_gate s e base records gates one =
 
 -- what a segment that was replayed encodes
 
-header_apart : (n e : ℕ) (slot : List ℕ) → IsOfEpoch n e slot → slot ≡ segment_header open_gate e ++ drop 16 slot
-header_apart n e slot is =
-    is.encoding ∙ ap (λ (l : List ℕ). segment_header open_gate e ++ l)
-    (sym (ap (λ (l : List ℕ). drop 16 l) is.encoding))
+header_apart : (n e : ℕ) (slot : List ℕ) (old new : State) (count end : ℕ) → IsOfEpoch n e slot
+    → (r : ReplaysAll e slot old new count end) → slot ≡ segment_header_of r.version open_gate e ++ drop 16 slot
+header_apart n e slot old new count end is r =
+    subst (λ (v : StoreVersion). slot ≡ segment_header_of v open_gate e ++ drop 16 slot)
+    (header_version n e slot r.version is r.says)
+    (is.encoding ∙ ap (λ (l : List ℕ). segment_header_of is.version open_gate e ++ l)
+    (sym (ap (λ (l : List ℕ). drop 16 l) is.encoding)))
 
 pub replayed_encodes : (n e : ℕ) (slot : List ℕ) (old new : State) (count end : ℕ) → IsOfEpoch n e slot
-    → (r : ReplaysAll slot old new count end) → EncodesSegment e slot r.records
-replayed_encodes n e slot old new count end is r =
-    record { content = drop 16 slot; encoding = header_apart n e slot is; encoded = r.encoded.encoded }
+    → (r : ReplaysAll e slot old new count end) → EncodesSegment e slot r.records
+replayed_encodes n e slot old new count end is r = record {
+  version = r.version;
+  content = drop 16 slot;
+  encoding = header_apart n e slot old new count end is r;
+  encoded = r.encoded.encoded;
+  within = r.within;
+  next = r.next;
+}
 
 -- the parts of a store in use
 
@@ -206,13 +216,7 @@ next_encodes s e next used (inr (inr encoded)) = encoded.1
 -- one run from one image
 
 one_base : (e : ℕ) (slot : List ℕ) (one other : State) → HoldsImage e slot one → HoldsImage e slot other → one ≡ other
-one_base e slot one other first second =
-    let whole : (open_gate ∷ image_content e (image_encoding one)) ++ first.rest
-    ≡ (open_gate ∷ image_content e (image_encoding other)) ++ second.rest = sym first.encoding ∙ second.encoding in
-    let encodings : image_encoding one ++ first.rest ≡ image_encoding other ++ second.rest =
-    ap (λ (l : List ℕ). drop 24 l) whole in
-    (image_once one other first.rest second.rest (lawful_is_encodable one first.lawful first.short)
-    (lawful_is_encodable other second.lawful second.short) encodings).0
+one_base = one_image
 
 records_fit : (records : List Record) → AreRecords records → FitCalls records
 records_fit [] are = tt
@@ -243,51 +247,49 @@ read_damaged s e follows used none state found =
 
 -- nor if the segment that follows has no run of records
 pub next_damaged : (s : Slots) (e : ℕ) (mid : State) (count end : ℕ) → Uses s e true → ReadsOne s e mid count end
-    → ((records : List Record) (state : State) → EncodesBatches (drop 16 (slot_of s (segment_slot (e + 1)))) records
+    → ((records : List Record) (state : State) → EncodesSegment (e + 1) (slot_of s (segment_slot (e + 1))) records
     → Run mid records state → ⊥)
     → (state : State) → Recovered (as_written s) state → ⊥
 next_damaged s e mid count end used read none state found =
     let runs = runs_in s e true state used found in
     let encoded = next_encodes s e runs.next used runs.other in
     let same : runs.mid ≡ mid = one_read s e (e % 2) mid state count end used.segment read runs in
-    none runs.next state (subst (λ (l : List ℕ). EncodesBatches l runs.next)
-    (sym (ap (λ (l : List ℕ). drop 16 l) encoded.encoding)) encoded.encoded)
-    (subst (λ (m : State). Run m runs.next state) same runs.more)
+    none runs.next state encoded (subst (λ (m : State). Run m runs.next state) same runs.more)
 
 -- the segment in use is ended
 
 own_gate : (n e : ℕ) (slot : List ℕ) (old new : State) (count end : ℕ) → IsOfEpoch n e slot → HasLastGate slot
-    → (r : ReplaysAll slot old new count end) → 0 < length r.encoded.encoded.rest
+    → (r : ReplaysAll e slot old new count end) → 0 < length r.encoded.encoded.rest
 unfolding replayed_encodes
 own_gate n e slot old new count end is has r = has e r.records (replayed_encodes n e slot old new count end is r)
 
 pub gate_inside : (n e : ℕ) (slot : List ℕ) (old new : State) (count end : ℕ) → IsOfEpoch n e slot → HasLastGate slot
-    → ReplaysAll slot old new count end → end < length slot
+    → ReplaysAll e slot old new count end → end < length slot
 gate_inside n e slot old new count end is has r =
     omega (
       arith,
       own_gate n e slot old new count end is has r,
       r.encoded.sized,
-      ap length (header_apart n e slot is),
-      length-append (segment_header open_gate e) (drop 16 slot),
+      ap length (header_apart n e slot old new count end is r),
+      length-append (segment_header_of r.version open_gate e) (drop 16 slot),
       r.beyond,
     )
 
 pub ended_one : (s : Slots) (e : ℕ) (base state : State) (count end : ℕ) (x : List ℕ)
     → IsOfEpoch (e % 2) e (slot_of s (segment_slot e))
-    → (r : ReplaysAll (slot_of s (segment_slot e)) base state count end) → InOne s e base r.records
-    → x ≡ take (end + 1) (slot_of s (segment_slot e) ++ closed_gate ∷ []) → IsInUse e x r.records
+    → (r : ReplaysAll e (slot_of s (segment_slot e)) base state count end) → InOne s e base r.records
+    → x ≡ take (end + 1) (slot_of s (segment_slot e) ++ closed_gate ∷ []) → IsInUseOf r.version e x r.records
     × InOne (with_slot s (segment_slot e) x) e base r.records
 ended_one s e base state count end x is r one cut =
     let slot = slot_of s (segment_slot e) in
     let used =
-    ended_in_use e slot (drop 16 slot) x r.records (end - 16) end (header_apart (e % 2) e slot is) r.encoded
-    (omega (arith, r.beyond)) cut in
+    ended_in_use r.version e slot (drop 16 slot) x r.records (end - 16) end r.within r.next
+    (header_apart (e % 2) e slot base state count end is r) r.encoded (omega (arith, r.beyond)) cut in
     (used, one_segment_changed s e base r.records r.records x one (in_use_encodes e x r.records used))
 
 pub ending_same : (old new : View) (e : ℕ) (base state : State) (count end : ℕ) → IsAtRest old → HaveLastGates old.seen
     → IsOfEpoch (e % 2) e (slot_of old.seen (segment_slot e))
-    → (r : ReplaysAll (slot_of old.seen (segment_slot e)) base state count end) → InOne old.seen e base r.records
+    → (r : ReplaysAll e (slot_of old.seen (segment_slot e)) base state count end) → InOne old.seen e base r.records
     → Passes old new (DiffersIn old.seen (segment_slot e)
     (λ after. take (end + 1) after ≡ take (end + 1) (slot_of old.seen (segment_slot e))))
     → Passes old new (StandForSame old.seen)
@@ -299,8 +301,8 @@ ending_same old new e base state count end rest gates is r one time =
     (StandForSame old.seen) time (λ c differs.
     let x = slot_of c slot in
     let known =
-    cut_encodes e segment (drop 16 segment) x r.records (end - 16) end (header_apart (e % 2) e segment is) r.encoded
-    (omega (arith, r.beyond)) own differs.0 in
+    cut_encodes r.version e segment (drop 16 segment) x r.records (end - 16) end r.within r.next
+    (header_apart (e % 2) e segment base state count end is r) r.encoded (omega (arith, r.beyond)) own differs.0 in
     subst (StandForSame old.seen) (sym differs.1) (
       same_by_one old.seen (with_slot old.seen slot x) state (one_recovered old.seen e base state r.records one r.run)
           (one_recovered (with_slot old.seen slot x) e base state r.records
@@ -327,15 +329,10 @@ image_same old new e base mid state first next content rest gates two run more i
       gates_alongside_image old.seen x (e + 1) gates,
     ))
 
--- A store that continues in an epoch: what was read of it.
-pub record OneParts (s : Slots) (e : ℕ) (state : State) (count end : ℕ) : Type 0 where
-  pub base : State
-  pub header : IsOfEpoch (e % 2) e (slot_of s (segment_slot e))
-  pub replays : ReplaysAll (slot_of s (segment_slot e)) base state count end
-  pub one : InOne s e base replays.records
+-- a store that continues in an epoch
 
 pub one_parts : (s : Slots) (e : ℕ) (state : State) (count end : ℕ) → Uses s e false → ReadsOne s e state count end
-    → OneParts s e state count end
+    → IsRead s e state count end
 one_parts s e state count end used read = record {
   base = read.base;
   header = used.segment;
@@ -345,13 +342,13 @@ one_parts s e state count end used read = record {
       (replayed_encodes (e % 2) e (slot_of s (segment_slot e)) read.base state count end used.segment read.replays);
 }
 
-pub one_found : (s : Slots) (e : ℕ) (state : State) (count end : ℕ) → OneParts s e state count end
+pub one_found : (s : Slots) (e : ℕ) (state : State) (count end : ℕ) → IsRead s e state count end
     → Recovered (as_written s) state
 one_found s e state count end parts =
     one_recovered s e parts.base state parts.replays.records parts.one parts.replays.run
 
 pub one_ending : (old new : View) (e : ℕ) (state : State) (count end : ℕ) → IsAtRest old → HaveLastGates old.seen
-    → OneParts old.seen e state count end
+    → IsRead old.seen e state count end
     → (end < length (slot_of old.seen (segment_slot e))
     → Passes old new (DiffersIn old.seen (segment_slot e)
     (λ after. take (end + 1) after ≡ take (end + 1) (slot_of old.seen (segment_slot e)))))
@@ -362,10 +359,11 @@ one_ending old new e state count end rest gates parts time =
     (time (gate_inside (e % 2) e segment parts.base state count end parts.header
     (own_last_gate old.seen e parts.base parts.replays.records gates parts.one) parts.replays))
 
-pub one_kept : (s : Slots) (new : View) (e : ℕ) (state : State) (count end : ℕ) → OneParts s e state count end
+pub one_kept : (s : Slots) (new : View) (e : ℕ) (state : State) (count end : ℕ)
+    → (parts : IsRead s e state count end)
     → IsAtRest new → new.seen ≡ with_slot s (segment_slot e)
     (take (end + 1) (slot_of s (segment_slot e) ++ closed_gate ∷ []))
-    → IsKept new (record { epoch = e; records = count }) state
+    → IsKeptIn parts.replays.version new (record { epoch = e; records = count }) state
 one_kept s new e state count end parts rest is =
     let x : List ℕ = take (end + 1) (slot_of s (segment_slot e) ++ closed_gate ∷ []) in
     let ended = ended_one s e parts.base state count end x parts.header parts.replays parts.one refl in
@@ -375,7 +373,7 @@ one_kept s new e state count end parts rest is =
       records = parts.replays.records;
       stands = subst (λ (t : Slots). InOne t e parts.base parts.replays.records) (sym is) ended.1;
       in_use =
-          subst (λ (l : List ℕ). IsInUse e l parts.replays.records)
+          subst (λ (l : List ℕ). IsInUseOf parts.replays.version e l parts.replays.records)
           (sym (ap (λ (t : Slots). slot_of t (segment_slot e)) is ∙ own_bytes (segment_slot e) s x)) ended.0;
       run = parts.replays.run;
       counted = parts.replays.counted;
@@ -388,12 +386,12 @@ pub record NextParts (s : Slots) (e : ℕ) (content : List ℕ) (state : State) 
   pub first : List Record
   pub header : IsOfEpoch ((e + 1) % 2) (e + 1) (slot_of s (segment_slot (e + 1)))
   pub run : Run base first mid
-  pub replays : ReplaysAll (slot_of s (segment_slot (e + 1))) mid state count end
+  pub replays : ReplaysAll (e + 1) (slot_of s (segment_slot (e + 1))) mid state count end
   pub two : InTwo s e base first replays.records
   pub image : HoldsImage (e + 1) content mid
 
 pub next_parts : (s : Slots) (e : ℕ) (content : List ℕ) (mid state : State) (number stop count end : ℕ) → Uses s e true
-    → ReadsOne s e mid number stop → ReplaysAll (slot_of s (segment_slot (e + 1))) mid state count end
+    → ReadsOne s e mid number stop → ReplaysAll (e + 1) (slot_of s (segment_slot (e + 1))) mid state count end
     → HoldsImage (e + 1) content mid → NextParts s e content state count end
 next_parts s e content mid state number stop count end used read replays image = record {
   base = read.base;
@@ -425,13 +423,17 @@ next_writing old new e content state count end rest gates parts time =
 -- the image stands in its slot
 pub next_written : (s new : Slots) (e : ℕ) (content : List ℕ) (state : State) (count end : ℕ)
     → NextParts s e content state count end → new ≡ with_slot s (image_slot (e + 1)) content
-    → OneParts new (e + 1) state count end
+    → IsRead new (e + 1) state count end
 next_written s new e content state count end parts is =
     let same : slot_of new (segment_slot (e + 1)) ≡ slot_of s (segment_slot (e + 1)) =
     ap (λ (t : Slots). slot_of t (segment_slot (e + 1))) is ∙ (alongside_image s content e).2 in
-    let replays : ReplaysAll (slot_of new (segment_slot (e + 1))) parts.mid state count end =
+    let replays : ReplaysAll (e + 1) (slot_of new (segment_slot (e + 1))) parts.mid state count end =
     record {
+      version = parts.replays.version;
+      says = ap version_of same ∙ parts.replays.says;
+      next = parts.replays.next;
       records = parts.replays.records;
+      within = parts.replays.within;
       encoded =
           subst (λ (l : List ℕ). EncodesCounted (drop 16 l) parts.replays.records (end - 16))
           (sym same) parts.replays.encoded;
@@ -448,22 +450,6 @@ next_written s new e content state count end parts is =
           subst (λ (t : Slots). InOne t (e + 1) parts.mid parts.replays.records) (sym is)
           (two_finished s e parts.base parts.mid parts.first parts.replays.records content parts.two parts.image);
     }
-
-pub next_ending : (old mid new : View) (e : ℕ) (content : List ℕ) (state : State) (count end : ℕ) → IsAtRest old
-    → IsAtRest mid → HaveLastGates old.seen → NextParts old.seen e content state count end
-    → mid.seen ≡ with_slot old.seen (image_slot (e + 1)) content
-    → Passes old mid (Follows old (image_slot (e + 1)) (IsRemade 24 content))
-    → (end < length (slot_of mid.seen (segment_slot (e + 1)))
-    → Passes mid new (DiffersIn mid.seen (segment_slot (e + 1))
-    (λ after. take (end + 1) after ≡ take (end + 1) (slot_of mid.seen (segment_slot (e + 1))))))
-    → Passes old new (StandForSame old.seen)
-next_ending old mid new e content state count end rest at_rest gates parts is first second =
-    let one = next_written old.seen mid.seen e content state count end parts is in
-    same_after old mid new (next_writing old mid e content state count end rest gates parts first)
-    (same_by_one old.seen mid.seen state (next_found old.seen e content state count end parts)
-    (one_found mid.seen (e + 1) state count end one))
-    (one_ending mid new (e + 1) state count end at_rest
-    (subst HaveLastGates (sym is) (gates_alongside_image old.seen content (e + 1) gates)) one second)
 
 -- what is read without a write
 
@@ -494,7 +480,7 @@ one_reads s e state count end used read =
     }
 
 pub two_reads : (s : Slots) (e : ℕ) (mid state : State) (number stop count end : ℕ) → Uses s e true
-    → ReadsOne s e mid number stop → ReplaysAll (slot_of s (segment_slot (e + 1))) mid state count end
+    → ReadsOne s e mid number stop → ReplaysAll (e + 1) (slot_of s (segment_slot (e + 1))) mid state count end
     → Reads s e (number + count) state
 two_reads s e mid state number stop count end used read replays =
     let two =
@@ -517,20 +503,19 @@ two_reads s e mid state number stop count end used read replays =
 pub no_run : (e : ℕ) (image_bytes segment_bytes : List ℕ) (read base state : State) (records : List Record)
     → HoldsImage e image_bytes read → HoldsImage e image_bytes base → EncodesSegment e segment_bytes records
     → Run base records state
-    → ((rs : List Record) (s : State) → EncodesBatches (drop 16 segment_bytes) rs → Run read rs s → ⊥) → ⊥
+    → ((rs : List Record) (s : State) → EncodesSegment e segment_bytes rs → Run read rs s → ⊥) → ⊥
 no_run e image_bytes segment_bytes read base state records one other encoded run none =
-    none records state (subst (λ (l : List ℕ). EncodesBatches l records)
-    (sym (ap (λ (l : List ℕ). drop 16 l) encoded.encoding)) encoded.encoded)
+    none records state encoded
     (subst (λ (b : State). Run b records state) (one_base e image_bytes base read other one) run)
 
 -- what was read of an epoch
 pub reads_one : (s : Slots) (e : ℕ) (base state : State) (count end : ℕ) → HoldsImage e (slot_of s (image_slot e)) base
-    → ReplaysAll (slot_of s (segment_slot e)) base state count end → ReadsOne s e state count end
+    → ReplaysAll e (slot_of s (segment_slot e)) base state count end → ReadsOne s e state count end
 reads_one s e base state count end image replays = record { base = base; image = image; replays = replays }
 
 -- two segments hold no more records than a word counts
 pub two_few : (s : Slots) (e : ℕ) (mid state : State) (number stop count end : ℕ) → ReadsOne s e mid number stop
-    → ReplaysAll (slot_of s (segment_slot (e + 1))) mid state count end → number + count < 2 ^ 64
+    → ReplaysAll (e + 1) (slot_of s (segment_slot (e + 1))) mid state count end → number + count < 2 ^ 64
 two_few s e mid state number stop count end read replays =
     omega (
       arith,

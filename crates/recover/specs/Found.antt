@@ -19,7 +19,7 @@ pub record HasOwn (slots : Slots) (epoch : ℕ) : Type 0 where
 pub record ReadsOne (slots : Slots) (epoch : ℕ) (state : State) (count end : ℕ) : Type 0 where
   pub base : State
   pub image : HoldsImage epoch (slot_of slots (image_slot epoch)) base
-  pub replays : ReplaysAll (slot_of slots (segment_slot epoch)) base state count end
+  pub replays : ReplaysAll epoch (slot_of slots (segment_slot epoch)) base state count end
 
 -- no image is open and the epoch is 0, or the image of this epoch is the latest
 abbrev pub IsLatestEpoch : Slots → ℕ → Type 0

@@ -1,16 +1,18 @@
 -- What the headers of the slots say.
 use Rattle.std.specs.Prelude.{◌≢◌, ℕ, ◌%◌, List, [], ◌∷◌, Option, MatchOption}
+use Rattle.codes.specs.StoreVersion.{version_number}
+use Rattle.codes.specs.declared.store_version.StoreVersion.{StoreVersion}
 use Rattle.disk.specs.Slots.{Slots}
 use Rattle.ipc_model.specs.store.Recovery.{HasOtherVersion, IsNotOpen, IsOfEpoch, IsOpen, IsOpenOfEpoch, image_header, segment_header_length}
 use Rattle.ipc_model.specs.store.Store.{open_gate}
 use Rattle.recover.specs.declared.headers.Header.{Header}
 use Rattle.recover.specs.declared.headers.Header.TheVariants.{Closed, Open, OtherVersion, Unreadable}
 
--- what an open slot of version 1 begins with, before its epoch
-abbrev pub version_one : List ℕ
-version_one = open_gate ∷ 1 ∷ 0 ∷ 0 ∷ 0 ∷ 0 ∷ 0 ∷ 0 ∷ []
+-- what an open slot of a version begins with, before its epoch
+abbrev pub version_front : StoreVersion → List ℕ
+version_front version = open_gate ∷ version_number version ∷ 0 ∷ 0 ∷ 0 ∷ 0 ∷ 0 ∷ 0 ∷ []
 
--- a slot is open, of version 1, and of no epoch
+-- a slot is open, of a version, and of no epoch
 abbrev pub IsUnreadable : ℕ → List ℕ → Type 0
 IsUnreadable length slot =
     IsOpen length slot × (HasOtherVersion length slot → ⊥) × ((number epoch : ℕ) → IsOfEpoch number epoch slot → ⊥)

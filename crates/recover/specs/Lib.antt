@@ -11,3 +11,4 @@ pub mod Replayed
 pub mod Steps
 pub mod Crashing
 pub mod Surveyed
+pub mod Upgrading

@@ -1,5 +1,8 @@
--- An image in its slot, after the header's epoch.
+-- An image in its slot, after the header's epoch, and what it may hold.
 use Rattle.std.specs.Prelude.{◌≡◌, ℕ, ◌^◌, ◌<◌, List, ◌++◌, length, drop}
+use Rattle.codes.specs.declared.store_version.StoreVersion.{StoreVersion}
+use Rattle.ipc_model.specs.store.Store.{IsLimitOf}
+use Rattle.snapshot.specs.declared.rows.LivePort.{LivePort}
 use Rattle.words.specs.Words.{long_word}
 
 -- A slot holds these bytes, preceded by their length, after the sixteen bytes of a gate, a version and an epoch.
@@ -7,3 +10,7 @@ pub record HoldsEncoding (slot encoding : List ℕ) : Type 0 where
   pub rest : List ℕ
   pub fits : length encoding < 2 ^ 64
   pub beyond : drop 16 slot ≡ long_word (length encoding) ++ (encoding ++ rest)
+
+-- a port's queue has a limit of a version
+abbrev pub HasLimit : StoreVersion → LivePort → Type 0
+HasLimit version port = IsLimitOf version port.state.limit

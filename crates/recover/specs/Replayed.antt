@@ -1,23 +1,33 @@
 -- The records of a segment, replayed.
 use Rattle.std.specs.Prelude.{◌≡◌, ℕ, ◌+◌, ◌-◌, ◌≤◌, List, length, drop}
+use Rattle.codes.specs.StoreVersion.{version_number}
+use Rattle.codes.specs.declared.store_version.StoreVersion.{StoreVersion}
 use Rattle.ipc_laws.specs.Counted.{EncodesCounted}
 use Rattle.ipc_model.specs.calls.Step.{Run}
 use Rattle.ipc_model.specs.declared.record.Record.{Record}
 use Rattle.ipc_model.specs.state.State.{State}
+use Rattle.ipc_model.specs.store.Recovery.{version_of}
+use Rattle.ipc_model.specs.store.Store.{AreWithin, LeavesAnEpoch}
 use Rattle.journal.specs.Reading.{Place, EncodesFrom}
 
--- The records that the segment encodes from this place on lead from one state to another. By then `count` records are
--- read, and the last batch ends at `end`.
-pub record Replays (segment : List ℕ) (place : Place) (old new : State) (count end : ℕ) : Type 0 where
+-- The records that a segment of a version encodes from this place on lead from one state to another. By then `count`
+-- records are read, and the last batch ends at `end`.
+pub record Replays (version : StoreVersion) (segment : List ℕ) (place : Place) (old new : State)
+    (count end : ℕ) : Type 0 where
   pub records : List Record
   pub encoded : EncodesFrom segment place records end
+  pub within : AreWithin version records
   pub run : Run old records new
   pub counted : count ≡ place.number + length records
 
--- The records of a segment, after its header, lead from one state to another: there are `count`, and the last batch
--- ends at `end`.
-pub record ReplaysAll (segment : List ℕ) (old new : State) (count end : ℕ) : Type 0 where
+-- The records of an epoch's segment, after its header, lead from one state to another: there are `count`, and the last
+-- batch ends at `end`. The header says the version.
+pub record ReplaysAll (epoch : ℕ) (segment : List ℕ) (old new : State) (count end : ℕ) : Type 0 where
+  pub version : StoreVersion
+  pub says : version_of segment ≡ version_number version
+  pub next : LeavesAnEpoch version epoch
   pub records : List Record
+  pub within : AreWithin version records
   pub encoded : EncodesCounted (drop 16 segment) records (end - 16)
   pub run : Run old records new
   pub counted : count ≡ length records

@@ -5,8 +5,9 @@ ghost use Rattle.disk.specs.Slots.{slot_of};
 ghost use Rattle.ipc_model.specs.calls.Step.{Run};
 ghost use Rattle.ipc_model.specs.declared.record.Record.{Record};
 ghost use Rattle.ipc_model.specs.state.State.{State};
-ghost use Rattle.ipc_model.specs.store.Recovery.{HoldsImage, IsNew};
-ghost use Rattle.ipc_model.specs.store.Store.{IsClosed, EncodesSegment};
+ghost use Rattle.codes.specs.StoreVersion.{version_number};
+ghost use Rattle.ipc_model.specs.store.Recovery.{HoldsImage, IsNew, version_of};
+ghost use Rattle.ipc_model.specs.store.Store.{IsClosed, EncodesSegment, LeavesAnEpoch};
 ghost use Rattle.recover.specs.Found.{HasOwn, ReadsOne};
 ghost use Rattle.recover.specs.Headers.{Says};
 ghost use Rattle.recover.specs.Outcomes.{CountsDevice, OnlyReadingFaults};
@@ -17,22 +18,27 @@ ghost use Rattle.store_layout.specs.Standing.{as_written};
 use crate::headers::Header;
 use crate::loading::load_image;
 use crate::reading::replay_segment;
+use codes::StoreVersion;
 use disk::{Disk, DiskFault, Slot};
 use kernel::Kernel;
-use slot_steps::{CLOSED_GATE, OPEN_GATE, SEGMENT_HEADER, image_slot, segment_slot};
+use slot_steps::{CLOSED_GATE, OPEN_GATE, SEGMENT_HEADER, image_slot};
 use std::alloc::Global;
 use store_fault::StoreFault;
 
-/// The state after an epoch's image and the records of its segment, how many they are, and where the last batch ends.
+/// The state after an epoch's image and the records of its segment, how many they are, where the last batch ends, and
+/// the segment's version.
 ///
 /// `Damaged`: the image isn't that of a lawful state, or the records are no run from it.
 pub(crate) fn read_epoch<D: Disk>(
     alloc: Global,
     disk: &mut D,
     epoch: u64,
-) -> Result<(Kernel, u64, u64), StoreFault>
+) -> Result<(Kernel, u64, u64, StoreVersion), StoreFault>
     requires { D.honest → HasOwn (D.view disk.old).seen epoch }
     ensures read { D.honest → IfOk result (λ r. ReadsOne (D.view disk.old).seen epoch r.0 r.1 r.2) }
+    ensures says { D.honest → IfOk result
+        (λ r. version_of (slot_of (D.view disk.old).seen (slot_of_segment epoch)) ≡ version_number r.3) }
+    ensures next { IfOk result (λ r. LeavesAnEpoch r.3 epoch) }
     ensures damaged { D.honest → IsErrOf result StoreFault.Damaged → (base state : State) → (records : List Record)
         → HoldsImage epoch (slot_of (D.view disk.old).seen (slot_of_image epoch)) base
         → EncodesSegment epoch (slot_of (D.view disk.old).seen (slot_of_segment epoch)) records → Run base records state
@@ -42,7 +48,7 @@ pub(crate) fn read_epoch<D: Disk>(
     ensures faults { OnlyReadingFaults result }
 {
     let base = load_image(alloc, disk, image_slot(epoch))?;
-    replay_segment(alloc, base, disk, segment_slot(epoch))
+    replay_segment(alloc, base, disk, epoch)
 }
 
 /// Whether segment 0 has an open batch.

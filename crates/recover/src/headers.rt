@@ -1,12 +1,17 @@
 // What the header of a slot says.
-ghost use Rattle.std.specs.Prelude.{◌≡◌, ◌≢◌, ◌↔◌, ◌≤◌, ◌%◌, ◌++◌, ℕ, List, IsTrue, IfOk, IfSome, IfNone, length};
+ghost use Rattle.std.specs.Prelude.{◌≡◌, ◌≢◌, ◌↔◌, ◌≤◌, ◌%◌, ◌++◌, ℕ, List, IsTrue, IfOk, IfSome, IfNone, IsErrOf, length};
 ghost use Rattle.disk.specs.Slots.{slot_of};
-ghost use Rattle.disk.specs.Moments.{CountsFailure, MayLeave, Passes};
-ghost use Rattle.ipc_model.specs.store.Recovery.{HasOtherVersion, IsOfEpoch, IsOpen};
-ghost use Rattle.recover.specs.Headers.{SayAll, Says, version_one};
+ghost use Rattle.disk.specs.Moments.{CountsFailure, MayLeave, Passes, ReadsOnly};
+ghost use Rattle.codes.specs.StoreVersion.{IsNoVersion, version_number};
+ghost use Rattle.codes.specs.declared.store_version.StoreVersion.{StoreVersion};
+ghost use Rattle.ipc_model.specs.store.Recovery.{HasOtherVersion, IsOfEpoch, IsOpen, version_of};
+ghost use Rattle.recover.specs.Outcomes.{CountsDevice, OnlyReadingFaults};
+ghost use Rattle.recover.specs.Headers.{SayAll, Says, version_front};
 
+use codes::StoreVersion;
 use disk::{Disk, DiskFault, Slot};
 use slot_steps::{IMAGE_HEADER, OPEN_GATE, SEGMENT_HEADER};
+use store_fault::StoreFault;
 use words::take_long_word;
 
 /// What the header of a slot says.
@@ -16,7 +21,7 @@ pub(crate) enum Header {
     Closed,
     /// It is open, and of this epoch.
     Open(u64),
-    /// It is open, and of another version.
+    /// It is open, and says a version that there isn't.
     OtherVersion,
     /// It is open, and its header isn't one that a server writes.
     Unreadable,
@@ -31,9 +36,6 @@ pub(crate) struct Headers {
     pub(crate) segment1: Header,
 }
 
-/// What an open slot of version 1 begins with, before its epoch.
-const VERSION_ONE: [u8; 8] = [OPEN_GATE, 1, 0, 0, 0, 0, 0, 0];
-
 /// Whether a slot holds its whole header and its gate is open.
 pub(crate) fn is_open(slot: &[u8], header: usize) -> bool
     ensures { IsTrue result ↔ IsOpen header slot.now }
@@ -41,30 +43,53 @@ pub(crate) fn is_open(slot: &[u8], header: usize) -> bool
     header <= slot.len() && slot.first() == Some(&OPEN_GATE)
 }
 
-/// Whether a slot is open and of another version.
+/// Whether a slot is open and says a version that there isn't.
 fn is_other_version(slot: &[u8], header: usize) -> bool
+    requires { 2 ≤ header }
     ensures { IsTrue result ↔ HasOtherVersion header slot.now }
 {
     if !is_open(slot, header) {
         return false;
     }
-    slot.get(1) != Some(&1)
+    version_in(slot).is_none()
 }
 
-/// What stands after the front of a header of version 1, if there is one.
-fn after_version(slot: &[u8]) -> Option<&[u8]>
-    ensures found { IfSome result (λ rest. slot.now ≡ version_one ++ rest.now) }
-    ensures none { IfNone result ((rest : List ℕ) → slot.now ≢ version_one ++ rest) }
+/// The version that a header says, if there is such a one.
+fn version_in(slot: &[u8]) -> Option<StoreVersion>
+    requires { 2 ≤ length slot.now }
+    ensures known { IfSome result (λ version. version_number version ≡ version_of slot.now) }
+    ensures unknown { IfNone result (IsNoVersion (version_of slot.now)) }
 {
-    slot.strip_prefix(&VERSION_ONE)
+    StoreVersion::from_number(slot[1])
 }
 
-/// The epoch of a header of version 1, if there is one.
+/// What stands after the front of a header of a version, if there is one.
+fn after_version(slot: &[u8], version: StoreVersion) -> Option<&[u8]>
+    ensures found { IfSome result (λ rest. slot.now ≡ version_front version ++ rest.now) }
+    ensures none { IfNone result ((rest : List ℕ) → slot.now ≢ version_front version ++ rest) }
+{
+    let front = [OPEN_GATE, version.number(), 0, 0, 0, 0, 0, 0];
+    slot.strip_prefix(&front)
+}
+
+/// What stands after the front of a header of either version, if there is one.
+fn after_front(slot: &[u8]) -> Option<&[u8]>
+    ensures found { IfSome result
+        (λ rest. (version : StoreVersion) × (slot.now ≡ version_front version ++ rest.now)) }
+    ensures none { IfNone result ((version : StoreVersion) (rest : List ℕ) → slot.now ≢ version_front version ++ rest) }
+{
+    match after_version(slot, StoreVersion::One) {
+        Some(rest) => Some(rest),
+        None => after_version(slot, StoreVersion::Two),
+    }
+}
+
+/// The epoch of a header of a version, if there is one.
 fn epoch_of(slot: &[u8]) -> Option<u64>
     ensures found { IfSome result (λ epoch. IsOfEpoch (epoch % 2) epoch slot.now) }
     ensures none { IfNone result (16 ≤ length slot.now → (number epoch : ℕ) → IsOfEpoch number epoch slot.now → ⊥) }
 {
-    let rest = after_version(slot)?;
+    let rest = after_front(slot)?;
     let (epoch, _) = take_long_word(rest)?;
     Some(epoch)
 }
@@ -117,4 +142,26 @@ pub(crate) fn read_headers<D: Disk>(disk: &mut D) -> Result<Headers, DiskFault>
         segment0,
         segment1,
     })
+}
+
+/// The version of an open slot, which its header says. It is read once more, since most of what is asked of a header
+/// has nothing to do with it.
+///
+/// `Damaged`: there is no such version.
+pub(crate) fn read_version<D: Disk>(disk: &mut D, slot: Slot) -> Result<StoreVersion, StoreFault>
+    requires { D.honest → 16 ≤ length (slot_of (D.view disk.old).seen slot) }
+    ensures says { D.honest → IfOk result
+        (λ version. version_of (slot_of (D.view disk.old).seen slot) ≡ version_number version) }
+    ensures damaged { D.honest → IsErrOf result StoreFault.Damaged
+        → IsNoVersion (version_of (slot_of (D.view disk.old).seen slot)) }
+    ensures reads_only { D.honest → ReadsOnly (D.view disk.old) (D.view disk.new) }
+    ensures failures { CountsDevice (D.failed_calls disk.old) (D.failed_calls disk.new) result }
+    ensures faults { OnlyReadingFaults result }
+{
+    let mut number = [0];
+    disk.read(slot, 1, &mut number)?;
+    match StoreVersion::from_number(number[0]) {
+        Some(version) => Ok(version),
+        None => Err(StoreFault::Damaged),
+    }
 }

@@ -12,7 +12,8 @@ pub fn append_keeps_gate()
 {}
 
 /// Any number of crashes in a row, each at some moment of the opening of what the one before left, keep the state: if
-/// all that a crash might leave before the first opening stands for a state, so does all that a crash leaves after each.
+/// all that a crash might leave before the first opening stands for a state, so does all that a crash leaves after
+/// each.
 pub fn crashes_keep_state<D: Disk>()
     ensures { D.honest → (state : State) → CrashesKeep D.view (StandForState state) }
 {}

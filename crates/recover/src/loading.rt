@@ -1,17 +1,22 @@
 // The state whose image stands in a slot.
-ghost use Rattle.std.specs.Prelude.{◌≡◌, ◌⊎◌, ◌^◌, ◌<◌, ◌++◌, ℕ, List, IfOk, OnErr, IsErrOf, drop, length};
+ghost use Rattle.std.specs.Prelude.{◌≡◌, ◌⊎◌, ◌↔◌, ◌^◌, ◌<◌, ◌++◌, ℕ, All, List, IsTrue, IfOk, OnErr, IsErrOf, drop, length};
 ghost use Rattle.disk.specs.Moments.{CountsFailure, MayLeave, Passes, ReadsOnly};
 ghost use Rattle.disk.specs.Slots.{slot_of};
 ghost use Rattle.ipc_model.specs.state.State.{State};
-ghost use Rattle.ipc_model.specs.store.Recovery.{HoldsImage, IsImageOf, IsOfEpoch, IsOpen};
+ghost use Rattle.codes.specs.StoreVersion.{version_number};
+ghost use Rattle.ipc_model.specs.store.Recovery.{HoldsImage, IsImageIn, IsOfEpoch, IsOpen, version_of};
 ghost use Rattle.words.specs.Words.{long_word};
-ghost use Rattle.recover.specs.Loaded.{HoldsEncoding};
+ghost use Rattle.recover.specs.Loaded.{HasLimit, HoldsEncoding};
 ghost use Rattle.recover.specs.Outcomes.{CountsDevice, OnlyReadingFaults};
 
+use crate::headers::read_version;
+use crate::reading::is_limit;
+use codes::StoreVersion;
 use disk::{Disk, DiskFault, Slot};
 use image::{ImageFault, read};
 use kernel::{Kernel, SnapshotFault};
 use slot_steps::IMAGE_HEADER;
+use snapshot::LivePort;
 use std::alloc::Global;
 use store_fault::StoreFault;
 use words::take_long_word;
@@ -57,19 +62,31 @@ fn read_encoding<D: Disk>(alloc: Global, disk: &mut D, slot: Slot) -> Result<Vec
     Ok(encoding)
 }
 
-/// The state that these bytes encode.
+/// Whether each port's queue has a limit of a version.
+fn have_limits(version: StoreVersion, ports: &[LivePort]) -> bool
+    ensures { IsTrue result ↔ All (HasLimit version) ports.now }
+{
+    ports.iter().all(|port| is_limit(version, port.state.limit))
+}
+
+/// The state that these bytes encode in a version.
 ///
 /// `Damaged`: they encode no lawful state.
-fn state_of(alloc: Global, encoding: &[u8]) -> Result<Kernel, StoreFault>
-    ensures image { IfOk result (λ kernel. IsImageOf encoding.now kernel) }
-    ensures damaged { IsErrOf result StoreFault.Damaged → (state : State) → IsImageOf encoding.now state → ⊥ }
+fn state_of(alloc: Global, version: StoreVersion, encoding: &[u8]) -> Result<Kernel, StoreFault>
+    ensures image { IfOk result (λ kernel. IsImageIn version encoding.now kernel) }
+    ensures damaged { IsErrOf result StoreFault.Damaged → (state : State)
+        → IsImageIn version encoding.now state → ⊥ }
     ensures faults { OnErr result ((result ≡ Err StoreFault.Damaged) ⊎ (result ≡ Err StoreFault.NoMemory)) }
 {
-    let snapshot = match read(alloc, encoding) {
+    let snapshot = match read(alloc, version, encoding) {
         Ok(snapshot) => snapshot,
         Err(ImageFault::NotCanonical) => return Err(StoreFault::Damaged),
         Err(ImageFault::NoMemory) => return Err(StoreFault::NoMemory),
     };
+    if !have_limits(version, snapshot.ports.as_slice()) {
+        drop(snapshot);
+        return Err(StoreFault::Damaged);
+    }
     match Kernel::from_snapshot(alloc, snapshot) {
         Ok(kernel) => Ok(kernel),
         Err(SnapshotFault::NotLawful) => Err(StoreFault::Damaged),
@@ -77,9 +94,34 @@ fn state_of(alloc: Global, encoding: &[u8]) -> Result<Kernel, StoreFault>
     }
 }
 
-/// The state whose image an open slot holds.
+/// The state whose image an open slot of a version holds.
 ///
 /// `Damaged`: it holds no image of a lawful state.
+fn load_image_in<D: Disk>(
+    alloc: Global,
+    disk: &mut D,
+    slot: Slot,
+    version: StoreVersion,
+) -> Result<Kernel, StoreFault>
+    requires open { D.honest → IsOpen 24 (slot_of (D.view disk.old).seen slot) }
+    requires says { D.honest → version_of (slot_of (D.view disk.old).seen slot) ≡ version_number version }
+    ensures image { D.honest → IfOk result
+        (λ kernel. (number epoch : ℕ) → IsOfEpoch number epoch (slot_of (D.view disk.old).seen slot)
+        → HoldsImage epoch (slot_of (D.view disk.old).seen slot) kernel) }
+    ensures damaged { D.honest → IsErrOf result StoreFault.Damaged → (epoch : ℕ) (state : State)
+        → HoldsImage epoch (slot_of (D.view disk.old).seen slot) state → ⊥ }
+    ensures reads_only { D.honest → ReadsOnly (D.view disk.old) (D.view disk.new) }
+    ensures failures { CountsDevice (D.failed_calls disk.old) (D.failed_calls disk.new) result }
+    ensures faults { OnlyReadingFaults result }
+{
+    let encoding = read_encoding(alloc, disk, slot)?;
+    let kernel = state_of(alloc, version, &encoding)?;
+    Ok(kernel)
+}
+
+/// The state whose image an open slot holds.
+///
+/// `Damaged`: it holds no image of a lawful state, or none of a version that there is.
 pub(crate) fn load_image<D: Disk>(
     alloc: Global,
     disk: &mut D,
@@ -95,7 +137,6 @@ pub(crate) fn load_image<D: Disk>(
     ensures failures { CountsDevice (D.failed_calls disk.old) (D.failed_calls disk.new) result }
     ensures faults { OnlyReadingFaults result }
 {
-    let encoding = read_encoding(alloc, disk, slot)?;
-    let kernel = state_of(alloc, &encoding)?;
-    Ok(kernel)
+    let version = read_version(disk, slot)?;
+    load_image_in(alloc, disk, slot, version)
 }

@@ -16,7 +16,6 @@ use crate::reading::replay_segment;
 use crate::survey::{Survey, survey_store};
 use disk::Disk;
 use kernel::{Kernel, Snapshot};
-use slot_steps::segment_slot;
 use std::alloc::{AllocError, Global};
 use store_fault::StoreFault;
 
@@ -61,11 +60,11 @@ fn look_in_use<D: Disk>(
     ensures failures { CountsDevice (D.failed_calls disk.old) (D.failed_calls disk.new) result }
     ensures faults { OnlyReadingFaults result }
 {
-    let (kernel, first, _) = read_epoch(alloc, disk, epoch)?;
+    let (kernel, first, _, _) = read_epoch(alloc, disk, epoch)?;
     if !follows {
         return Ok((kernel, first));
     }
-    let (kernel, next, _) = replay_segment(alloc, kernel, disk, segment_slot(epoch + 1))?;
+    let (kernel, next, _, _) = replay_segment(alloc, kernel, disk, epoch + 1)?;
     Ok((kernel, first.saturating_add(next)))
 }
 

@@ -1,4 +1,4 @@
-ghost use Rattle.std.specs.Prelude.{◌≡◌, ◌≢◌, ◌⊎◌, ◌+◌, ◌<◌, ◌^◌, true, false, Err, IfOk, IfErr, IsErrOf, OnOk};
+ghost use Rattle.std.specs.Prelude.{◌≡◌, ◌≢◌, ◌⊎◌, ◌+◌, ◌<◌, ◌^◌, true, false, Err, IfOk, IfErr, IfSome, IsErrOf, OnOk};
 ghost use Rattle.checkpoint.specs.Images.{open_image, unwritten};
 ghost use Rattle.disk.specs.Slots.{Slots};
 ghost use Rattle.disk.specs.Moments.{CountsFailure, MayLeave, Passes, one_more};
@@ -12,6 +12,8 @@ ghost use Rattle.recover.specs.Crashing.{LeavesSame};
 ghost use Rattle.store_layout.specs.Gates.{HaveLastGates, StandForState};
 ghost use Rattle.recover.specs.Outcomes.{CountsDevice, OnlyOpeningFaults, OnlyReadingFaults, Opens, StandForNone, StandsForSameSince};
 ghost use Rattle.recover.specs.Surveyed.{IsInUse, IsUnused};
+ghost use Rattle.recover.specs.Upgrading.{IsToEnd, IsUpgradeOf};
+ghost use Rattle.ipc_model.specs.store.Store.{LeavesAnEpoch};
 ghost use Rattle.store_layout.specs.Standing.{as_written};
 
 use crate::finding::{have_no_batch, read_epoch};
@@ -21,11 +23,12 @@ use crate::reading::replay_segment;
 use crate::survey::{Survey, survey_store};
 use crate::value_after::{both, end_after, write_after};
 use checkpoint::Image;
+use codes::StoreVersion;
 use disk::{Disk, DiskFault};
 use image::image_is_of_state;
 use journal::Segment;
 use kernel::Kernel;
-use slot_steps::segment_slot;
+use slot_steps::{SEGMENT_HEADER, segment_slot};
 use std::alloc::{AllocError, Global};
 use std::marker::Model;
 use store_fault::StoreFault;
@@ -108,7 +111,60 @@ fn begin<D: Disk>(
     Ok((kernel, segment))
 }
 
-/// Goes on in an epoch, whose segment is ended after its batches.
+/// A state, and the image of the next epoch, if the epoch's segment is of version 1: then the store goes on in that
+/// next epoch, whose slots are of the current version. The image is made before anything is written.
+fn with_upgrade(
+    alloc: Global,
+    kernel: Kernel,
+    version: StoreVersion,
+    epoch: u64,
+) -> Result<(Kernel, Option<Image>), AllocError>
+    requires { LeavesAnEpoch version epoch }
+    ensures base { IfOk result (λ r. r.0 ≡ kernel) }
+    ensures upgrade { IfOk result (λ r. IsUpgradeOf version epoch kernel r.1) }
+{
+    match version {
+        StoreVersion::Two => Ok((kernel, None)),
+        StoreVersion::One => {
+            let (kernel, image) = with_image(alloc, kernel, epoch + 1)?;
+            Ok((kernel, Some(image)))
+        }
+    }
+}
+
+/// Ends a segment in use after its last batch, which ends at this place. If it is of version 1, it stays as it is: the
+/// next epoch's segment is made, which is empty, and then its image, and that segment is ended.
+fn end_store<D: Disk>(
+    disk: &mut D,
+    kernel: Kernel,
+    segment: Segment,
+    end: u64,
+    upgrade: Option<Image>,
+) -> Result<(Kernel, Segment), DiskFault>
+    requires fits { IfSome upgrade (λ image. segment.epoch + 1 < 2 ^ 64) }
+    requires read { D.honest → IsToEnd (D.view disk.old) kernel segment end upgrade }
+    ensures same { IfOk result (λ r. r.0 ≡ kernel) }
+    ensures kept { D.honest → IfOk result (λ r. IsKept (D.view disk.new) r.1 kernel) }
+    ensures any_moment { D.honest → StandsForSameSince (D.view disk.old) (D.view disk.new) }
+    ensures failures { CountsFailure (D.failed_calls disk.old) (D.failed_calls disk.new) result }
+{
+    let Some(image) = upgrade else {
+        let kernel = end_after(disk, segment_slot(segment.epoch), end, kernel)?;
+        return Ok((kernel, segment));
+    };
+    let next = make_segment(disk, segment.epoch + 1);
+    let (kernel, next) = both(kernel, next)?;
+    let kernel = write_after(disk, &image, kernel)?;
+    let kernel = end_after(
+        disk,
+        segment_slot(next.epoch),
+        SEGMENT_HEADER as u64,
+        kernel,
+    )?;
+    Ok((kernel, next))
+}
+
+/// Goes on in an epoch, whose segment is ended after its batches, or in the next one if that segment is of version 1.
 fn go_on<D: Disk>(alloc: Global, disk: &mut D, epoch: u64) -> Result<(Kernel, Segment), StoreFault>
     requires rest { D.honest → IsAtRest (D.view disk.old) }
     requires used { D.honest → IsInUse (D.view disk.old).seen epoch false }
@@ -118,12 +174,15 @@ fn go_on<D: Disk>(alloc: Global, disk: &mut D, epoch: u64) -> Result<(Kernel, Se
     ensures failures { CountsDevice (D.failed_calls disk.old) (D.failed_calls disk.new) result }
     ensures faults { OnlyReadingFaults result }
 {
-    let (kernel, records, end) = read_epoch(alloc, disk, epoch)?;
-    let kernel = end_after(disk, segment_slot(epoch), end, kernel)?;
-    Ok((kernel, Segment { epoch, records }))
+    let (kernel, records, end, version) = read_epoch(alloc, disk, epoch)?;
+    let (kernel, upgrade) = with_upgrade(alloc, kernel, version, epoch)?;
+    let segment = Segment { epoch, records };
+    let (kernel, segment) = end_store(disk, kernel, segment, end, upgrade)?;
+    Ok((kernel, segment))
 }
 
 /// Goes on in the next epoch, whose segment follows: its image is made of the state before that segment, and written.
+/// Then it is as with the segment of an epoch.
 fn go_on_next<D: Disk>(
     alloc: Global,
     disk: &mut D,
@@ -138,18 +197,18 @@ fn go_on_next<D: Disk>(
     ensures failures { CountsDevice (D.failed_calls disk.old) (D.failed_calls disk.new) result }
     ensures faults { OnlyReadingFaults result }
 {
-    let (base, _, _) = read_epoch(alloc, disk, epoch)?;
-    let (base, image) = with_image(alloc, base, epoch + 1)?;
-    let (kernel, records, end) = replay_segment(alloc, base, disk, segment_slot(epoch + 1))?;
-    let kernel = write_after(disk, &image, kernel)?;
-    let kernel = end_after(disk, segment_slot(epoch + 1), end, kernel)?;
-    Ok((
-        kernel,
-        Segment {
-            epoch: epoch + 1,
-            records,
-        },
-    ))
+    let next = epoch + 1;
+    let (base, _, _, _) = read_epoch(alloc, disk, epoch)?;
+    let (base, image) = with_image(alloc, base, next)?;
+    let (kernel, records, end, version) = replay_segment(alloc, base, disk, next)?;
+    let (kernel, upgrade) = with_upgrade(alloc, kernel, version, next)?;
+    let segment = Segment {
+        epoch: next,
+        records,
+    };
+    let (kernel, upgrade) = write_after(disk, &image, (kernel, upgrade))?;
+    let (kernel, segment) = end_store(disk, kernel, segment, end, upgrade)?;
+    Ok((kernel, segment))
 }
 
 /// A state, and the image of an epoch that begins with it.
@@ -201,10 +260,11 @@ fn load<D: Disk>(alloc: Global, disk: &mut D) -> Result<(Kernel, Segment), Store
 }
 
 /// Opens a store. A new one gets its first segment and image. From an existing one the state is read; a checkpoint that
-/// was half done is finished, and the segment in use is ended after its last batch. At a fault the disk comes back.
+/// was half done is finished, and the segment in use is ended after its last batch. If that is of version 1, the store
+/// goes on in the next epoch, with an image and a segment of the current version. At a fault the disk comes back.
 ///
-/// `Device`: the device failed. `Damaged`: the slots are not as a server leaves them. `Version`: an open slot is of
-/// another version. `NoMemory`: out of memory.
+/// `Device`: the device failed. `Damaged`: the slots are not as a server leaves them. `Version`: an open slot says
+/// a version that there isn't. `NoMemory`: out of memory.
 pub fn open<D: Disk>(alloc: Global, disk: D) -> Result<Opened<D>, (StoreFault, D)>
     ensures state { D.honest → IfOk result (λ opened. Recovered (as_written (D.view disk).seen) opened.kernel) }
     ensures version { D.honest → IfErr result

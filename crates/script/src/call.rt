@@ -10,8 +10,8 @@ use ipc_model::{Call, Sequence};
 use script_words::{Kind, Verb, large_word, take_word};
 use std::alloc::Global;
 
-#[tactic(auto, unfolding(crate::specs::Calls::receive_at))]
 /// The receive whose arguments are in front.
+#[tactic(auto, unfolding(crate::specs::Calls::receive_at))]
 fn read_receive(text: &[u8]) -> Result<(Call, &[u8]), Fault>
     ensures { Gives (λ r. (r.0, words_of r.1.now)) result (receive_at (words_of text.now)) }
 {
@@ -28,8 +28,8 @@ fn read_receive(text: &[u8]) -> Result<(Call, &[u8]), Fault>
     Ok((call, rest))
 }
 
-#[tactic(auto, unfolding(crate::specs::Calls::send_at))]
 /// The send whose message is in front.
+#[tactic(auto, unfolding(crate::specs::Calls::send_at))]
 fn read_send(alloc: Global, text: &[u8]) -> Result<(Call, &[u8]), Fault>
     ensures { Gives (λ r. (r.0, words_of r.1.now)) result (send_at (words_of text.now)) }
 {
@@ -38,8 +38,8 @@ fn read_send(alloc: Global, text: &[u8]) -> Result<(Call, &[u8]), Fault>
     Ok((Call::Send { message }, rest))
 }
 
-#[tactic(auto, unfolding(crate::specs::Calls::after_at))]
 /// The call of a verb whose arguments are in front.
+#[tactic(auto, unfolding(crate::specs::Calls::after_at))]
 fn read_after(alloc: Global, verb: Verb, text: &[u8]) -> Result<(Call, &[u8]), Fault>
     ensures { Gives (λ r. (r.0, words_of r.1.now)) result (after_at verb (words_of text.now)) }
 {
@@ -50,8 +50,8 @@ fn read_after(alloc: Global, verb: Verb, text: &[u8]) -> Result<(Call, &[u8]), F
     }
 }
 
-#[tactic(auto, unfolding(crate::specs::Calls::call_at))]
 /// The call in front, and the text after it.
+#[tactic(auto, unfolding(crate::specs::Calls::call_at))]
 pub(crate) fn read_call(alloc: Global, text: &[u8]) -> Result<(Call, &[u8]), Fault>
     ensures { Gives (λ r. (r.0, words_of r.1.now)) result (call_at (words_of text.now)) }
 {

@@ -74,8 +74,8 @@ fn bytes_item(alloc: Global, bytes: &[u8]) -> Result<Vec<u8>, AllocError>
     Ok(item)
 }
 
-#[tactic(auto, unfolding(crate::specs::Items::words_item_at))]
 /// The item of words in front, and the text after its words.
+#[tactic(auto, unfolding(crate::specs::Items::words_item_at))]
 fn read_words_item(alloc: Global, text: &[u8]) -> Result<(Vec<u8>, &[u8]), Fault>
     ensures { Gives (λ r. (r.0.items, words_of r.1.now)) result (words_item_at (words_of text.now)) }
 {
@@ -90,8 +90,8 @@ fn read_words_item(alloc: Global, text: &[u8]) -> Result<(Vec<u8>, &[u8]), Fault
     }
 }
 
-#[tactic(auto, unfolding(crate::specs::Items::bytes_item_at))]
 /// The item of the bytes in front, and the text after them.
+#[tactic(auto, unfolding(crate::specs::Items::bytes_item_at))]
 fn read_bytes_item(alloc: Global, text: &[u8]) -> Result<(Vec<u8>, &[u8]), Fault>
     ensures { Gives (λ r. (r.0.items, words_of r.1.now)) result (bytes_item_at (words_of text.now)) }
 {
@@ -105,8 +105,8 @@ fn read_bytes_item(alloc: Global, text: &[u8]) -> Result<(Vec<u8>, &[u8]), Fault
     }
 }
 
-#[tactic(auto, unfolding(crate::specs::Items::item_at))]
 /// The item in front, and the text after its words.
+#[tactic(auto, unfolding(crate::specs::Items::item_at))]
 fn read_item(alloc: Global, text: &[u8]) -> Result<(Vec<u8>, &[u8]), Fault>
     ensures { Gives (λ r. (r.0.items, words_of r.1.now)) result (item_at (words_of text.now)) }
 {

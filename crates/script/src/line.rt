@@ -29,8 +29,8 @@ fn line_fault(line: &[u8], fault: Fault) -> LineFault
     }
 }
 
-#[tactic(auto, unfolding(crate::specs::Lines::exchange_at))]
 /// The call of a line and its answer.
+#[tactic(auto, unfolding(crate::specs::Lines::exchange_at))]
 fn read_words(alloc: Global, line: &[u8]) -> Result<Exchange, Fault>
     ensures { Gives (λ x. x) result (exchange_at (words_of line.now)) }
 {
@@ -39,8 +39,8 @@ fn read_words(alloc: Global, line: &[u8]) -> Result<Exchange, Fault>
     Ok(Exchange { call, reply })
 }
 
-#[tactic(auto, unfolding(crate::specs::Lines::request_at))]
 /// The call of a line that gives no answer.
+#[tactic(auto, unfolding(crate::specs::Lines::request_at))]
 fn read_request_words(alloc: Global, line: &[u8]) -> Result<Call, Fault>
     ensures { Gives (λ x. x) result (request_at (words_of line.now)) }
 {

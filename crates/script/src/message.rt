@@ -22,8 +22,8 @@ pub(crate) struct Rights {
     pub(crate) local: u32,
 }
 
-#[tactic(auto, unfolding(crate::specs::Messages::further_at))]
 /// The bits of a header that stand for nothing, or 0.
+#[tactic(auto, unfolding(crate::specs::Messages::further_at))]
 fn read_further(text: &[u8]) -> Result<(u32, &[u8]), Fault>
     ensures read { Gives (λ r. (r.0, words_of r.1.now)) result (further_at (words_of text.now)) }
     ensures small { IfOk result (λ r. r.0 < 0x8000) }
@@ -34,8 +34,8 @@ fn read_further(text: &[u8]) -> Result<(u32, &[u8]), Fault>
     }
 }
 
-#[tactic(auto, unfolding(crate::specs::Messages::local_at))]
 /// The right for the reply: its disposition and its name, or 0 and 0.
+#[tactic(auto, unfolding(crate::specs::Messages::local_at))]
 fn read_local(text: &[u8]) -> Result<(u32, u32, &[u8]), Fault>
     ensures read { Gives (λ r. (r.0, r.1, words_of r.2.now)) result (local_at (words_of text.now)) }
     ensures small { IfOk result (λ r. r.0 < 0x100) }
@@ -48,8 +48,8 @@ fn read_local(text: &[u8]) -> Result<(u32, u32, &[u8]), Fault>
     Ok((disposition, name, rest))
 }
 
-#[tactic(auto, unfolding(crate::specs::Messages::rights_at))]
 /// The rights of a header.
+#[tactic(auto, unfolding(crate::specs::Messages::rights_at))]
 fn read_rights(text: &[u8]) -> Result<(Rights, &[u8]), Fault>
     ensures read { Gives (λ r. (r.0, words_of r.1.now)) result (rights_at (words_of text.now)) }
     ensures small { IfOk result (λ r. (r.0.remote_disposition < 0x100) × (r.0.local_disposition < 0x100)) }
@@ -82,8 +82,8 @@ fn bits_of(rights: Rights, further: u32, complex: bool) -> u32
     if complex { bits + 0x8000_0000 } else { bits }
 }
 
-#[tactic(auto, unfolding(crate::specs::Messages::header_at))]
 /// The header of a message, and the text after its words.
+#[tactic(auto, unfolding(crate::specs::Messages::header_at))]
 fn read_header(text: &[u8]) -> Result<(Header, &[u8]), Fault>
     ensures { Gives (λ r. (r.0, words_of r.1.now)) result (header_at (words_of text.now)) }
 {
@@ -104,8 +104,8 @@ fn read_header(text: &[u8]) -> Result<(Header, &[u8]), Fault>
     Ok((header, rest))
 }
 
-#[tactic(auto, unfolding(crate::specs::Messages::header_encoding))]
 /// The bytes of a header with its body.
+#[tactic(auto, unfolding(crate::specs::Messages::header_encoding))]
 fn message_of(alloc: Global, header: &Header, body: &[u8]) -> Result<Vec<u8>, AllocError>
     ensures { IfOk result (λ message. message.items ≡ header_encoding header.now body.now) }
 {
@@ -120,8 +120,8 @@ fn message_of(alloc: Global, header: &Header, body: &[u8]) -> Result<Vec<u8>, Al
     Ok(message)
 }
 
-#[tactic(auto, unfolding(crate::specs::Messages::message_at))]
 /// The message in front, and the text after its words.
+#[tactic(auto, unfolding(crate::specs::Messages::message_at))]
 pub(crate) fn read_message(alloc: Global, text: &[u8]) -> Result<(Vec<u8>, &[u8]), Fault>
     ensures { Gives (λ r. (r.0.items, words_of r.1.now)) result (message_at (words_of text.now)) }
 {

@@ -200,8 +200,8 @@ fn plain_call(verb: Verb, arguments: Arguments) -> Option<Call>
     long_call(verb, arguments)
 }
 
-#[tactic(auto, unfolding(crate::specs::Plain::plain_at))]
 /// The call of a verb with the arguments in front of a text, for every call but `mach_msg`.
+#[tactic(auto, unfolding(crate::specs::Plain::plain_at))]
 pub(crate) fn read_plain(verb: Verb, text: &[u8]) -> Result<(Call, &[u8]), Fault>
     ensures { Gives (λ r. (r.0, words_of r.1.now)) result (plain_at verb (words_of text.now)) }
 {

@@ -16,8 +16,8 @@ use ipc_model::{NamedType, ReceiveStatus, Reply, RightKind, Sequence};
 use script_words::{Kind, code_of_word, take_word};
 use std::alloc::Global;
 
-#[tactic(auto, unfolding(crate::specs::Reading::last))]
 /// The same, if no word is left.
+#[tactic(auto, unfolding(crate::specs::Reading::last))]
 fn last<X: Drop>(found: X, text: &[u8]) -> Result<X, Fault>
     ensures { Gives (λ x. x) result (last (found, words_of text.now)) }
 {
@@ -66,8 +66,8 @@ fn read_kind(text: &[u8]) -> Result<(RightKind, &[u8]), Fault>
     }
 }
 
-#[tactic(auto, unfolding(crate::specs::Replies::counts_at))]
 /// The state of a port of which the last three answers are still to be read.
+#[tactic(auto, unfolding(crate::specs::Replies::counts_at))]
 fn read_counts(text: &[u8]) -> Result<(ReceiveStatus, &[u8]), Fault>
     ensures { Gives (λ r. (r.0, words_of r.1.now)) result (counts_at (words_of text.now)) }
 {
@@ -108,8 +108,8 @@ fn read_status(text: &[u8]) -> Result<(ReceiveStatus, &[u8]), Fault>
     Ok((status, rest))
 }
 
-#[tactic(auto, unfolding(crate::specs::Replies::named_at))]
 /// The name and the type in front, if a word is left, and the text after them.
+#[tactic(auto, unfolding(crate::specs::Replies::named_at))]
 fn read_named(text: &[u8]) -> Result<Option<(NamedType, &[u8])>, Fault>
     ensures { Gives (λ r. option_map (λ n. (n.0, words_of n.1.now)) r) result (named_at (words_of text.now)) }
 {
@@ -121,8 +121,8 @@ fn read_named(text: &[u8]) -> Result<Option<(NamedType, &[u8])>, Fault>
     Ok(Some((NamedType { name, bits }, rest)))
 }
 
-#[tactic(auto, unfolding(crate::specs::Replies::member_at))]
 /// The name in front, if a word is left, and the text after it.
+#[tactic(auto, unfolding(crate::specs::Replies::member_at))]
 fn read_member(text: &[u8]) -> Result<Option<(u32, &[u8])>, Fault>
     ensures { Gives (λ r. option_map (λ n. (n.0, words_of n.1.now)) r) result (member_at (words_of text.now)) }
 {
@@ -169,8 +169,8 @@ fn read_members(alloc: Global, text: &[u8]) -> Result<Sequence<u32>, Fault>
     }
 }
 
-#[tactic(auto, unfolding(crate::specs::Replies::received_at))]
 /// The message after its word, or no bytes.
+#[tactic(auto, unfolding(crate::specs::Replies::received_at))]
 fn read_received(alloc: Global, text: &[u8]) -> Result<(Vec<u8>, &[u8]), Fault>
     ensures { Gives (λ r. (r.0.items, words_of r.1.now)) result (received_at (words_of text.now)) }
 {
@@ -180,8 +180,8 @@ fn read_received(alloc: Global, text: &[u8]) -> Result<(Vec<u8>, &[u8]), Fault>
     }
 }
 
-#[tactic(auto, unfolding(crate::specs::Replies::message_reply_at))]
 /// The answer of a `mach_msg` with this code.
+#[tactic(auto, unfolding(crate::specs::Replies::message_reply_at))]
 fn read_message_reply(alloc: Global, code: KernReturn, text: &[u8]) -> Result<Reply, Fault>
     ensures { Gives (λ r. r) result (message_reply_at code (words_of text.now)) }
 {
@@ -216,8 +216,8 @@ fn read_space_created(text: &[u8]) -> Result<Reply, Fault>
     last(Reply::SpaceCreated { space, name }, rest)
 }
 
-#[tactic(auto, unfolding(crate::specs::Replies::last_value))]
 /// The one number that is left.
+#[tactic(auto, unfolding(crate::specs::Replies::last_value))]
 fn read_last(kind: Kind, text: &[u8]) -> Result<u32, Fault>
     ensures { Gives (λ r. r) result (last_value kind (words_of text.now)) }
 {
@@ -233,8 +233,8 @@ fn read_last_status(text: &[u8]) -> Result<Reply, Fault>
     last(Reply::ReceiveStatus { status }, rest)
 }
 
-#[tactic(auto, unfolding(crate::specs::Replies::results_at))]
 /// The results of a call with this number.
+#[tactic(auto, unfolding(crate::specs::Replies::results_at))]
 fn read_results(alloc: Global, number: u32, text: &[u8]) -> Result<Reply, Fault>
     ensures { Gives (λ r. r) result (results_at number (words_of text.now)) }
 {
@@ -290,8 +290,8 @@ fn may_tell(number: u32) -> bool
     )
 }
 
-#[tactic(auto, unfolding(crate::specs::Replies::silence))]
 /// The answer to the call with this number if the line gives none.
+#[tactic(auto, unfolding(crate::specs::Replies::silence))]
 fn read_silence(alloc: Global, number: u32, text: &[u8]) -> Result<Reply, Fault>
     ensures { Gives (λ r. r) result (silence number (words_of text.now)) }
 {
@@ -310,8 +310,8 @@ fn read_silence(alloc: Global, number: u32, text: &[u8]) -> Result<Reply, Fault>
     }
 }
 
-#[tactic(auto, unfolding(crate::specs::Replies::refusal_at))]
 /// How a call with this number was refused.
+#[tactic(auto, unfolding(crate::specs::Replies::refusal_at))]
 fn read_refusal(alloc: Global, number: u32, text: &[u8]) -> Result<Reply, Fault>
     ensures { Gives (λ r. r) result (refusal_at number (words_of text.now)) }
 {
@@ -327,8 +327,8 @@ fn read_refusal(alloc: Global, number: u32, text: &[u8]) -> Result<Reply, Fault>
     last(Reply::Refused { number, code }, rest)
 }
 
-#[tactic(auto, unfolding(crate::specs::Replies::reply_at))]
 /// The answer to the call with this number. The text is all that is left of the line.
+#[tactic(auto, unfolding(crate::specs::Replies::reply_at))]
 pub(crate) fn read_reply(alloc: Global, number: u32, text: &[u8]) -> Result<Reply, Fault>
     ensures { Gives (λ r. r) result (reply_at number (words_of text.now)) }
 {

@@ -5,8 +5,8 @@ ghost use Rattle.script.specs.Reading.{Gives, number_at, bounded_at, value_at, l
 use crate::fault::{Expected, Fault};
 use script_words::{Kind, take_word};
 
-#[tactic(auto, unfolding(crate::specs::Reading::number_at))]
 /// The number in front and the text after it, if there is one.
+#[tactic(auto, unfolding(crate::specs::Reading::number_at))]
 pub(crate) fn take_number(kind: Kind, text: &[u8]) -> Option<(u32, &[u8])>
     ensures { MatchOption result (number_at kind (words_of text.now) ≡ None)
         (λ r. number_at kind (words_of text.now) ≡ Some (r.0, words_of r.1.now)) }
@@ -19,8 +19,8 @@ pub(crate) fn take_number(kind: Kind, text: &[u8]) -> Option<(u32, &[u8])>
     Some((number, rest))
 }
 
-#[tactic(auto, unfolding(crate::specs::Reading::value_at))]
 /// The number in front, and the text after it.
+#[tactic(auto, unfolding(crate::specs::Reading::value_at))]
 pub(crate) fn read_value(kind: Kind, text: &[u8]) -> Result<(u32, &[u8]), Fault>
     ensures { Gives (λ r. (r.0, words_of r.1.now)) result (value_at kind (words_of text.now)) }
 {
@@ -30,8 +30,8 @@ pub(crate) fn read_value(kind: Kind, text: &[u8]) -> Result<(u32, &[u8]), Fault>
     }
 }
 
-#[tactic(auto, unfolding(crate::specs::Reading::bounded_at))]
 /// The number in front, which is below a bound, and the text after it.
+#[tactic(auto, unfolding(crate::specs::Reading::bounded_at))]
 pub(crate) fn read_bounded(
     expected: Expected,
     kind: Kind,
@@ -51,8 +51,8 @@ pub(crate) fn read_bounded(
     }
 }
 
-#[tactic(auto, unfolding(crate::specs::Reading::label_at))]
 /// The text after a word, if it is the first.
+#[tactic(auto, unfolding(crate::specs::Reading::label_at))]
 pub(crate) fn after_label<'a>(label: &[u8], text: &'a [u8]) -> Option<&'a [u8]>
     ensures { MatchOption result (label_at label.now (words_of text.now) ≡ None)
         (λ rest. label_at label.now (words_of text.now) ≡ Some (words_of rest.now)) }
@@ -61,8 +61,8 @@ pub(crate) fn after_label<'a>(label: &[u8], text: &'a [u8]) -> Option<&'a [u8]>
     if word == label { Some(rest) } else { None }
 }
 
-#[tactic(auto, unfolding(crate::specs::Reading::labelled_at))]
 /// The number after this word, which is the first.
+#[tactic(auto, unfolding(crate::specs::Reading::labelled_at))]
 pub(crate) fn read_labelled<'a>(
     label: &[u8],
     kind: Kind,
@@ -76,8 +76,8 @@ pub(crate) fn read_labelled<'a>(
     }
 }
 
-#[tactic(auto, unfolding(crate::specs::Reading::optional_at))]
 /// The number after this word if it is the first, else 0.
+#[tactic(auto, unfolding(crate::specs::Reading::optional_at))]
 pub(crate) fn read_optional<'a>(
     label: &[u8],
     kind: Kind,
@@ -91,8 +91,8 @@ pub(crate) fn read_optional<'a>(
     }
 }
 
-#[tactic(auto, unfolding(crate::specs::Reading::flag_at))]
 /// Whether this word is the first, and the text after it.
+#[tactic(auto, unfolding(crate::specs::Reading::flag_at))]
 pub(crate) fn read_flag<'a>(label: &[u8], text: &'a [u8]) -> (bool, &'a [u8])
     ensures { flag_at label.now (words_of text.now) ≡ (result.0, words_of result.1.now) }
 {

@@ -42,8 +42,8 @@ fn verb_of(call: &Call) -> Verb
     }
 }
 
-#[tactic(auto, using(script_words::proofs::WordsOf::spaced_laws))]
 /// Adds the words of a receive's arguments.
+#[tactic(auto, using(script_words::proofs::WordsOf::spaced_laws))]
 fn push_receive(
     line: &mut Vec<u8>,
     limit: u32,
@@ -59,8 +59,8 @@ fn push_receive(
     push_flag(line, b"waited", waited)
 }
 
-#[tactic(auto, using(script_words::proofs::WordsOf::spaced_laws))]
 /// Adds the words of the arguments of a request for a notification.
+#[tactic(auto, using(script_words::proofs::WordsOf::spaced_laws))]
 fn push_notification(
     line: &mut Vec<u8>,
     name: u32,
@@ -93,8 +93,8 @@ fn push_name_and(line: &mut Vec<u8>, name: u32, kind: Kind, number: u32) -> Resu
     push_two(line, (Kind::Hexadecimal, name), (kind, number))
 }
 
-#[tactic(auto, using(script_words::proofs::WordsOf::spaced_laws))]
 /// Adds the words of the arguments of a call that has two, a name first.
+#[tactic(auto, using(script_words::proofs::WordsOf::spaced_laws))]
 fn push_pair(line: &mut Vec<u8>, call: &Call) -> Result<(), AllocError>
     ensures { OnOk result (line.new.items ≡ line.old.items ++ spaced (pair_words call.now)) }
 {
@@ -114,8 +114,8 @@ fn push_pair(line: &mut Vec<u8>, call: &Call) -> Result<(), AllocError>
     }
 }
 
-#[tactic(auto, using(script_words::proofs::WordsOf::spaced_laws))]
 /// Adds the words of the arguments of an insertion of a right.
+#[tactic(auto, using(script_words::proofs::WordsOf::spaced_laws))]
 fn push_insertion(
     line: &mut Vec<u8>,
     name: u32,
@@ -129,8 +129,8 @@ fn push_insertion(
     push_value(line, Kind::Disposition, disposition)
 }
 
-#[tactic(auto, using(script_words::proofs::WordsOf::spaced_laws))]
 /// Adds the words of a call's arguments.
+#[tactic(auto, using(script_words::proofs::WordsOf::spaced_laws))]
 fn push_arguments(line: &mut Vec<u8>, call: &Call) -> Result<(), AllocError>
     ensures { OnOk result (line.new.items ≡ line.old.items ++ spaced (argument_words call.now)) }
 {
@@ -173,8 +173,8 @@ fn push_arguments(line: &mut Vec<u8>, call: &Call) -> Result<(), AllocError>
     }
 }
 
-#[tactic(auto, using(script_words::proofs::WordsOf::spaced_laws))]
 /// Adds the words of a call, the first without a space in front.
+#[tactic(auto, using(script_words::proofs::WordsOf::spaced_laws))]
 pub(crate) fn push_call_words(line: &mut Vec<u8>, call: &Call) -> Result<(), AllocError>
     ensures { OnOk result (line.new.items ≡ (line.old.items ++ verb_word (verb_of call.now))
         ++ spaced (argument_words call.now)) }

@@ -30,8 +30,8 @@ fn element_kind(type_name: u32) -> Kind
     }
 }
 
-#[tactic(auto, unfolding(crate::specs::Items::word_front))]
 /// The number in the first four bytes, and the bytes after it.
+#[tactic(auto, unfolding(crate::specs::Items::word_front))]
 fn word_front(bytes: &[u8]) -> Option<(u32, &[u8])>
     ensures { MatchOption result (word_front bytes.now ≡ None) (λ r. word_front bytes.now ≡ Some (r.0, r.1.now)) }
 {
@@ -42,8 +42,8 @@ fn word_front(bytes: &[u8]) -> Option<(u32, &[u8])>
     Some((LittleEndian::read_u32(bytes), beyond))
 }
 
-#[tactic(auto, unfolding(crate::specs::Items::split_front))]
 /// The first `count` bytes and those after them, if there are that many.
+#[tactic(auto, unfolding(crate::specs::Items::split_front))]
 fn split_front(bytes: &[u8], count: usize) -> Option<(&[u8], &[u8])>
     ensures { MatchOption result (split_front count bytes.now ≡ None)
         (λ r. split_front count bytes.now ≡ Some (r.0.now, r.1.now)) }
@@ -54,8 +54,8 @@ fn split_front(bytes: &[u8], count: usize) -> Option<(&[u8], &[u8])>
     Some(bytes.split_at(count))
 }
 
-#[tactic(auto, unfolding(crate::specs::Items::words_front))]
 /// The item of words that a body begins with: its type, their bytes, and the bytes after it.
+#[tactic(auto, unfolding(crate::specs::Items::words_front))]
 fn words_front(body: &[u8]) -> Option<(u32, &[u8], &[u8])>
     ensures { MatchOption result (words_front body.now ≡ None)
         (λ r. words_front body.now ≡ Some (r.0, r.1.now, r.2.now)) }
@@ -70,8 +70,8 @@ fn words_front(body: &[u8]) -> Option<(u32, &[u8], &[u8])>
     Some((type_name, content, beyond))
 }
 
-#[tactic(auto, unfolding(crate::specs::Items::bytes_front))]
 /// The item of bytes that a body begins with: its bytes, and the bytes after it.
+#[tactic(auto, unfolding(crate::specs::Items::bytes_front))]
 fn bytes_front(body: &[u8]) -> Option<(&[u8], &[u8])>
     ensures { MatchOption result (bytes_front body.now ≡ None) (λ r. bytes_front body.now ≡ Some (r.0.now, r.1.now)) }
 {
@@ -90,8 +90,8 @@ fn bytes_front(body: &[u8]) -> Option<(&[u8], &[u8])>
     }
 }
 
-#[tactic(auto, using(script_words::proofs::WordsOf::spaced_laws))]
 /// Adds the numbers in bytes, four bytes each.
+#[tactic(auto, using(script_words::proofs::WordsOf::spaced_laws))]
 fn push_numbers(line: &mut Vec<u8>, kind: Kind, bytes: &[u8]) -> Result<(), AllocError>
     ensures { OnOk result (line.new.items ≡ line.old.items ++ spaced (map (value_word kind) (numbers_in bytes.now))) }
 {
@@ -103,8 +103,8 @@ fn push_numbers(line: &mut Vec<u8>, kind: Kind, bytes: &[u8]) -> Result<(), Allo
     Ok(())
 }
 
-#[tactic(auto, using(script_words::proofs::WordsOf::spaced_laws), unfolding(crate::specs::Items::words_item_words))]
 /// Adds an item of words, which have these bytes.
+#[tactic(auto, using(script_words::proofs::WordsOf::spaced_laws), unfolding(crate::specs::Items::words_item_words))]
 fn push_words_item(line: &mut Vec<u8>, type_name: u32, bytes: &[u8]) -> Result<(), AllocError>
     ensures { OnOk result (line.new.items ≡ line.old.items
         ++ spaced (words_item_words type_name (numbers_in bytes.now))) }
@@ -114,8 +114,8 @@ fn push_words_item(line: &mut Vec<u8>, type_name: u32, bytes: &[u8]) -> Result<(
     push_numbers(line, element_kind(type_name), bytes)
 }
 
-#[tactic(auto, using(script_words::proofs::WordsOf::spaced_laws), unfolding(crate::specs::Items::bytes_item_words))]
 /// Adds an item of bytes.
+#[tactic(auto, using(script_words::proofs::WordsOf::spaced_laws), unfolding(crate::specs::Items::bytes_item_words))]
 fn push_bytes_item(line: &mut Vec<u8>, bytes: &[u8]) -> Result<(), AllocError>
     ensures { OnOk result (line.new.items ≡ line.old.items ++ spaced (bytes_item_words bytes.now)) }
 {
@@ -124,8 +124,8 @@ fn push_bytes_item(line: &mut Vec<u8>, bytes: &[u8]) -> Result<(), AllocError>
     push_bytes(line, bytes)
 }
 
-#[tactic(auto, unfolding(crate::specs::Items::item_front))]
 /// Adds the item that a body begins with, if it has a written form, and returns the bytes after it.
+#[tactic(auto, unfolding(crate::specs::Items::item_front))]
 fn push_item<'a>(line: &mut Vec<u8>, body: &'a [u8]) -> Result<Option<&'a [u8]>, AllocError>
     ensures { IfOk result (λ reported. AddsItem line.old.items line.new.items
         (option_map (λ beyond. beyond.now) reported)

@@ -37,8 +37,8 @@ fn header_of(message: &[u8]) -> Header
     }
 }
 
-#[tactic(auto, using(script_words::proofs::WordsOf::spaced_laws))]
 /// Adds the words of a message that has a whole header.
+#[tactic(auto, using(script_words::proofs::WordsOf::spaced_laws))]
 fn push_whole(line: &mut Vec<u8>, message: &[u8]) -> Result<(), AllocError>
     requires { 24 ≤ length message.now }
     ensures { OnOk result (line.new.items ≡ line.old.items
@@ -49,8 +49,8 @@ fn push_whole(line: &mut Vec<u8>, message: &[u8]) -> Result<(), AllocError>
     push_body(line, &message[HEADER_LENGTH..])
 }
 
-#[tactic(auto, using(script_words::proofs::WordsOf::spaced_laws))]
 /// Adds all bytes of a message.
+#[tactic(auto, using(script_words::proofs::WordsOf::spaced_laws))]
 fn push_short(line: &mut Vec<u8>, message: &[u8]) -> Result<(), AllocError>
     ensures { OnOk result (line.new.items ≡ line.old.items ++ spaced (codes "bytes" ∷ bytes_word message.now ∷ [])) }
 {
@@ -58,8 +58,8 @@ fn push_short(line: &mut Vec<u8>, message: &[u8]) -> Result<(), AllocError>
     push_bytes(line, message)
 }
 
-#[tactic(auto, unfolding(crate::specs::Messages::message_words))]
 /// Adds the words of a message. If an allocation fails, some may have been added.
+#[tactic(auto, unfolding(crate::specs::Messages::message_words))]
 pub(crate) fn push_message(line: &mut Vec<u8>, message: &[u8]) -> Result<(), AllocError>
     ensures { OnOk result (line.new.items ≡ line.old.items ++ spaced (message_words message.now)) }
 {
@@ -70,8 +70,8 @@ pub(crate) fn push_message(line: &mut Vec<u8>, message: &[u8]) -> Result<(), All
     }
 }
 
-#[tactic(auto, using(script_words::proofs::WordsOf::spaced_laws), unfolding(crate::specs::Messages::header_words))]
 /// Adds the words of a header.
+#[tactic(auto, using(script_words::proofs::WordsOf::spaced_laws), unfolding(crate::specs::Messages::header_words))]
 fn push_header(line: &mut Vec<u8>, header: &Header) -> Result<(), AllocError>
     ensures { OnOk result (line.new.items ≡ line.old.items ++ spaced (header_words header.now)) }
 {
@@ -101,8 +101,8 @@ fn push_local(line: &mut Vec<u8>, disposition: u32, name: u32) -> Result<(), All
     )
 }
 
-#[tactic(auto, using(script_words::proofs::WordsOf::spaced_laws))]
 /// Adds a number after a word.
+#[tactic(auto, using(script_words::proofs::WordsOf::spaced_laws))]
 pub(crate) fn push_labelled(
     line: &mut Vec<u8>,
     label: &[u8],
@@ -115,8 +115,8 @@ pub(crate) fn push_labelled(
     push_value(line, kind, number)
 }
 
-#[tactic(auto, using(script_words::proofs::WordsOf::spaced_laws), unfolding(crate::specs::Messages::optional_words))]
 /// Adds a number after a word, if it isn't 0.
+#[tactic(auto, using(script_words::proofs::WordsOf::spaced_laws), unfolding(crate::specs::Messages::optional_words))]
 pub(crate) fn push_optional(
     line: &mut Vec<u8>,
     label: &[u8],
@@ -131,8 +131,8 @@ pub(crate) fn push_optional(
     push_labelled(line, label, kind, number)
 }
 
-#[tactic(auto, using(script_words::proofs::WordsOf::spaced_laws), unfolding(crate::specs::Messages::flag_words))]
 /// Adds a word, if this holds.
+#[tactic(auto, using(script_words::proofs::WordsOf::spaced_laws), unfolding(crate::specs::Messages::flag_words))]
 pub(crate) fn push_flag(line: &mut Vec<u8>, label: &[u8], holds: bool) -> Result<(), AllocError>
     ensures { OnOk result (line.new.items ≡ line.old.items ++ spaced (flag_words label.now holds)) }
 {

@@ -34,8 +34,8 @@ fn push_answer(line: &mut Vec<u8>, label: &[u8], holds: bool) -> Result<(), Allo
     push_spaced(line, yes_or_no(holds))
 }
 
-#[tactic(auto, using(script_words::proofs::WordsOf::spaced_laws))]
 /// Adds what a port's state says of its right.
+#[tactic(auto, using(script_words::proofs::WordsOf::spaced_laws))]
 fn push_place(line: &mut Vec<u8>, status: &ReceiveStatus) -> Result<(), AllocError>
     ensures { OnOk result (line.new.items ≡ line.old.items ++ spaced (place_words status.now)) }
 {
@@ -44,8 +44,8 @@ fn push_place(line: &mut Vec<u8>, status: &ReceiveStatus) -> Result<(), AllocErr
     push_labelled(line, b"mscount", Kind::Decimal, status.make_send_count)
 }
 
-#[tactic(auto, using(script_words::proofs::WordsOf::spaced_laws))]
 /// Adds what a port's state says of its queue.
+#[tactic(auto, using(script_words::proofs::WordsOf::spaced_laws))]
 fn push_queue(line: &mut Vec<u8>, status: &ReceiveStatus) -> Result<(), AllocError>
     ensures { OnOk result (line.new.items ≡ line.old.items ++ spaced (queue_words status.now)) }
 {
@@ -54,8 +54,8 @@ fn push_queue(line: &mut Vec<u8>, status: &ReceiveStatus) -> Result<(), AllocErr
     push_labelled(line, b"send_once", Kind::Decimal, status.send_once_count)
 }
 
-#[tactic(auto, using(script_words::proofs::WordsOf::spaced_laws))]
 /// Adds what a port's state says of its other rights.
+#[tactic(auto, using(script_words::proofs::WordsOf::spaced_laws))]
 fn push_answers(line: &mut Vec<u8>, status: &ReceiveStatus) -> Result<(), AllocError>
     ensures { OnOk result (line.new.items ≡ line.old.items ++ spaced (answers_words status.now)) }
 {
@@ -64,8 +64,8 @@ fn push_answers(line: &mut Vec<u8>, status: &ReceiveStatus) -> Result<(), AllocE
     push_answer(line, b"no_senders", status.has_no_senders_request)
 }
 
-#[tactic(auto, using(script_words::proofs::WordsOf::spaced_laws), unfolding(crate::specs::Replies::status_words, crate::specs::Replies::count_words))]
 /// Adds the state of a port.
+#[tactic(auto, using(script_words::proofs::WordsOf::spaced_laws), unfolding(crate::specs::Replies::status_words, crate::specs::Replies::count_words))]
 fn push_status(line: &mut Vec<u8>, status: &ReceiveStatus) -> Result<(), AllocError>
     ensures { OnOk result (line.new.items ≡ line.old.items ++ spaced (status_words status.now)) }
 {
@@ -74,8 +74,8 @@ fn push_status(line: &mut Vec<u8>, status: &ReceiveStatus) -> Result<(), AllocEr
     push_answers(line, status)
 }
 
-#[tactic(auto, using(script_words::proofs::WordsOf::spaced_laws), unfolding(crate::specs::Replies::names_words))]
 /// Adds names, each with its type.
+#[tactic(auto, using(script_words::proofs::WordsOf::spaced_laws), unfolding(crate::specs::Replies::names_words))]
 fn push_names(line: &mut Vec<u8>, names: &[NamedType]) -> Result<(), AllocError>
     ensures { OnOk result (line.new.items ≡ line.old.items ++ spaced (names_words names.now)) }
 {
@@ -91,8 +91,8 @@ fn push_names(line: &mut Vec<u8>, names: &[NamedType]) -> Result<(), AllocError>
     Ok(())
 }
 
-#[tactic(auto, using(script_words::proofs::WordsOf::spaced_laws), unfolding(crate::specs::Replies::members_words))]
 /// Adds names.
+#[tactic(auto, using(script_words::proofs::WordsOf::spaced_laws), unfolding(crate::specs::Replies::members_words))]
 fn push_members(line: &mut Vec<u8>, members: &[u32]) -> Result<(), AllocError>
     ensures { OnOk result (line.new.items ≡ line.old.items ++ spaced (members_words members.now)) }
 {
@@ -104,8 +104,8 @@ fn push_members(line: &mut Vec<u8>, members: &[u32]) -> Result<(), AllocError>
     Ok(())
 }
 
-#[tactic(auto, using(script_words::proofs::WordsOf::spaced_laws), unfolding(crate::specs::Replies::outcome_words))]
 /// Adds how a `mach_msg` went.
+#[tactic(auto, using(script_words::proofs::WordsOf::spaced_laws), unfolding(crate::specs::Replies::outcome_words))]
 fn push_outcome(line: &mut Vec<u8>, code: KernReturn, silent: bool) -> Result<(), AllocError>
     ensures { OnOk result (line.new.items ≡ line.old.items ++ spaced (outcome_words code silent)) }
 {
@@ -120,8 +120,8 @@ fn push_outcome(line: &mut Vec<u8>, code: KernReturn, silent: bool) -> Result<()
     }
 }
 
-#[tactic(auto, using(script_words::proofs::WordsOf::spaced_laws), unfolding(crate::specs::Replies::message_reply_words, crate::specs::Replies::received_words))]
 /// Adds the answer of a `mach_msg`.
+#[tactic(auto, using(script_words::proofs::WordsOf::spaced_laws), unfolding(crate::specs::Replies::message_reply_words, crate::specs::Replies::received_words))]
 fn push_message_reply(
     line: &mut Vec<u8>,
     code: KernReturn,
@@ -142,8 +142,8 @@ fn push_message_reply(
     push_message(line, message)
 }
 
-#[tactic(auto, using(script_words::proofs::WordsOf::spaced_laws))]
 /// Adds the results of a call that was done and has some.
+#[tactic(auto, using(script_words::proofs::WordsOf::spaced_laws))]
 fn push_results(line: &mut Vec<u8>, reply: &Reply) -> Result<(), AllocError>
     ensures { OnOk result (line.new.items ≡ line.old.items ++ spaced (codes "=" ∷ result_words reply.now)) }
 {
@@ -169,8 +169,8 @@ fn push_results(line: &mut Vec<u8>, reply: &Reply) -> Result<(), AllocError>
     }
 }
 
-#[tactic(auto, using(script_words::proofs::WordsOf::spaced_laws))]
 /// Adds the words of a reply, each with a space in front.
+#[tactic(auto, using(script_words::proofs::WordsOf::spaced_laws))]
 pub(crate) fn push_reply_words(line: &mut Vec<u8>, reply: &Reply) -> Result<(), AllocError>
     ensures { OnOk result (line.new.items ≡ line.old.items ++ spaced (reply_words reply.now)) }
 {

@@ -67,8 +67,8 @@ impl Kind {
             .find(|number| self.is_name(*number, word))
     }
 
-    #[tactic(auto, unfolding(crate::specs::Kinds::read_word))]
     /// The number that a word stands for or writes out.
+    #[tactic(auto, unfolding(crate::specs::Kinds::read_word))]
     pub fn read_word(self, word: &[u8]) -> Option<u32>
         ensures { result ≡ read_word self word.now }
     {
@@ -157,8 +157,8 @@ fn signed_text(alloc: Global, number: u32) -> Result<String, AllocError>
     format!(in alloc; "-{below}")
 }
 
-#[tactic(auto, unfolding(crate::specs::Kinds::value_word))]
 /// Adds a number as a word, with a space in front. If an allocation fails, some of it may have been added.
+#[tactic(auto, unfolding(crate::specs::Kinds::value_word))]
 pub fn push_value(line: &mut Vec<u8>, kind: Kind, number: u32) -> Result<(), AllocError>
     ensures { OnOk result (line.new.items ≡ line.old.items ++ spaced (value_word kind number ∷ [])) }
 {

@@ -33,8 +33,8 @@ pub fn take_word(text: &[u8]) -> Option<(&[u8], &[u8])>
     Some(text.split_at(count))
 }
 
-#[tactic(auto, using(crate::proofs::WordsOf::spaced_one))]
 /// Adds a word, with a space in front. If an allocation fails, the space may have been added.
+#[tactic(auto, using(crate::proofs::WordsOf::spaced_one))]
 pub fn push_spaced(line: &mut Vec<u8>, word: &[u8]) -> Result<(), AllocError>
     ensures { OnOk result (line.new.items ≡ line.old.items ++ spaced (word.now ∷ [])) }
 {

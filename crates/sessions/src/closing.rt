@@ -14,8 +14,8 @@ use disk::Disk;
 use kernel_keeper::{Admissions, Founding, KernelKeeper, Past, Session};
 use store_keeper::StoreKeeper;
 
-/// What is left once both halves are closed: the disk, how many records of the history are stored there, and the history
-/// itself, with the entry blocks that are left of it.
+/// What is left once both halves are closed: the disk, how many records of the history are stored there, and the
+/// history itself, with the entry blocks that are left of it.
 #[derive(Drop)]
 pub struct Book<L: Founding, D: Disk> {
     pub disk: D,

@@ -64,8 +64,8 @@ pub struct Shared<L: Founding, D: Disk, G> {
 
 impl<L: Founding, D: Disk, G: Drop> Shared<L, D, G> {
     /// Shares an opened store. The history begins in its state, with this entry block; this book counts its records
-    /// (`Admissions::open`), and this mark those of them that are stored (`NewMark::named`). If an allocation fails, the disk
-    /// comes back.
+    /// (`Admissions::open`), and this mark those of them that are stored (`NewMark::named`). If an allocation fails,
+    /// the disk comes back.
     pub fn new(
         alloc: Global,
         opened: Opened<D>,

@@ -14,8 +14,8 @@ fn push_decimal(out: &mut Vec<u8>, number: u64) -> Result<(), AllocError>
     out.extend_from_slice(text.as_bytes())
 }
 
-#[tactic(auto, unfolding(crate::specs::Telling::place_encoding))]
 /// Adds the beginning of a comment on a line.
+#[tactic(auto, unfolding(crate::specs::Telling::place_encoding))]
 fn push_place(out: &mut Vec<u8>, number: u64) -> Result<(), AllocError>
     ensures { OnOk result (out.new.items ≡ out.old.items ++ place_encoding number) }
 {
@@ -64,8 +64,8 @@ fn expected_words(expected: Expected) -> &'static [u8]
     }
 }
 
-#[tactic(auto, unfolding(crate::specs::Telling::column_encoding))]
 /// Adds a column.
+#[tactic(auto, unfolding(crate::specs::Telling::column_encoding))]
 fn push_column(out: &mut Vec<u8>, column: usize) -> Result<(), AllocError>
     ensures { OnOk result (out.new.items ≡ out.old.items ++ column_encoding column) }
 {
@@ -73,8 +73,8 @@ fn push_column(out: &mut Vec<u8>, column: usize) -> Result<(), AllocError>
     push_decimal(out, column as u64)
 }
 
-#[tactic(auto, unfolding(crate::specs::Telling::expected_text))]
 /// Adds what was expected, and the end of the line.
+#[tactic(auto, unfolding(crate::specs::Telling::expected_text))]
 fn push_expected(out: &mut Vec<u8>, expected: Expected) -> Result<(), AllocError>
     ensures { OnOk result (out.new.items ≡ out.old.items ++ expected_text expected) }
 {
@@ -109,8 +109,8 @@ pub fn push_strange(out: &mut Vec<u8>, number: u64) -> Result<(), AllocError>
     push_comment(out, number, b": a reply that isn't one of this call\n")
 }
 
-#[tactic(auto, unfolding(crate::specs::Telling::answered_line))]
 /// Adds the line of a call and its answer. An `Err` may have added some of it.
+#[tactic(auto, unfolding(crate::specs::Telling::answered_line))]
 pub fn push_answered(out: &mut Vec<u8>, call: &Call, reply: &Reply) -> Result<(), AllocError>
     ensures { OnOk result (out.new.items ≡ out.old.items ++ answered_line call.now reply.now) }
 {
@@ -119,8 +119,8 @@ pub fn push_answered(out: &mut Vec<u8>, call: &Call, reply: &Reply) -> Result<()
     out.extend_from_slice(b"\n")
 }
 
-#[tactic(auto, unfolding(crate::specs::Telling::expected_place))]
 /// Adds the beginning of the comment on a line that gives another answer.
+#[tactic(auto, unfolding(crate::specs::Telling::expected_place))]
 fn push_expected_place(out: &mut Vec<u8>, number: u64) -> Result<(), AllocError>
     ensures { OnOk result (out.new.items ≡ out.old.items ++ expected_place number) }
 {

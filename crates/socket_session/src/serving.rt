@@ -18,8 +18,9 @@ pub trait Connection {
     fn peer(&self, session: u32) -> Self::Peer;
 }
 
-/// Serves a connection to its end, as one new session, by this admission, of a shared store: of a task that is attached to space 1. It
-/// makes no calls but those of the frames that it reads, and writes nothing but their replies, in their order.
+/// Serves a connection to its end, as one new session, by this admission, of a shared store: of a task that is attached
+/// to space 1. It makes no calls but those of the frames that it reads, and writes nothing but their replies, in their
+/// order.
 pub fn serve_connection<
     L: Founding,
     D: Disk,

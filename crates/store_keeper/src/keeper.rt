@@ -61,8 +61,8 @@ impl<L: Founding, D: Disk> Model for StoreKeeper<L, D> {
 }
 
 impl<L: Founding, D: Disk> StoreKeeper<L, D> {
-    /// Continues from the disk of an opened store and its segment in use, with the history that begins here, and the right
-    /// to count what is stored of it.
+    /// Continues from the disk of an opened store and its segment in use, with the history that begins here, and the
+    /// right to count what is stored of it.
     pub fn new(disk: D, segment: Segment, past: Past<L>, stored: Storing<L>) -> Self
         requires none { past.entries ≡ [] }
         requires none_stored { stored ≡ 0 }
@@ -180,8 +180,8 @@ impl<L: Founding, D: Disk> StoreKeeper<L, D> {
         self.past.catch_up(past).is_ok()
     }
 
-    /// Stores a load, if it is the next one and its segment is in use: all of it or nothing. At `Ok` it is on the disk, and
-    /// what comes with its receipt knows for good how many records are stored. Else it comes back.
+    /// Stores a load, if it is the next one and its segment is in use: all of it or nothing. At `Ok` it is on the disk,
+    /// and what comes with its receipt knows for good how many records are stored. Else it comes back.
     ///
     /// With `Store(Device)` it isn't known whether it is stored until the store is opened again; from then on
     /// `Store(Failed)` is the only answer. `Store(Full)`, `NotNow`, `NoMemory`: nothing was written.

@@ -2,8 +2,9 @@
 use Rattle.std.proofs.Common.{◌≡◌, ◌≢◌, ◌⊎◌, inl, inr, ℕ, ◌+◌, ◌-◌, ◌<◌, ◌≤◌, List, [], ◌∷◌, ◌++◌, length, take, refl, sym, ap, subst, ◌∙◌, arith, append_assoc, length-append}
 use Rattle.std.proofs.lemmas.Bool.{cases_eq}
 use Rattle.std.proofs.lemmas.List.{take_at}
+use Rattle.codes.specs.StoreVersion.{current}
 use Rattle.codes.specs.declared.limits.TheConstants.{MAX_RECORDS}
-use Rattle.ipc_laws.specs.StoreLaws.{all_records-push, are_records-join, batches_encoding-push, in_use_encodes, none_empty-push, other_end}
+use Rattle.ipc_laws.specs.StoreLaws.{all_records-push, all_within, are_records-join, batches_encoding-push, in_use_encodes, none_empty-push, other_end}
 use Rattle.ipc_model.specs.declared.record.Record.{Record}
 use Rattle.ipc_model.specs.store.Store.{AreRecords, IsClosed, IsInUse, IsMidAppend, EncodesBatches, EncodesSegment, batch_encoding, batches_encoding, closed_gate, open_gate, segment_header, with_batch}
 
@@ -58,6 +59,7 @@ tail_encodes e old new records used tail is =
     let header = segment_header open_gate e in
     let front = batches_encoding 0 used.encoded.batches in
     record {
+      version = current;
       content = front ++ (used.encoded.rest ++ tail);
       encoding =
           is ∙ ap (λ l. l ++ tail) (used.encoding ∙ ap (λ l. header ++ l) used.encoded.encoding)
@@ -66,15 +68,20 @@ tail_encodes e old new records used tail is =
       encoded =
           other_end used.content records used.encoded (used.encoded.rest ++ tail)
           (closed_on used.encoded.rest tail used.ended used.encoded.closed);
+      within = used.within;
+      next = used.next;
     }
 
 closed_encodes : (e : ℕ) (old new : List ℕ) (records : List Record) → IsInUse e old records
     → (gate : ℕ) (beyond : List ℕ) → gate ≢ open_gate → new ≡ take (length old - 1) old ++ (gate ∷ beyond)
     → EncodesSegment e new records
 closed_encodes e old new records used gate beyond closed is = record {
+  version = current;
   content = batches_encoding 0 used.encoded.batches ++ (gate ∷ beyond);
   encoding = other_gate e old new records used (gate ∷ beyond) is;
   encoded = other_end used.content records used.encoded (gate ∷ beyond) closed;
+  within = used.within;
+  next = used.next;
 }
 
 pub in_use_with : (e : ℕ) (old : List ℕ) (records batch : List Record) → IsInUse e old records → AreRecords batch
@@ -88,6 +95,8 @@ in_use_with e old records batch used are some room =
       content = batches_encoding 0 used.encoded.batches ++ beyond;
       encoding = other_gate e old (with_batch old encoding) records used beyond refl;
       encoded = batch_more used.content records used.encoded batch (closed_gate ∷ []) are some room (omega arith);
+      within = all_within (records ++ batch);
+      next = tt;
       ended = refl;
     }
 

@@ -88,6 +88,7 @@ two_finished s e base mid first next x old image =
     let former = image_header_is e (slot_of s (image_slot e)) base fits old.image in
     let is_former : IsOfEpoch ((e + 1 + 1) % 2) e (slot_of s (image_slot e)) =
     record {
+      version = former.version;
       rest = former.rest;
       encoding = former.encoding;
       fits = former.fits;
@@ -105,6 +106,7 @@ two_finished s e base mid first next x old image =
             e,
             omega arith,
             record {
+              version = old.segment.version;
               rest = old.segment.content;
               encoding = old.segment.encoding;
               fits = fits;

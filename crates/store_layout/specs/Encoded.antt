@@ -16,11 +16,23 @@ use Rattle.store_layout.specs.Slots.{image_at, segment_at, one_of_two}
 pub segment_header_is : (e : ℕ) (slot : List ℕ) (records : List Record) → e < 2 ^ 64 → EncodesSegment e slot records
     → IsOfEpoch (e % 2) e slot
 segment_header_is e slot records fits encoded =
-    record { rest = encoded.content; encoding = encoded.encoding; fits = fits; of_number = refl }
+    record {
+      version = encoded.version;
+      rest = encoded.content;
+      encoding = encoded.encoding;
+      fits = fits;
+      of_number = refl;
+    }
 
 with_number : (m n e : ℕ) (slot : List ℕ) → n ≡ m → IsOfEpoch m e slot → IsOfEpoch n e slot
 with_number m n e slot same is =
-    record { rest = is.rest; encoding = is.encoding; fits = is.fits; of_number = is.of_number ∙ sym same }
+    record {
+      version = is.version;
+      rest = is.rest;
+      encoding = is.encoding;
+      fits = is.fits;
+      of_number = is.of_number ∙ sym same;
+    }
 
 -- What is known of all slots together: the image of an epoch and its segment are open, and the other image is passed
 -- over.

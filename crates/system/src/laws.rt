@@ -7,9 +7,9 @@ ghost use Rattle.system.specs.Core.{Stands, StandsFrom};
 
 use disk::Disk;
 
-/// Any number of crashes in a row lose nothing that was acknowledged. What a crash leaves of a core stands for the state
-/// after the first calls of a world (`System::step`, `System::run`); after crashes in the openings that follow, so does
-/// what each leaves, of as many calls.
+/// Any number of crashes in a row lose nothing that was acknowledged. What a crash leaves of a core stands for the
+/// state after the first calls of a world (`System::step`, `System::run`); after crashes in the openings that follow,
+/// so does what each leaves, of as many calls.
 pub fn crashes_keep_calls<D: Disk>()
     ensures calls { D.honest → (base : State) → (world : World) → (k : ℕ) → CrashesKeep D.view (Stands base world k) }
     ensures least { D.honest → (base : State) → (least : ℕ) → (world : World)

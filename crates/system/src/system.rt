@@ -149,9 +149,9 @@ impl<D: Disk> System<D> {
         }
     }
 
-    /// The disk of the store, which is closed. What isn't stored is lost. What its slots hold, also after a fault of the
-    /// device, stands for the state after a prefix of the calls that were applied, no fewer than were acknowledged: an
-    /// opening finds just that.
+    /// The disk of the store, which is closed. What isn't stored is lost. What its slots hold, also after a fault of
+    /// the device, stands for the state after a prefix of the calls that were applied, no fewer than were acknowledged:
+    /// an opening finds just that.
     pub fn into_disk(self) -> D
         ensures disk { result ≡ self.store.disk }
         ensures reopens { D.honest → (base : State) (world : World) → StandsFor D.honest D.view base world self

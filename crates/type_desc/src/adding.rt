@@ -21,8 +21,8 @@ fn push_half(out: &mut Vec<u8>, value: u16) -> Result<(), AllocError>
     out.extend_from_slice(&encoding)
 }
 
-#[tactic(auto, using(crate::specs::Adding::keeps_added))]
 /// Adds numbers, four bytes each. If an allocation fails, some of them may have been added.
+#[tactic(auto, using(crate::specs::Adding::keeps_added))]
 pub(crate) fn add_words(out: &mut Vec<u8>, numbers: &[u32]) -> Result<(), AllocError>
     ensures ok { OnOk result (out.new.items ≡ out.old.items ++ flat_map word numbers.now) }
     ensures part { OnErr result (Keeps out.old.items out.new.items) }
@@ -90,8 +90,8 @@ fn short_word(type_name: u16, bits: u16, number: u32) -> u32
     u32::from(type_name) + u32::from(bits) * 0x100 + number * 0x1_0000 + INLINE_BIT
 }
 
-#[tactic(auto, using(crate::specs::Adding::keeps_added))]
 /// Adds a long descriptor. If an allocation fails, a part of it may have been added.
+#[tactic(auto, using(crate::specs::Adding::keeps_added))]
 fn add_long_descriptor(
     out: &mut Vec<u8>,
     type_name: u16,
@@ -110,8 +110,8 @@ fn add_long_descriptor(
 }
 
 impl Item<'_> {
-    #[tactic(auto, using(crate::specs::Adding::keeps_added))]
     /// Adds its descriptor with another type. If an allocation fails, a part of it may have been added.
+    #[tactic(auto, using(crate::specs::Adding::keeps_added))]
     pub(crate) fn add_descriptor(&self, type_name: u16, out: &mut Vec<u8>) -> Result<(), AllocError>
         requires { FitsShort self.now.is_long type_name }
         ensures ok { OnOk result (out.new.items ≡ out.old.items ++ descriptor_with (item_value self.now) type_name) }

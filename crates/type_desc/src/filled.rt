@@ -20,8 +20,8 @@ impl Item<'_> {
         }
     }
 
-    #[tactic(auto, using(crate::specs::Adding::keeps_more))]
     /// Adds a port item with names in the places of its ports.
+    #[tactic(auto, using(crate::specs::Adding::keeps_more))]
     fn add_filled_ports(&self, names: &[u32], out: &mut Vec<u8>) -> Result<(), AllocError>
         requires { is_port_item (item_value self.now) ≡ true }
         ensures ok { OnOk result (out.new.items ≡ out.old.items

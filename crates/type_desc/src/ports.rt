@@ -25,8 +25,8 @@ impl Item<'_> {
         Disposition::from_number(u32::from(self.type_name))
     }
 
-    #[tactic(auto, using(crate::specs::Names::names_count))]
     /// How many ports it holds, counting `MACH_PORT_NULL` and `MACH_PORT_DEAD`.
+    #[tactic(auto, using(crate::specs::Names::names_count))]
     pub fn port_count(&self) -> u32
         ensures { result ≡ length (names_of_item (item_value self.now)) }
     {

@@ -1,6 +1,9 @@
 -- States in bytes, with one canonical encoding each.
 use Rattle.std.specs.Prelude.{ℕ, List, [], ◌∷◌, ◌++◌, length, flat_map, Option, None, Some}
 use Rattle.std.specs.FinMap as finmap
+use Rattle.codes.specs.StoreVersion.{current}
+use Rattle.codes.specs.declared.store_version.StoreVersion.{StoreVersion}
+use Rattle.codes.specs.declared.store_version.StoreVersion.TheVariants.{One, Two}
 use Rattle.ipc_model.specs.declared.entry.Entry.{Entry}
 use Rattle.ipc_model.specs.declared.entry.Entry.TheVariants.{Port, SendOnce, Set, Dead}
 use Rattle.ipc_model.specs.declared.message.CarriedRight.{CarriedRight}
@@ -58,10 +61,22 @@ port_encoding port =
     ++ (long_word (number_or_0 port.no_senders_target) ++ (long_word (number_or_0 port.port_destroyed_target)
     ++ (word (length port.messages) ++ flat_map message_image port.messages))))))
 
+-- After a space's number, version 2 has that of its last request: 0, for none.
+abbrev pub request_encoding : StoreVersion → List ℕ
+request_encoding One = []
+request_encoding Two = word 0
+
+abbrev pub space_encoding : StoreVersion → ℕ × Names → List ℕ
+space_encoding version space = word space.0 ++ (request_encoding version ++ names_encoding space.1)
+
 -- A state: the next serial; the spaces, ascending; the ports, ascending, each with its messages, oldest first.
-unfoldable pub image_encoding : State → List ℕ
-image_encoding state =
+unfoldable pub image_encoding_of : StoreVersion → State → List ℕ
+image_encoding_of version state =
     long_word state.next
-    ++ (word (finmap.len state.spaces) ++ (flat_map (λ e. word e.0 ++ names_encoding e.1) (finmap.entries state.spaces)
+    ++ (word (finmap.len state.spaces) ++ (flat_map (space_encoding version) (finmap.entries state.spaces)
     ++ (word (finmap.len state.ports) ++ flat_map
     (λ e. long_word e.0 ++ port_encoding e.1) (finmap.entries state.ports))))
+
+-- and as it is written
+abbrev pub image_encoding : State → List ℕ
+image_encoding = image_encoding_of current

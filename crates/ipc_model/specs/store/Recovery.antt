@@ -1,12 +1,16 @@
 -- What the four slots of a store encode, and what is recovered from them: one static reading, for every epoch.
-use Rattle.std.specs.Prelude.{◌≡◌, ◌≢◌, ◌⊎◌, ℕ, suc, ◌+◌, ◌%◌, ◌^◌, ◌<◌, ◌≤◌, ◌∷◌, [], ◌++◌, List, length, take, drop, slice_index}
+use Rattle.std.specs.Prelude.{◌≡◌, ◌⊎◌, ℕ, suc, ◌+◌, ◌%◌, ◌^◌, ◌<◌, ◌≤◌, ◌∷◌, [], ◌++◌, List, length, take, drop, slice_index, Some}
+use Rattle.std.specs.FinMap as finmap
+use Rattle.codes.specs.StoreVersion.{IsNoVersion, current}
+use Rattle.codes.specs.declared.store_version.StoreVersion.{StoreVersion}
+use Rattle.ipc_model.specs.declared.port.PortState.{PortState}
 use Rattle.ipc_model.specs.declared.record.Record.{Record}
 use Rattle.ipc_model.specs.state.Circular.{Acyclic}
-use Rattle.ipc_model.specs.encodings.Images.{image_encoding}
+use Rattle.ipc_model.specs.encodings.Images.{image_encoding_of}
 use Rattle.ipc_model.specs.state.Lawful.{Lawful, ShortQueues}
 use Rattle.ipc_model.specs.state.State.{State, opening_state}
 use Rattle.ipc_model.specs.calls.Step.{Run}
-use Rattle.ipc_model.specs.store.Store.{EncodesSegment, IsClosed, open_gate, segment_header, image_content}
+use Rattle.ipc_model.specs.store.Store.{EncodesSegment, IsClosed, IsLimitOf, open_gate, segment_header_of, image_content_of}
 
 -- The bytes of a store's slots: two for images and two for segments, each by its number, 0 or 1. Epoch e uses the
 -- slots of number e % 2.
@@ -25,10 +29,11 @@ segment_header_length = 16
 abbrev pub IsOpen : ℕ → List ℕ → Type 0
 IsOpen header slot = (header ≤ length slot) × (take 1 slot ≡ open_gate ∷ [])
 
--- The header is that of an open slot, of version 1 and of this epoch, which is one of the slot's number.
+-- The header is that of an open slot, of a version and of this epoch, which is one of the slot's number.
 pub record IsOfEpoch (number epoch : ℕ) (slot : List ℕ) : Type 0 where
+  pub version : StoreVersion
   pub rest : List ℕ
-  pub encoding : slot ≡ segment_header open_gate epoch ++ rest
+  pub encoding : slot ≡ segment_header_of version open_gate epoch ++ rest
   pub fits : epoch < 2 ^ 64
   pub of_number : epoch % 2 ≡ number
 
@@ -41,13 +46,13 @@ version_of slot = slice_index slot 1
 abbrev pub IsNotOpen : ℕ → List ℕ → Type 0
 IsNotOpen header slot = IsOpen header slot → ⊥
 
--- it is open, of version 1 and of this epoch;
+-- it is open, of a version and of this epoch;
 abbrev pub IsOpenOfEpoch : ℕ → ℕ → ℕ → List ℕ → Type 0
 IsOpenOfEpoch header number epoch slot = IsOpen header slot × IsOfEpoch number epoch slot
 
--- or it is open, and of another version than 1. With any other header a store is damaged.
+-- or it is open, and says a version that there isn't. With any other header a store is damaged.
 abbrev pub HasOtherVersion : ℕ → List ℕ → Type 0
-HasOtherVersion header slot = IsOpen header slot × (version_of slot ≢ 1)
+HasOtherVersion header slot = IsOpen header slot × IsNoVersion (version_of slot)
 
 -- a slot that is open is of an epoch
 abbrev pub HasHeader : ℕ → ℕ → List ℕ → Type 0
@@ -66,22 +71,34 @@ pub record IsNew (slots : Slots) : Type 0 where
       → IsOfEpoch number epoch (slots.segment number)
       → (epoch ≡ 0) × IsClosed (drop segment_header_length (slots.segment number))
 
--- These bytes are the image of this state, which is lawful and acyclic, and whose queues are short.
-pub record IsImageOf (encoding : List ℕ) (state : State) : Type 0 where
-  pub encoding_is : encoding ≡ image_encoding state
-  pub lawful : Lawful state
-  pub acyclic : Acyclic state
-  pub short : ShortQueues state
+-- each queue has a limit of the version
+abbrev pub HasLimits : StoreVersion → State → Type 0
+HasLimits version state =
+    (serial : ℕ) (port : PortState) → finmap.get state.ports serial ≡ Some port → IsLimitOf version port.limit
 
--- An open image of this epoch holds the encoding of this state, which is lawful and acyclic. Bytes past the encoding
--- aren't read.
-pub record HoldsImage (epoch : ℕ) (slot : List ℕ) (state : State) : Type 0 where
-  pub rest : List ℕ
-  pub encoding : slot ≡ (open_gate ∷ image_content epoch (image_encoding state)) ++ rest
-  pub fits : length (image_encoding state) < 2 ^ 64
+-- These bytes are the image of this state, which is lawful and acyclic, and whose queues are short.
+pub record IsImageIn (version : StoreVersion) (encoding : List ℕ) (state : State) : Type 0 where
+  pub encoding_is : encoding ≡ image_encoding_of version state
   pub lawful : Lawful state
   pub acyclic : Acyclic state
   pub short : ShortQueues state
+  pub limits : HasLimits version state
+
+-- and as an image is written
+abbrev pub IsImageOf : List ℕ → State → Type 0
+IsImageOf = IsImageIn current
+
+-- An open image of this epoch, of either version, holds the encoding of this state, which is lawful and acyclic. Bytes
+-- past the encoding aren't read.
+pub record HoldsImage (epoch : ℕ) (slot : List ℕ) (state : State) : Type 0 where
+  pub version : StoreVersion
+  pub rest : List ℕ
+  pub encoding : slot ≡ (open_gate ∷ image_content_of version epoch (image_encoding_of version state)) ++ rest
+  pub fits : length (image_encoding_of version state) < 2 ^ 64
+  pub lawful : Lawful state
+  pub acyclic : Acyclic state
+  pub short : ShortQueues state
+  pub limits : HasLimits version state
 
 -- The other segment slot isn't open, and adds nothing;
 abbrev pub ClosedAddsNothing : List ℕ → List Record → Type 0
@@ -127,7 +144,7 @@ pub record Recovered (slots : Slots) (state : State) : Type 0 where
   pub encoded : Encodes slots base records
   pub run : Run base records state
 
--- Why nothing is recovered: some open slot is of another version than 1,
+-- Why nothing is recovered: some open slot says a version that there isn't,
 abbrev pub IsOtherVersion : Slots → Type 0
 IsOtherVersion slots =
     (number : ℕ) × (number < 2) ×

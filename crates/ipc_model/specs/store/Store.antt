@@ -1,6 +1,11 @@
--- The encodings of the store's slots, version 1.
-use Rattle.std.specs.Prelude.{◌≡◌, ◌≢◌, ◌⊎◌, ℕ, ◌+◌, ◌-◌, ◌<◌, ◌≤◌, List, [], ◌∷◌, ◌++◌, length, take}
+-- The encodings of the store's slots.
+use Rattle.std.specs.Prelude.{◌≡◌, ◌≢◌, ◌⊎◌, ℕ, ◌+◌, ◌-◌, ◌^◌, ◌<◌, ◌≤◌, List, [], ◌∷◌, ◌++◌, length, take}
+use Rattle.codes.specs.StoreVersion.{current, greatest_limit, version_number}
 use Rattle.codes.specs.declared.limits.TheConstants.{MAX_RECORDS}
+use Rattle.codes.specs.declared.store_version.StoreVersion.{StoreVersion}
+use Rattle.codes.specs.declared.store_version.StoreVersion.TheVariants.{One, Two}
+use Rattle.ipc_model.specs.declared.call.Call.{Call}
+use Rattle.ipc_model.specs.declared.call.Call.TheVariants.{SetQlimit}
 use Rattle.ipc_model.specs.declared.record.Record.{Record}
 use Rattle.words.specs.Words.{word, long_word}
 use Rattle.ipc_model.specs.encodings.Encodings.{records_encoding, IsRecord}
@@ -13,16 +18,27 @@ abbrev pub closed_gate : ℕ
 closed_gate = 0
 
 -- after a slot's gate: the version and six zero bytes, and then the epoch
-abbrev pub epoch_encoding : ℕ → List ℕ
-epoch_encoding epoch = 1 ∷ 0 ∷ 0 ∷ 0 ∷ 0 ∷ 0 ∷ 0 ∷ long_word epoch
+abbrev pub epoch_encoding_of : StoreVersion → ℕ → List ℕ
+epoch_encoding_of version epoch = version_number version ∷ 0 ∷ 0 ∷ 0 ∷ 0 ∷ 0 ∷ 0 ∷ long_word epoch
 
 -- a segment slot's header
-abbrev pub segment_header : ℕ → ℕ → List ℕ
-segment_header gate epoch = gate ∷ epoch_encoding epoch
+abbrev pub segment_header_of : StoreVersion → ℕ → ℕ → List ℕ
+segment_header_of version gate epoch = gate ∷ epoch_encoding_of version epoch
 
 -- after an image slot's gate: the version, the epoch, the length of the image's encoding, and the encoding
+abbrev pub image_content_of : StoreVersion → ℕ → List ℕ → List ℕ
+image_content_of version epoch encoding =
+    epoch_encoding_of version epoch ++ (long_word (length encoding) ++ encoding)
+
+-- the same as they are written, in the current version
+abbrev pub epoch_encoding : ℕ → List ℕ
+epoch_encoding = epoch_encoding_of current
+
+abbrev pub segment_header : ℕ → ℕ → List ℕ
+segment_header = segment_header_of current
+
 abbrev pub image_content : ℕ → List ℕ → List ℕ
-image_content epoch encoding = epoch_encoding epoch ++ (long_word (length encoding) ++ encoding)
+image_content = image_content_of current
 
 -- after a batch's gate: the number of records, the number of their bytes, and the records, numbered from n
 unfoldable pub batch_encoding : ℕ → List Record → List ℕ
@@ -66,18 +82,48 @@ pub record EncodesBatches (bytes : List ℕ) (records : List Record) : Type 0 wh
   pub canonical : AreRecords records
   pub bounded : length records ≤ MAX_RECORDS
 
--- An open segment of this epoch encodes these records: those of its batches up to the first gate that isn't open.
+-- A queue may have this limit in a slot of a version. The current version's greatest is the machine's, which isn't
+-- asked again.
+abbrev pub IsLimitOf : StoreVersion → ℕ → Type 0
+IsLimitOf One limit = limit ≤ greatest_limit One
+IsLimitOf Two limit = Unit {0}
+
+-- no record of a segment sets another limit
+abbrev pub IsWithin : StoreVersion → Call → Type 0
+IsWithin version (SetQlimit name limit) = IsLimitOf version limit
+IsWithin version call = Unit {0}
+
+abbrev pub AreWithin : StoreVersion → List Record → Type 0
+AreWithin version [] = Unit {0}
+AreWithin version (first ∷ records) = IsWithin version first.call × AreWithin version records
+
+-- A segment of version 1 isn't of the last epoch, since the store goes on in the next one, in version 2.
+abbrev pub LeavesAnEpoch : StoreVersion → ℕ → Type 0
+LeavesAnEpoch One epoch = epoch + 1 < 2 ^ 64
+LeavesAnEpoch Two epoch = Unit {0}
+
+-- An open segment of this epoch, of either version, encodes these records: those of its batches up to the first gate
+-- that isn't open.
 pub record EncodesSegment (epoch : ℕ) (bytes : List ℕ) (records : List Record) : Type 0 where
+  pub version : StoreVersion
   pub content : List ℕ
-  pub encoding : bytes ≡ segment_header open_gate epoch ++ content
+  pub encoding : bytes ≡ segment_header_of version open_gate epoch ++ content
   pub encoded : EncodesBatches content records
+  pub within : AreWithin version records
+  pub next : LeavesAnEpoch version epoch
 
 -- A segment in use: after its batches stands one closed gate and nothing else.
-pub record IsInUse (epoch : ℕ) (bytes : List ℕ) (records : List Record) : Type 0 where
+pub record IsInUseOf (version : StoreVersion) (epoch : ℕ) (bytes : List ℕ) (records : List Record) : Type 0 where
   pub content : List ℕ
-  pub encoding : bytes ≡ segment_header open_gate epoch ++ content
+  pub encoding : bytes ≡ segment_header_of version open_gate epoch ++ content
   pub encoded : EncodesBatches content records
+  pub within : AreWithin version records
+  pub next : LeavesAnEpoch version epoch
   pub ended : length encoded.rest ≡ 1
+
+-- and one to which batches are appended
+abbrev pub IsInUse : ℕ → List ℕ → List Record → Type 0
+IsInUse = IsInUseOf current
 
 -- a segment that ends in a closed gate, with one more batch in that gate's place, and a closed gate after it
 abbrev pub with_batch : List ℕ → List ℕ → List ℕ

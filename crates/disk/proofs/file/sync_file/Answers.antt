@@ -1,4 +1,4 @@
-use Rattle.std.proofs.Common.{◌≡◌, true, is_some, List, ℕ, sym, ap, subst, ◌∙◌}
+use Rattle.std.proofs.Common.{is_some, ap, subst, ◌∙◌}
 use Rattle.disk.specs.Folders.{AreNamesSynced, IsFileSynced}
 use Rattle.disk.specs.Slots.{file_name}
 use Rattle.disk.proofs.Folders.{file_stays_synced, names_stay, on_ok, slot_synced}

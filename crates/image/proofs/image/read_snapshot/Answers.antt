@@ -5,14 +5,14 @@ use Rattle.image.proofs.image.read_snapshot.Goals as goal
 
 pub returns-in_default-clause-only : goal.returns-in_default-clause-only
 returns-in_default-clause-only c =
-    λ snapshot fits is. omega (arith, c.in_default.ensures.none, ap length (is ∙ snapshot_apart snapshot))
+    λ snapshot fits is. omega (arith, c.in_default.ensures.none, ap length (is ∙ snapshot_apart c.args.version snapshot))
 
 pub returns-in_default-2-clause-only : goal.returns-in_default-2-clause-only
 returns-in_default-2-clause-only c = λ snapshot fits is.
     let next =
     long_word_once c.in-Some.next_serial snapshot.next_serial c.in-Some.rest.now
-    (after_next snapshot) c.in-Some.ensures.fits fits.next_serial
-    (sym c.in-Some.ensures.found ∙ is ∙ snapshot_apart snapshot) in
+    (after_next c.args.version snapshot) c.in-Some.ensures.fits fits.next_serial
+    (sym c.in-Some.ensures.found ∙ is ∙ snapshot_apart c.args.version snapshot) in
     none_and c.in_ok-spaces.field-0 _ c.in_default-2.is
     (c.in_ok-spaces.ensures.only snapshot.spaces
     (after_spaces snapshot) fits.few_spaces fits.spaces fits.spaces_ascend next.1)
@@ -21,8 +21,8 @@ pub returns-in_default-3-clause-only : goal.returns-in_default-3-clause-only
 returns-in_default-3-clause-only c = λ snapshot fits is.
     let next =
     long_word_once c.in-Some.next_serial snapshot.next_serial c.in-Some.rest.now
-    (after_next snapshot) c.in-Some.ensures.fits fits.next_serial
-    (sym c.in-Some.ensures.found ∙ is ∙ snapshot_apart snapshot) in
+    (after_next c.args.version snapshot) c.in-Some.ensures.fits fits.next_serial
+    (sym c.in-Some.ensures.found ∙ is ∙ snapshot_apart c.args.version snapshot) in
     let spaces =
     some_and c.in_ok-spaces.field-0 _ (c.in-Some-2.spaces, c.in-Some-2.rest) c.in-Some-2.is
     (c.in_ok-spaces.ensures.only snapshot.spaces
@@ -34,8 +34,8 @@ pub returns-then-not-is_end-clause-only : goal.returns-then-not-is_end-clause-on
 returns-then-not-is_end-clause-only c = λ snapshot fits is.
     let next =
     long_word_once c.in-Some.next_serial snapshot.next_serial c.in-Some.rest.now
-    (after_next snapshot) c.in-Some.ensures.fits fits.next_serial
-    (sym c.in-Some.ensures.found ∙ is ∙ snapshot_apart snapshot) in
+    (after_next c.args.version snapshot) c.in-Some.ensures.fits fits.next_serial
+    (sym c.in-Some.ensures.found ∙ is ∙ snapshot_apart c.args.version snapshot) in
     let spaces =
     some_and c.in_ok-spaces.field-0 _ (c.in-Some-2.spaces, c.in-Some-2.rest) c.in-Some-2.is
     (c.in_ok-spaces.ensures.only snapshot.spaces
@@ -53,7 +53,7 @@ returns-clause-found c =
     let ports =
     some_if c.in_ok-ports.field-0 _ (c.in-Some-3.ports, c.in-Some-3.rest) c.in-Some-3.is c.in_ok-ports.ensures.found
     in (
-      snapshot_found c.args.bytes.now
+      snapshot_found c.args.version c.args.bytes.now
           (record { next_serial = c.in-Some.next_serial; spaces = c.in-Some-2.spaces; ports = c.in-Some-3.ports })
           c.in-Some.rest.now c.in-Some-2.rest.now c.in-Some-3.rest.now c.in-Some.ensures.found spaces.0 ports.0
           c.if-not-is_end.ensures,
@@ -72,8 +72,8 @@ pub returns-clause-only : goal.returns-clause-only
 returns-clause-only c = λ snapshot fits is.
     let next =
     long_word_once c.in-Some.next_serial snapshot.next_serial c.in-Some.rest.now
-    (after_next snapshot) c.in-Some.ensures.fits fits.next_serial
-    (sym c.in-Some.ensures.found ∙ is ∙ snapshot_apart snapshot) in
+    (after_next c.args.version snapshot) c.in-Some.ensures.fits fits.next_serial
+    (sym c.in-Some.ensures.found ∙ is ∙ snapshot_apart c.args.version snapshot) in
     let spaces =
     some_and c.in_ok-spaces.field-0 _ (c.in-Some-2.spaces, c.in-Some-2.rest) c.in-Some-2.is
     (c.in_ok-spaces.ensures.only snapshot.spaces

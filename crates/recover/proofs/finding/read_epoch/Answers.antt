@@ -1,9 +1,9 @@
-use Rattle.std.proofs.Common.{◌%◌, Err, ap, drop, sym, subst, ◌∙◌}
+use Rattle.std.proofs.Common.{◌%◌, Err, ap, sym, subst, ◌∙◌}
 use Rattle.std.proofs.lemmas.Result.{IfOk-weaker, err_from_is_err_and}
 use Rattle.disk.specs.Slots.{Slots, slot_of}
 use Rattle.disk.proofs.Moments.{reads_then}
 use Rattle.ipc_model.specs.store.Recovery.{HoldsImage, IsOfEpoch}
-use Rattle.ipc_model.specs.store.Store.{EncodesBatches}
+use Rattle.ipc_model.specs.store.Store.{EncodesSegment}
 use Rattle.recover.specs.Replayed.{ReplaysAll}
 use Rattle.slot_steps.specs.Steps.{image_slot, segment_slot}
 use Rattle.recover.proofs.Faults.{counts_passed, counts_then, none_in_error}
@@ -29,10 +29,8 @@ returns-clause-damaged g c = λ honest reported base state records image segment
     no_run e (slot_of first (image_slot e))
     (slot_of first (segment_slot e)) c.in_ok-base.base base state records own image segment run
     (λ rs s encoded. c.replay_segment.ensures.damaged honest reported rs s
-    (subst (λ slot. EncodesBatches (drop 16 (slot_of (g.D.Disk.view c.load_image.new.disk).seen slot)) rs)
-    (sym c.segment_slot.ensures)
-    (subst (λ (d : Slots). EncodesBatches (drop 16 (slot_of d (segment_slot e))) rs)
-    (sym (c.in_ok-base.ensures.reads_only honest).seen) encoded)))
+    (subst (λ (d : Slots). EncodesSegment e (slot_of d (segment_slot e)) rs)
+    (sym (c.in_ok-base.ensures.reads_only honest).seen) encoded))
 
 pub returns-clause-read : goal.returns-clause-read
 returns-clause-read g c = λ honest.
@@ -45,9 +43,8 @@ returns-clause-read g c = λ honest.
     (c.in_ok-base.ensures.image honest (e % 2) e header) in
     IfOk-weaker c.replay_segment.result _ _
     (λ read replays. reads_one first e c.in_ok-base.base read.0 read.1 read.2 own
-    (subst (λ slot. ReplaysAll (slot_of first slot) c.in_ok-base.base read.0 read.1 read.2) c.segment_slot.ensures
-    (subst (λ (d : Slots). ReplaysAll (slot_of d c.segment_slot.result) c.in_ok-base.base read.0 read.1 read.2)
-    (c.in_ok-base.ensures.reads_only honest).seen replays)))
+    (subst (λ (d : Slots). ReplaysAll e (slot_of d (segment_slot e)) c.in_ok-base.base read.0 read.1 read.2)
+    (c.in_ok-base.ensures.reads_only honest).seen replays))
     (c.replay_segment.ensures.state honest)
 
 pub returns-in_err-base-clause-read : goal.returns-in_err-base-clause-read

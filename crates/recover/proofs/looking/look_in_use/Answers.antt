@@ -1,8 +1,8 @@
-use Rattle.std.proofs.Common.{◌+◌, ℕ, Err, ap, drop, sym, subst, arith, ◌∙◌}
+use Rattle.std.proofs.Common.{◌+◌, ℕ, Err, ap, sym, subst, arith, ◌∙◌}
 use Rattle.std.proofs.lemmas.Result.{err_from_is_err_and}
 use Rattle.disk.specs.Slots.{Slots, slot_of}
 use Rattle.disk.proofs.Moments.{reads_then}
-use Rattle.ipc_model.specs.store.Store.{EncodesBatches}
+use Rattle.ipc_model.specs.store.Store.{EncodesSegment}
 use Rattle.recover.specs.Found.{Reads}
 use Rattle.recover.specs.Replayed.{ReplaysAll}
 use Rattle.recover.specs.Surveyed.{IsInUse as Uses}
@@ -32,10 +32,8 @@ returns-in_err-kernel-2-clause-damaged g c = λ honest reported.
     next_damaged seen e c.in_ok-kernel.kernel c.in_ok-kernel.first c.in_ok-kernel.field-0-2
     (subst (Uses seen e) c.if-not-follows.false (c.requires.used honest)) (c.in_ok-kernel.ensures.read honest)
     (λ rs s encoded. c.in_err-kernel-2.ensures.damaged honest (cc (p.1, p.2, reported)) rs s
-    (subst (λ slot. EncodesBatches (drop 16 (slot_of (g.D.Disk.view c.read_epoch.new.disk).seen slot)) rs)
-    (sym c.segment_slot.ensures)
-    (subst (λ (d : Slots). EncodesBatches (drop 16 (slot_of d (segment_slot (e + 1)))) rs)
-    (sym (c.in_ok-kernel.ensures.reads_only honest).seen) encoded)))
+    (subst (λ (d : Slots). EncodesSegment (e + 1) (slot_of d (segment_slot (e + 1))) rs)
+    (sym (c.in_ok-kernel.ensures.reads_only honest).seen) encoded))
 
 pub returns-clause-reads : goal.returns-clause-reads
 returns-clause-reads g c = λ honest.
@@ -45,9 +43,8 @@ returns-clause-reads g c = λ honest.
     let next = c.in_ok-kernel-2 in
     let used = subst (Uses seen e) c.if-not-follows.false (c.requires.used honest) in
     let replays =
-    subst (λ slot. ReplaysAll (slot_of seen slot) mid next.kernel next.next next.field-0-2) c.segment_slot.ensures
-    (subst (λ (d : Slots). ReplaysAll (slot_of d c.segment_slot.result) mid next.kernel next.next next.field-0-2)
-    (c.in_ok-kernel.ensures.reads_only honest).seen (next.ensures.state honest)) in
+    subst (λ (d : Slots). ReplaysAll (e + 1) (slot_of d (segment_slot (e + 1))) mid next.kernel next.next next.field-0-2)
+    (c.in_ok-kernel.ensures.reads_only honest).seen (next.ensures.state honest) in
     let few =
     two_few seen e mid next.kernel c.in_ok-kernel.first c.in_ok-kernel.field-0-2 next.next next.field-0-2
     (c.in_ok-kernel.ensures.read honest) replays in

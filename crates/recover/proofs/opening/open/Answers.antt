@@ -1,5 +1,5 @@
 use Rattle.std.proofs.Common.{Err, ap}
-use Rattle.ipc_laws.specs.RecoveryLaws.{recovers_once, recovers_version_one}
+use Rattle.ipc_laws.specs.RecoveryLaws.{recovers_once, recovers_known_versions}
 use Rattle.store_layout.specs.Standing.{as_written}
 use Rattle.recover.proofs.Faults.{other_fault}
 use Rattle.recover.proofs.Joined.{kept_stands}
@@ -21,7 +21,7 @@ returns-in-Err-clause-damaged g c = λ honest is. c.in-Err.ensures.damaged hones
 pub returns-in-Err-clause-opens : goal.returns-in-Err-clause-opens
 returns-in-Err-clause-opens g c = λ honest state found. (
   λ is. (c.in-Err.ensures.damaged honest (ap Err is)).1 state found,
-  λ is. recovers_version_one (as_written (g.D.Disk.view c.args.disk).seen) state found
+  λ is. recovers_known_versions (as_written (g.D.Disk.view c.args.disk).seen) state found
       (c.in-Err.ensures.version honest (ap Err is)),
 )
 

@@ -20,7 +20,7 @@ returns-in_err-now-clause-damaged g c = λ honest reported.
     let segment = slot_of (g.D.Disk.view c.args.disk.now).seen c.args.slot in
     let same : slot_of (g.D.Disk.view c.loop-now.disk).seen c.loop-now.reader.window.slot ≡ segment =
     λ i. slot_of (inv.seen honest i) (inv.slot i) in
-    unread segment (place_of c.args.reader.now) (place_of c.loop-now.reader) c.args.kernel c.loop-now.state
+    unread c.args.version segment (place_of c.args.reader.now) (place_of c.loop-now.reader) c.args.kernel c.loop-now.state
     (inv.left honest)
     (subst (λ l. IsNothing l (place_of c.loop-now.reader)) same
     (c.next-next.ensures.damaged honest (cc (p.1, p.2, reported, c.in_err-now.ensures.err))))
@@ -37,9 +37,9 @@ returns-in_default-clause-state g c = λ honest.
     let last = rw c.in_default.is at (rw c.in_ok-now.ensures.ok.1 at c.next-next.ensures.last honest) in
     let stays = rw c.in_default.is at (rw c.in_ok-now.ensures.ok.1 at c.next-next.ensures.stays) in
     let left =
-    subst (λ (at : Place). IsLeft segment first at c.args.kernel c.loop-now.state) (sym stays) (inv.left honest) in
-    subst (λ (s : State). Replays segment first c.args.kernel s here.number here.at) (sym c.in_ok-now.ensures.ok.0)
-    (all_replayed segment first here c.args.kernel c.loop-now.state left (subst (λ l. IsLast l here) same last))
+    subst (λ (at : Place). IsLeft c.args.version segment first at c.args.kernel c.loop-now.state) (sym stays) (inv.left honest) in
+    subst (λ (s : State). Replays c.args.version segment first c.args.kernel s here.number here.at) (sym c.in_ok-now.ensures.ok.0)
+    (all_replayed c.args.version segment first here c.args.kernel c.loop-now.state left (subst (λ l. IsLast l here) same last))
 
 -- the record isn't a step
 pub returns-in_err-state-clause-damaged : goal.returns-in_err-state-clause-damaged
@@ -51,12 +51,12 @@ returns-in_err-state-clause-damaged g c = λ honest reported.
     let same : slot_of (g.D.Disk.view c.loop-now.disk).seen c.loop-now.reader.window.slot ≡ segment =
     λ i. slot_of (inv.seen honest i) (inv.slot i) in
     let left =
-    subst (λ (s : State). IsLeft segment first (place_of c.loop-now.reader) c.args.kernel s)
+    subst (λ (s : State). IsLeft c.args.version segment first (place_of c.loop-now.reader) c.args.kernel s)
     (sym c.in_ok-now.ensures.ok.0) (inv.left honest) in
     let leads =
     some_is _ c.in_ok-now.next c.in-Some.entry c.in-Some.is
     (rw c.in_ok-now.ensures.ok.1 at c.next-next.ensures.leads honest) in
-    none_left segment first (place_of c.loop-now.reader)
+    none_left c.args.version segment first (place_of c.loop-now.reader)
     (place_of c.next-next.new.self) c.in-Some.entry c.args.kernel c.in_ok-now.now left
     (subst (λ l. Leads l (place_of c.loop-now.reader) c.in-Some.entry (place_of c.next-next.new.self)) same leads)
     (c.in_err-state.ensures.damaged (cc (p.1, p.2, reported)))
@@ -71,7 +71,7 @@ loop-now-preserved g c =
           let same : slot_of (g.D.Disk.view c.loop-now.disk).seen c.loop-now.reader.window.slot ≡ segment =
           λ i. slot_of (inv.seen honest i) (inv.slot i) in
           let left =
-          subst (λ (s : State). IsLeft segment first (place_of c.loop-now.reader) c.args.kernel s)
+          subst (λ (s : State). IsLeft c.args.version segment first (place_of c.loop-now.reader) c.args.kernel s)
           (sym c.in_ok-now.ensures.ok.0) (inv.left honest) in
           let leads =
           some_is _ c.in_ok-now.next c.in-Some.entry c.in-Some.is
@@ -79,10 +79,10 @@ loop-now-preserved g c =
           let counted =
           some_is _ c.in_ok-now.next c.in-Some.entry c.in-Some.is
           (rw c.in_ok-now.ensures.ok.1 at c.next-next.ensures.counted) in
-          left_on segment first (place_of c.loop-now.reader)
+          left_on c.args.version segment first (place_of c.loop-now.reader)
           (place_of c.next-next.new.self) c.in-Some.entry c.args.kernel c.in_ok-now.now c.in_ok-state.state left
           (subst (λ l. Leads l (place_of c.loop-now.reader) c.in-Some.entry (place_of c.next-next.new.self)) same leads)
-          counted.0 c.in_ok-state.ensures.step c.in_ok-state.ensures.only;
+          counted.0 c.in_ok-state.ensures.within c.in_ok-state.ensures.step c.in_ok-state.ensures.only;
       over = λ honest.
           let same : slot_of (g.D.Disk.view c.loop-now.disk).seen c.loop-now.reader.window.slot ≡ segment =
           λ i. slot_of (inv.seen honest i) (inv.slot i) in

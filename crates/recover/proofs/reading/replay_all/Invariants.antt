@@ -10,7 +10,7 @@ use Rattle.recover.proofs.reading.replay_all.Given as goal
 -- what is left to be replayed is what was to be replayed, and the disk is as it was
 abbrev pub invariant-loop-now : goal.invariant-loop-now
 invariant-loop-now g l = record {
-  left : g.D.Disk.honest → IsLeft (slot_of (g.D.Disk.view l.fn.disk).seen l.fn.slot) (place_of l.fn.reader)
+  left : g.D.Disk.honest → IsLeft l.fn.version (slot_of (g.D.Disk.view l.fn.disk).seen l.fn.slot) (place_of l.fn.reader)
       (place_of l.reader) l.fn.kernel l.state;
   over : g.D.Disk.honest → IsOver (slot_of (g.D.Disk.view l.fn.disk).seen l.fn.slot) l.reader.window;
   slot : l.reader.window.slot ≡ l.fn.slot;

@@ -1,75 +1,23 @@
-use Rattle.std.proofs.Common.{ℕ, Err, List, ap, refl, sym, subst, ◌∙◌}
-use Rattle.std.proofs.lemmas.Result.{err_from_is_err_and}
-use Rattle.disk.specs.Slots.{slot_of}
-use Rattle.disk.proofs.Moments.{reads_nothing}
-use Rattle.journal.specs.Reading.{Place}
-use Rattle.recover.specs.Replayed.{Replays, ReplaysAll}
-use Rattle.recover.proofs.Faults.{counts_memory, counts_ok, counts_passed, memory_no_damage, none_in_error, of_memory}
-use Rattle.recover.proofs.Streams.{first_place, never_replayed, replayed_all}
+use Rattle.std.proofs.Common.{subst}
+use Rattle.disk.proofs.Moments.{reads_then}
+use Rattle.disk.specs.Slots.{Slots, slot_of}
+use Rattle.recover.specs.Replayed.{ReplaysAll}
+use Rattle.slot_steps.specs.Steps.{segment_slot}
 use Rattle.recover.proofs.reading.replay_segment.Goals as goal
-
-pub returns-in_err-kernel-clause-damaged : goal.returns-in_err-kernel-clause-damaged
-returns-in_err-kernel-clause-damaged g c = λ honest reported.
-    let p = err_from_is_err_and c.from_residual-in_err-kernel.result c.from_residual-in_err-kernel.ensures.1 in
-    let segment : List ℕ = slot_of (g.D.Disk.view c.args.disk.now).seen c.args.slot in
-    never_replayed segment 16 c.args.kernel (c.requires honest)
-    (λ state count end replays. (rw c.in_ok-base.ensures.ok.0 at c.in_err-kernel.ensures.damaged honest
-    (cc (p.1, p.2, reported))) state count end
-    (subst (λ (place : Place). Replays segment place c.args.kernel state count end)
-    (sym (rw c.in_ok-base.ensures.ok.1 at c.new-made.ensures.place honest)) replays))
 
 pub returns-clause-state : goal.returns-clause-state
 returns-clause-state g c = λ honest.
-    let segment : List ℕ = slot_of (g.D.Disk.view c.args.disk.now).seen c.args.slot in
-    let last = c.replay_all.new.reader in
-    let replays : Replays segment (first_place 16) c.args.kernel c.in_ok-kernel.kernel last.number last.window.at =
-    subst (λ (place : Place). Replays segment place c.args.kernel c.in_ok-kernel.kernel last.number last.window.at)
-    (rw c.in_ok-base.ensures.ok.1 at c.new-made.ensures.place honest)
-    (rw c.in_ok-base.ensures.ok.0 at c.in_ok-kernel.ensures.state honest) in
-    let all =
-    replayed_all segment c.args.kernel c.in_ok-kernel.kernel last.number last.window.at
-    (c.requires honest) replays in
-    subst (λ n. ReplaysAll segment c.args.kernel c.in_ok-kernel.kernel n c.at.result) (sym c.number.ensures)
-    (subst (λ at. ReplaysAll segment c.args.kernel c.in_ok-kernel.kernel last.number at) (sym c.at.ensures) all)
-
-pub returns-in_err-base-clause-state : goal.returns-in_err-base-clause-state
-returns-in_err-base-clause-state g c =
-    λ honest. let p = err_from_is_err_and c.from_residual.result c.from_residual.ensures.1 in
-    none_in_error _ c.from_residual.result _ p.1
-
-pub returns-in_err-base-clause-damaged : goal.returns-in_err-base-clause-damaged
-returns-in_err-base-clause-damaged g c =
-    λ honest reported. let p = err_from_is_err_and c.from_residual.result c.from_residual.ensures.1 in
-    absurd (memory_no_damage c.from_residual.result (p.1 ∙ ap Err p.2) reported)
-
-pub returns-in_err-base-clause-faults : goal.returns-in_err-base-clause-faults
-returns-in_err-base-clause-faults g c =
-    let p = err_from_is_err_and c.from_residual.result c.from_residual.ensures.1 in
-    of_memory c.from_residual.result (p.1 ∙ ap Err p.2)
-
-pub returns-in_err-kernel-clause-state : goal.returns-in_err-kernel-clause-state
-returns-in_err-kernel-clause-state g c =
-    λ honest. let p = err_from_is_err_and c.from_residual-in_err-kernel.result c.from_residual-in_err-kernel.ensures.1
-    in none_in_error _ c.from_residual-in_err-kernel.result _ p.1
-
-pub returns-in_err-base-clause-reads_only : goal.returns-in_err-base-clause-reads_only
-returns-in_err-base-clause-reads_only g c = λ honest. reads_nothing (g.D.Disk.view c.args.disk.now)
-
-pub returns-in_err-base-clause-failures : goal.returns-in_err-base-clause-failures
-returns-in_err-base-clause-failures g c =
-    let p = err_from_is_err_and c.from_residual.result c.from_residual.ensures.1 in
-    counts_memory _ _ c.from_residual.result (p.1 ∙ ap Err p.2) refl
-
-pub returns-in_err-kernel-clause-reads_only : goal.returns-in_err-kernel-clause-reads_only
-returns-in_err-kernel-clause-reads_only g c = λ honest. c.replay_all.ensures.reads_only honest
-
-pub returns-in_err-kernel-clause-failures : goal.returns-in_err-kernel-clause-failures
-returns-in_err-kernel-clause-failures g c =
-    let p = err_from_is_err_and c.from_residual-in_err-kernel.result c.from_residual-in_err-kernel.ensures.1 in
-    counts_passed _ _ _ c.from_residual-in_err-kernel.result (p.1 ∙ ap Err p.2) c.in_err-kernel.ensures.failures
+    let last = c.in_ok-kernel-2 in
+    subst (λ (s : Slots). ReplaysAll c.args.epoch (slot_of s (segment_slot c.args.epoch)) c.args.kernel last.kernel
+    last.records last.end) (c.segment_version-version.ensures.reads_only honest).seen
+    (rw c.in_ok-kernel.ensures.ok.0 at last.ensures.state honest)
 
 pub returns-clause-reads_only : goal.returns-clause-reads_only
-returns-clause-reads_only g c = λ honest. c.replay_all.ensures.reads_only honest
+returns-clause-reads_only g c = λ honest.
+    reads_then _ _ _ (c.segment_version-version.ensures.reads_only honest)
+    (c.replay_segment_in.ensures.reads_only honest)
 
-pub returns-clause-failures : goal.returns-clause-failures
-returns-clause-failures g c = counts_ok _ _ _ c.in_ok-kernel.ensures.failures.quiet
+pub returns-in_err-kernel-2-clause-reads_only : goal.returns-in_err-kernel-2-clause-reads_only
+returns-in_err-kernel-2-clause-reads_only g c = λ honest.
+    reads_then _ _ _ (c.segment_version-version.ensures.reads_only honest)
+    (c.replay_segment_in.ensures.reads_only honest)

@@ -1,5 +1,6 @@
 use Rattle.std.proofs.Common.{rules, ◌≡◌, ◌+◌, ◌-◌, ◌<◌, ◌^◌, refl, true, ap, subst, ◌∙◌}
 use Rattle.std.specs.Prelude.{is_none}
+use Rattle.codes.specs.StoreVersion.{current}
 use Rattle.ipc_model.specs.state.State.{State}
 use Rattle.ipc_model.specs.store.Recovery.{IsImageOf}
 use Rattle.image.specs.Rows.{snapshot_encoding}
@@ -31,10 +32,11 @@ returns-clause-cut c =
     let image : IsImageOf c.new.result.encoding c.self.inside.kernel = record {
       encoding_is =
           ap (λ (v : CutValue). v.encoding) c.new.ensures ∙ ap snapshot_encoding c.in_ok-snapshot.ensures
-          ∙ c.image_is_of_state.ensures c.self.inside.kernel;
+          ∙ c.image_is_of_state.ensures current c.self.inside.kernel;
       lawful = c.show_image.ensures.lawful;
       acyclic = c.show_image.ensures.acyclic;
       short = c.show_image.ensures.short;
+      limits = λ serial port at. tt;
     } in
     let made : c.new.result.epoch ≡ c.self.inside.epoch + 1 = ap (λ (v : CutValue). v.epoch) c.new.ensures in
     let log : c.new.result.log ≡ c.self.inside.log.length =
