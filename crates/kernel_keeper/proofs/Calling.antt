@@ -12,7 +12,8 @@ use Rattle.kernel_keeper.specs.Keeping.{Applies, IsKernelCore, entries_of_call}
 use Rattle.kernel_keeper.specs.Tokens.{entry_by}
 use Rattle.system.proofs.Logs.{Grows, grown}
 use Rattle.system.specs.Core.{Wait}
-use Rattle.system.specs.Halves.{Gives, KernelValue, TicketValue, entry_of}
+use Rattle.system.specs.Halves.{Gives, KernelValue, TicketValue}
+use Rattle.system.specs.Passed.{entry_of}
 
 pub counted : (entries : List Entry) → length (records_of entries) ≡ length entries
 counted entries = length-map entries (λ (e : Entry). e.«record»)

@@ -12,7 +12,8 @@ use Rattle.store_keeper.specs.Storing.{IsEnd}
 use Rattle.store_half.specs.Values.{CutValue}
 use Rattle.system.proofs.Lists.{drop_long, take_end, take_long}
 use Rattle.system.proofs.Logs.{drop_past, holds_as, holds_none}
-use Rattle.system.specs.Halves.{Cuts, KernelValue, next_log}
+use Rattle.system.specs.Halves.{Cuts, KernelValue}
+use Rattle.system.specs.Passed.{next_log}
 
 module _ (base : State) (half new : KernelValue) (entries : List Entry) (opened earlier taken older : ℕ)
     (cut : CutValue) (core : IsKernelCore base half entries opened earlier taken older) (cuts : Cuts half cut new) where

@@ -12,7 +12,8 @@ use Rattle.kernel_keeper.specs.Keeping.{IsKernelCore, first_number}
 use Rattle.store_keeper.specs.Storing.{IsLoad, IsRecorded}
 use Rattle.history.specs.Entries.{records_of}
 use Rattle.system.proofs.Lists.{drop_long, take_long}
-use Rattle.system.specs.Halves.{KernelValue, TakenValue}
+use Rattle.system.specs.Halves.{KernelValue}
+use Rattle.system.specs.Passed.{TakenValue}
 
 pub recorded_of : (base : State) (half : KernelValue) (entries : List Entry) (opened earlier taken older : ℕ)
     → IsKernelCore base half entries opened earlier taken older → IsRecorded base entries

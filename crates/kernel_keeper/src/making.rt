@@ -160,8 +160,7 @@ impl<L: Founding> KernelCore<L> {
         );
         self.taken = first + u64::from(taken.count());
         Ok(Some(Load {
-            epoch: taken.epoch(),
-            batch: taken.into_batch(),
+            taken,
             past,
             first,
             number,

@@ -23,7 +23,7 @@ use Rattle.system.specs.Passed.{IsAppended, PassesAppend}
 use Rattle.system.specs.Passed.{CheckpointValue, StoreValue}
 use Rattle.system.specs.Core.{SystemValue}
 use Rattle.system.specs.GoingOn.{IsStanding, TakesMemory}
-use Rattle.system.specs.Halves.{entry_of}
+use Rattle.system.specs.Passed.{entry_of}
 
 -- a crash while a store is kept leaves its state
 pub kept_held : {D : Type 0} (view : D → View) (store : StoreValue D) (state : State) → IsStanding view store state

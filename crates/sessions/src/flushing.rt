@@ -57,7 +57,7 @@ impl<L: Founding, D: Disk, G: Gate> Shared<L, D, G> {
     fn take_load<R: Wait>(&self, rt: &R) -> Option<Load<L>> {
         self.gate.pass(rt, LoopStep::Take);
         let load = self.guarded.lock(rt).take()?;
-        let taken = load.first.saturating_add(u64::from(load.batch.count()));
+        let taken = load.first.saturating_add(u64::from(load.taken.count()));
         self.replies.lock(rt).take(taken);
         Some(load)
     }
@@ -111,7 +111,7 @@ impl<L: Founding, D: Disk, G: Gate> Shared<L, D, G> {
                 false
             }
             NotStored::NotNow => {
-                self.await_segment(rt, load.epoch);
+                self.await_segment(rt, load.taken.epoch());
                 self.fault(rt).is_some()
             }
         };

@@ -6,6 +6,7 @@ mod receipt;
 mod store_half;
 mod under_way;
 
+pub use epoch_log::Taken;
 pub use receipt::{Finished, Receipt};
 pub use store_half::StoreHalf;
 pub use under_way::Cut;

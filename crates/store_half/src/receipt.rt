@@ -1,13 +1,14 @@
 ghost use Rattle.std.specs.Prelude.{◌≡◌};
 ghost use Rattle.journal.specs.Batch.{empty_batch};
 
+use epoch_log::Taken;
 use journal::Batch;
 use std::marker::Model;
 
 /// Says that a batch is stored. Only an append makes one, and it can't be copied.
 #[derive(Drop)]
 pub struct Receipt {
-    pub(crate) batch: Batch,
+    pub(crate) taken: Taken,
 }
 
 impl Model for Receipt {
@@ -19,7 +20,7 @@ impl Model for Receipt {
     ghost coded = { coded_ℕ };
 
     // How many records the batch has.
-    ghost view = { λ r. r.batch.count };
+    ghost view = { λ r. r.taken.batch.count };
 }
 
 impl Receipt {
@@ -27,16 +28,15 @@ impl Receipt {
     pub fn count(&self) -> u32
         ensures { result ≡ self.now }
     {
-        self.batch.count()
+        self.taken.count()
     }
 
     /// An empty batch, with the room of the one that was stored.
     pub fn into_empty(self) -> Batch
         ensures { result ≡ empty_batch }
     {
-        let Receipt { mut batch } = self;
-        batch.clear();
-        batch
+        let Receipt { taken } = self;
+        taken.into_empty()
     }
 }
 

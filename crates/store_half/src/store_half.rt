@@ -11,7 +11,8 @@ use crate::receipt::{Finished, Receipt};
 use crate::under_way::{Checkpoint, Cut, Making};
 use checkpoint::Image;
 use disk::Disk;
-use journal::{Batch, Segment, roll_close, roll_head, roll_open};
+use epoch_log::Taken;
+use journal::{Segment, roll_close, roll_head, roll_open};
 use std::alloc::Global;
 use std::marker::Model;
 use store_fault::StoreFault;
@@ -107,34 +108,34 @@ impl<D: Disk> StoreHalf<D> {
         self.checkpoint.is_some()
     }
 
-    /// Stores a batch of the epoch in use: all of it or nothing. At `Ok` it is on the disk. It takes no memory. At a
-    /// fault the batch comes back.
+    /// Stores a batch of the epoch in use, which an epoch log gave out: all of it or nothing. At `Ok` it is on the disk.
+    /// It takes no memory. At a fault the batch comes back.
     ///
     /// `Failed`: the device failed in an earlier call; the store has to be opened again. `Full`: the segment would hold
     /// more than `MAX_RECORDS` records; nothing changed. `Device`: the device failed, and whether the batch is stored
     /// isn't known until the store is opened again.
-    pub fn append(&mut self, batch: Batch) -> Result<Receipt, (StoreFault, Batch)>
-        requires { 0 < batch.count }
+    pub fn append(&mut self, taken: Taken) -> Result<Receipt, (StoreFault, Taken)>
+        requires { 0 < taken.batch.count }
         ensures stored { D.honest → OnOk result
-            (IsAppended self.old.segment.epoch (D.view self.old.disk).seen (D.view self.new.disk).seen batch) }
+            (IsAppended self.old.segment.epoch (D.view self.old.disk).seen (D.view self.new.disk).seen taken.batch) }
         ensures synced { D.honest → OnOk result
             (IsSynced (D.view self.new.disk) (segment_slot self.old.segment.epoch)) }
         ensures any_moment { D.honest → IsSynced (D.view self.old.disk) (segment_slot self.old.segment.epoch)
-            → PassesAppend self.old.segment.epoch (D.view self.old.disk) (D.view self.new.disk) batch }
-        ensures counted { IfOk result (λ receipt. (receipt ≡ batch.count)
-            × (self.new.segment ≡ record self.old.segment { records = self.old.segment.records + batch.count })
+            → PassesAppend self.old.segment.epoch (D.view self.old.disk) (D.view self.new.disk) taken.batch }
+        ensures counted { IfOk result (λ receipt. (receipt ≡ taken.batch.count)
+            × (self.new.segment ≡ record self.old.segment { records = self.old.segment.records + taken.batch.count })
             × (self.new.failed ≡ false)) }
         ensures under_way { self.new.checkpoint ≡ self.old.checkpoint }
         ensures open { OnOk result ((self.old.failed ≡ false)
-            × (self.old.segment.records + batch.count ≤ MAX_RECORDS)) }
-        ensures back { IfErr result (λ fault. fault.1 ≡ batch) }
+            × (self.old.segment.records + taken.batch.count ≤ MAX_RECORDS)) }
+        ensures back { IfErr result (λ fault. fault.1 ≡ taken) }
         ensures failures { MatchResult result (λ _. D.failed_calls self.new.disk ≡ D.failed_calls self.old.disk)
             (λ fault. D.failed_calls self.new.disk ≡ counted_fault fault.0 (D.failed_calls self.old.disk)) }
         ensures calls { D.calls self.new.disk ≤ D.calls self.old.disk + 4 }
 
         ensures failed { IfErr result (λ fault. fault.0 ≡ StoreFault.Failed ↔ (self.old.failed ≡ true)) }
         ensures full { IfErr result (λ fault. fault.0 ≡ StoreFault.Full
-            ↔ ((self.old.failed ≡ false) × (MAX_RECORDS < self.old.segment.records + batch.count))) }
+            ↔ ((self.old.failed ≡ false) × (MAX_RECORDS < self.old.segment.records + taken.batch.count))) }
         ensures device { IfErr result (λ fault. fault.0 ≡ StoreFault.Device
             → (self.new.failed ≡ true) × (D.failed_calls self.new.disk ≡ one_more (D.failed_calls self.old.disk))
             × (self.new.segment ≡ self.old.segment)) }
@@ -142,14 +143,14 @@ impl<D: Disk> StoreHalf<D> {
             ⊎ (((fault.0 ≡ StoreFault.Failed) ⊎ (fault.0 ≡ StoreFault.Full)) × (self.new ≡ self.old))) }
     {
         if self.failed {
-            return Err((StoreFault::Failed, batch));
+            return Err((StoreFault::Failed, taken));
         }
-        match self.segment.append(&mut self.disk, &batch) {
-            Ok(()) => Ok(Receipt { batch }),
-            Err(StoreFault::Full) => Err((StoreFault::Full, batch)),
+        match self.segment.append(&mut self.disk, taken.batch()) {
+            Ok(()) => Ok(Receipt { taken }),
+            Err(StoreFault::Full) => Err((StoreFault::Full, taken)),
             Err(_) => {
                 self.failed = true;
-                Err((StoreFault::Device, batch))
+                Err((StoreFault::Device, taken))
             }
         }
     }

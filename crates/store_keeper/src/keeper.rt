@@ -227,7 +227,7 @@ impl<L: Founding, D: Disk> StoreKeeper<L, D> {
             (IsNext self.now.store self.now.stored load.now → ⊥) }
     {
         load.first == self.stored.count()
-            && load.epoch == self.store.epoch()
+            && load.taken.epoch() == self.store.epoch()
             && load.number == self.store.records()
     }
 
@@ -255,24 +255,22 @@ impl<L: Founding, D: Disk> StoreKeeper<L, D> {
         ensures any_moment { D.honest → LosesNothing D.view L.base self.old self.new }
     {
         let Load {
-            epoch,
-            batch,
+            taken,
             past,
             first,
             number,
         } = load;
-        let count = u64::from(batch.count());
+        let count = u64::from(taken.count());
         // The history has this many records, and no sum exceeds that.
         let _ = self.past.len();
-        match self.store.append(batch) {
+        match self.store.append(taken) {
             Ok(receipt) => {
                 self.stored.add(rt, mark, count);
                 Ok((receipt, self.stored.stored(mark)))
             }
-            Err((fault, batch)) => {
+            Err((fault, taken)) => {
                 let load = Load {
-                    epoch,
-                    batch,
+                    taken,
                     past,
                     first,
                     number,

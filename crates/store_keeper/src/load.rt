@@ -1,13 +1,11 @@
 use history::{Founding, Past};
-use journal::Batch;
 use std::marker::Model;
-use store_half::Cut;
+use store_half::{Cut, Taken};
 
 /// Records of one epoch that were taken to be stored, with the history up to them. It can't be copied.
 #[derive(Drop)]
 pub struct Load<L: Founding> {
-    pub epoch: u64,
-    pub batch: Batch,
+    pub taken: Taken,
     pub past: Past<L>,
 
     // Where the first one stands in the history, and its number in the epoch.
@@ -23,16 +21,16 @@ impl<L: Founding> Model for Load<L> {
     ghost coded = { load_code };
 
     ghost view = { λ l. record {
-      epoch = l.epoch;
-      batch = l.batch;
+      epoch = l.taken.epoch;
+      batch = l.taken.batch;
       entries = l.past.entries;
       first = l.first;
       number = l.number;
     } };
 
     ghost invariant = { λ l. IsLoad L.base (record {
-      epoch = l.epoch;
-      batch = l.batch;
+      epoch = l.taken.epoch;
+      batch = l.taken.batch;
       entries = l.past.entries;
       first = l.first;
       number = l.number;

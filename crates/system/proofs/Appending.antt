@@ -3,6 +3,7 @@ use Rattle.std.proofs.Common.{◌≡◌, ◌⊎◌, inl, inr, ℕ, ◌+◌, ◌�
 use Rattle.codes.specs.declared.limits.TheConstants.{MAX_RECORDS}
 use Rattle.disk.specs.Moments.{View, Follows, IsSynced}
 use Rattle.disk.specs.Slots.{Slots}
+use Rattle.epoch_log.specs.Logs.{TakenValue}
 use Rattle.ipc_laws.specs.RunLaws.{run_split}
 use Rattle.ipc_model.specs.calls.Step.{Run}
 use Rattle.ipc_model.specs.declared.record.Record.{Record}
@@ -22,7 +23,6 @@ use Rattle.slot_steps.specs.Steps.{segment_slot}
 use Rattle.store_half.specs.Values.{CheckpointValue, StoreValue}
 use Rattle.system.specs.Changes.{CannotAppend, FailsToStore, FindsFull, Stores}
 use Rattle.system.specs.Core.{BatchBetween, Between, Checkpoints, HasPlace, IsBeforeEpoch, IsInEpoch, IsInUse, KeepsStored, StandsFor, StandsFrom, SystemValue, in_turn}
-use Rattle.system.specs.Halves.{TakenValue}
 use Rattle.system.proofs.Between.{batch_is_out, none_to_append, one_more_receipt, some_is}
 use Rattle.system.proofs.Lists.{drop_long, drop_sum, take_long, take_sum}
 use Rattle.system.proofs.Logs.{are_drop, are_take, fit_drop, fit_take}

@@ -6,6 +6,7 @@ use Rattle.std.specs.FinMap as finmap
 use Rattle.std.proofs.lemmas.List.{append-nil}
 use Rattle.codes.specs.declared.limits.TheConstants.{MAX_RECORDS}
 use Rattle.disk.specs.Moments.{View, IsSynced}
+use Rattle.epoch_log.specs.Logs.{EpochLogValue, TakenValue, entry_of, with_record}
 use Rattle.ipc_laws.specs.MapLaws.{get-here}
 use Rattle.ipc_model.specs.calls.Step.{Step, has_record}
 use Rattle.ipc_model.specs.declared.call.Call.{Call}
@@ -24,7 +25,7 @@ use Rattle.store_half.specs.Changes.{IsAppended, PassesAppend}
 use Rattle.store_half.specs.Values.{StoreValue}
 use Rattle.system.specs.Changes.{Answers, FailsToStore, FindsFull, HandsIn, IsNotDue, Submits, Takes}
 use Rattle.system.specs.Core.{SystemValue, TicketsValue}
-use Rattle.system.specs.Halves.{CannotTake, KernelValue, EpochLogValue, TakenValue, TakesBatch, TicketValue, entry_of, with_receipt, with_record}
+use Rattle.system.specs.Halves.{CannotTake, KernelValue, TakesBatch, TicketValue, with_receipt}
 
 pub if_err_from : {T E : Type 0} (r : Result T E) (was : E) (P : E → Type 0) → IsErrAnd r (λ fault. fault ≡ was)
     → P was → IfErr r P

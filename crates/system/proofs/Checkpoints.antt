@@ -2,6 +2,7 @@
 use Rattle.std.proofs.Common.{◌≡◌, inl, inr, ℕ, ◌+◌, ◌-◌, ◌≤◌, ◌<◌, Bool, true, false, List, [], ◌∷◌, ◌++◌, length, take, drop, Option, None, Some, refl, sym, ap, subst, ◌∙◌, arith}
 use Rattle.std.specs.Prelude.{max, is_none}
 use Rattle.disk.specs.Moments.{View, Passes}
+use Rattle.epoch_log.specs.Logs.{next_log}
 use Rattle.ipc_laws.specs.StepsKeep.{one_run}
 use Rattle.ipc_model.specs.calls.Step.{Run}
 use Rattle.ipc_model.specs.declared.record.Record.{Record}
@@ -22,7 +23,7 @@ use Rattle.store_half.specs.Changes.{CanFinish, CanOpen, ClosesImage, FailsToClo
 use Rattle.store_half.specs.Values.{CheckpointValue, CutValue, StoreValue, begun}
 use Rattle.system.specs.Changes.{BeginsEpoch, FinishesImage}
 use Rattle.system.specs.Core.{Checkpoints, HasPlace, IsBeforeEpoch, IsFinishedCheckpoint, IsInEpoch, IsInUse, IsSameCheckpoint, KeepsStored, StandsFor, StandsFrom, SystemValue, in_turn}
-use Rattle.system.specs.Halves.{CanCut, Cuts, KernelValue, next_log}
+use Rattle.system.specs.Halves.{CanCut, Cuts, KernelValue}
 use Rattle.system.proofs.Between.{between_with, handed_within, one_finished_more, some_is}
 use Rattle.system.proofs.Lists.{take_end, take_long}
 use Rattle.system.proofs.Logs.{drop_past, fit_take, holds_as, holds_none}

@@ -4,12 +4,13 @@ use Rattle.std.specs.Prelude.{IsErrOf, MatchBool, if◌then◌else◌}
 use Rattle.std.proofs.Math.Dec.{leb}
 use Rattle.std.proofs.lemmas.List.{take_at}
 use Rattle.std.proofs.lemmas.Bool.Decides.{leb_tells}
+use Rattle.epoch_log.specs.Logs.{EpochLogValue, entry_of, log_after, with_record}
 use Rattle.ipc_model.specs.calls.Step.{has_record}
 use Rattle.ipc_model.specs.declared.call.Call.{Call}
 use Rattle.ipc_model.specs.declared.call.Reply.{Reply}
 use Rattle.ipc_model.specs.encodings.Encodings.{record_encoding}
 use Rattle.journal.specs.Batch.{without_last}
-use Rattle.system.specs.Halves.{CanCut, KernelValue, EpochLogValue, entry_of, log_after, with_record}
+use Rattle.system.specs.Halves.{CanCut, KernelValue}
 use Rattle.system.specs.declared.kernel_half.SubmitFault.{SubmitFault}
 use Rattle.system.specs.declared.kernel_half.SubmitFault.TheVariants as fault
 

@@ -2,6 +2,7 @@
 use Rattle.std.proofs.Common.{◌≡◌, inl, inr, ℕ, ◌+◌, ◌≤◌, ◌<◌, Bool, true, false, Option, None, Some, refl, sym, ap, subst, ◌∙◌, arith}
 use Rattle.std.specs.Prelude.{if◌then◌else◌}
 use Rattle.std.specs.FinMap as finmap
+use Rattle.epoch_log.specs.Logs.{EpochLogValue, TakenValue, entry_of, with_record}
 use Rattle.ipc_model.specs.calls.Step.{has_record}
 use Rattle.ipc_model.specs.declared.call.Call.{Call}
 use Rattle.ipc_model.specs.declared.record.Record.{Record}
@@ -10,7 +11,7 @@ use Rattle.journal.specs.Batch.{BatchValue}
 use Rattle.journal.specs.declared.segment.Segment.{Segment}
 use Rattle.store_half.specs.Values.{CheckpointValue, CutValue, StoreValue, begun}
 use Rattle.system.specs.Core.{SystemValue, TicketsValue, first_system}
-use Rattle.system.specs.Halves.{Cuts, Gives, KernelValue, EpochLogValue, TakenValue, TakesBatch, TicketValue, entry_of, with_receipt, with_record}
+use Rattle.system.specs.Halves.{Cuts, Gives, KernelValue, TakesBatch, TicketValue, with_receipt}
 use Rattle.system.specs.Order.{IsInOrder, IsOut, stored_out, taken_out}
 use Rattle.system.proofs.Between.{some_is}
 use Rattle.system.proofs.Tickets.{none_fresh}

@@ -5,6 +5,7 @@ use Rattle.std.proofs.lemmas.Bool.{cases_eq, le-ltb, lt-ltb}
 use Rattle.std.specs.FinMap as finmap
 use Rattle.disk.specs.Moments.{View, MayLeave, Passes}
 use Rattle.disk.specs.Slots.{Slots}
+use Rattle.epoch_log.specs.Logs.{TakenValue}
 use Rattle.ipc_laws.specs.MapLaws.{get-here, get-there, get-gone, get-left}
 use Rattle.ipc_model.specs.calls.Step.{Run, has_record}
 use Rattle.ipc_model.specs.declared.call.Call.{Call}
@@ -24,7 +25,7 @@ use Rattle.system.specs.Core.{AreTickets, Between, Checkpoints, HasPlace, IsAppl
 use Rattle.system.specs.Events.{event_of, outcome_of}
 use Rattle.system.specs.declared.event.Event.{Event}
 use Rattle.system.specs.declared.event.Outcome.{Outcome}
-use Rattle.system.specs.Halves.{CannotTake, Gives, KernelValue, TakenValue, TicketValue, with_receipt}
+use Rattle.system.specs.Halves.{CannotTake, Gives, KernelValue, TicketValue, with_receipt}
 use Rattle.system.proofs.Between.{append_first, between_with, finish_first, handed_within, nothing_out, receipt_is_out, some_batch, some_is}
 use Rattle.system.proofs.Lists.{answered_here, answered_long, answered_other, drop_long, got_last, got_other, seen_answered, seen_given, take_long}
 use Rattle.system.proofs.Logs.{Grows, drop_at_end, drop_past, drop_take, grown, empty_holds, holds_as, holds_none, take_rest}

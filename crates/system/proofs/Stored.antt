@@ -2,7 +2,7 @@
 use Rattle.std.proofs.Common.{◌≡◌, ◌⊎◌, inl, inr, ℕ, ◌+◌, ◌<◌, true, false, Option, None, Some, sym, ap, subst, ◌∙◌}
 use Rattle.codes.specs.declared.limits.TheConstants.{MAX_RECORDS}
 use Rattle.disk.specs.Moments.{View, IsSynced}
-use Rattle.journal.specs.Batch.{BatchValue}
+use Rattle.epoch_log.specs.Logs.{TakenValue}
 use Rattle.store_fault.specs.declared.fault.StoreFault.{StoreFault}
 use Rattle.store_fault.specs.declared.fault.StoreFault.TheVariants.{Device, Failed, Full}
 use Rattle.journal.specs.declared.segment.Segment.{Segment}
@@ -11,23 +11,21 @@ use Rattle.store_half.specs.Changes.{IsAppended, PassesAppend}
 use Rattle.store_half.specs.Values.{StoreValue}
 use Rattle.system.specs.Changes.{FailsToStore, FindsFull, Stores}
 use Rattle.system.specs.Core.{SystemValue}
-use Rattle.system.specs.Halves.{TakenValue}
 use Rattle.system.specs.Order.{IsInOrder, IsOut, stored_out, taken_out}
 
-module _ {D : Type 0} (honest : Type 0) (view : D → View) (old : SystemValue D) (epoch : ℕ) (batch : BatchValue)
-    (store : StoreValue D)
-    (out : old.out ≡ Some (record { epoch = epoch; batch = batch })) (in_use : epoch ≡ old.store.segment.epoch)
+module _ {D : Type 0} (honest : Type 0) (view : D → View) (old : SystemValue D) (taken : TakenValue)
+    (store : StoreValue D) (out : old.out ≡ Some taken) (in_use : taken.epoch ≡ old.store.segment.epoch)
     (unfailed : old.store.failed ≡ false) (under_way : store.checkpoint ≡ old.store.checkpoint)
     (passes : honest → IsSynced (view old.store.disk) (segment_slot old.store.segment.epoch)
-    → PassesAppend old.store.segment.epoch (view old.store.disk) (view store.disk) batch) where
+    → PassesAppend old.store.segment.epoch (view old.store.disk) (view store.disk) taken.batch) where
   pub stores : (left : Option TakenValue) (size : ℕ) (receipt : Option ℕ) → left ≡ None → receipt ≡ Some size
-      → (size ≡ batch.count) × (store.segment
-      ≡ record old.store.segment { records = old.store.segment.records + batch.count }) × (store.failed ≡ false)
-      → (honest → IsAppended old.store.segment.epoch (view old.store.disk).seen (view store.disk).seen batch)
+      → (size ≡ taken.batch.count) × (store.segment
+      ≡ record old.store.segment { records = old.store.segment.records + taken.batch.count }) × (store.failed ≡ false)
+      → (honest → IsAppended old.store.segment.epoch (view old.store.disk).seen (view store.disk).seen taken.batch)
       → (honest → IsSynced (view store.disk) (segment_slot old.store.segment.epoch))
       → Stores honest view old (record old { store = store; out = left; receipt = receipt; finished_first = true })
   stores left size receipt none some counted stored synced = record {
-    taken = record { epoch = epoch; batch = batch };
+    taken = taken;
     out = out;
     in_use = in_use;
     unfailed = unfailed;
@@ -49,18 +47,17 @@ module _ {D : Type 0} (honest : Type 0) (view : D → View) (old : SystemValue D
   }
 
   -- or how a fault changes it, with which the batch came back
-  module _ (left : Option TakenValue) (back : BatchValue) (fault : StoreFault)
-      (again : left ≡ Some (record { epoch = epoch; batch = back })) (same : back ≡ batch)
+  module _ (left : Option TakenValue) (back : TakenValue) (fault : StoreFault) (again : left ≡ Some back) (same : back ≡ taken)
       (device : fault ≡ Device → (store.failed ≡ true) × (store.segment ≡ old.store.segment))
       (faults : (fault ≡ Device) ⊎ (((fault ≡ Failed) ⊎ (fault ≡ Full)) × (store ≡ old.store))) where
     is_out : left ≡ old.out
-    is_out = again ∙ ap (λ (b : BatchValue). Some (record { epoch = epoch; batch = b })) same ∙ sym out
+    is_out = again ∙ ap Some same ∙ sym out
 
     whole : store ≡ old.store → record old { store = store; out = left } ≡ old
     whole is = λ i. record old { store = is i; out = is_out i }
 
     pub fails : (fault ≡ Failed → old.store.failed ≡ true)
-        → (fault ≡ Full → MAX_RECORDS < old.store.segment.records + batch.count)
+        → (fault ≡ Full → MAX_RECORDS < old.store.segment.records + taken.batch.count)
         → ((fault ≡ Failed) × (old.store.failed ≡ true) × (record old { store = store; out = left } ≡ old))
         ⊎ (((fault ≡ Device) × FailsToStore honest view old (record old { store = store; out = left }))
         ⊎ ((fault ≡ Full) × FindsFull old (record old { store = store; out = left })))
@@ -70,7 +67,7 @@ module _ {D : Type 0} (honest : Type 0) (view : D → View) (old : SystemValue D
           inr (inl (
             is,
             record {
-              taken = record { epoch = epoch; batch = batch };
+              taken = taken;
               out = out;
               in_use = in_use;
               unfailed = unfailed;
@@ -92,7 +89,7 @@ module _ {D : Type 0} (honest : Type 0) (view : D → View) (old : SystemValue D
         | inr is ↦ inr (inr (
           is,
           record {
-            taken = record { epoch = epoch; batch = batch };
+            taken = taken;
             out = out;
             in_use = in_use;
             full = full is;

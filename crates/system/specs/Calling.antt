@@ -2,6 +2,7 @@
 use Rattle.std.specs.Prelude.{◌≡◌, ℕ, ◌+◌, ◌<◌, true, false, [], ◌∷◌, None, is_some, if◌then◌else◌}
 use Rattle.codes.specs.declared.limits.TheConstants.{MAX_RECORDS}
 use Rattle.disk.specs.Moments.{View, IsSynced}
+use Rattle.epoch_log.specs.Logs.{entry_of}
 use Rattle.ipc_model.specs.calls.Step.{Step, has_record}
 use Rattle.ipc_model.specs.declared.call.Call.{Call}
 use Rattle.ipc_model.specs.declared.call.Reply.{Reply}
@@ -11,7 +12,6 @@ use Rattle.slot_steps.specs.Steps.{segment_slot}
 use Rattle.store_half.specs.Changes.{IsAppended, PassesAppend}
 use Rattle.system.specs.Changes.{FailsToStore, HandsIn, Stores, Takes}
 use Rattle.system.specs.Core.{SystemValue}
-use Rattle.system.specs.Halves.{entry_of}
 
 -- Nothing waits: all records are stored, and their receipts were handed in. The segment in use is the epoch's, the
 -- halves agree whether a checkpoint is under way, and the device didn't fail.

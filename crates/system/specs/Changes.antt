@@ -3,13 +3,14 @@ use Rattle.std.specs.Prelude.{◌≡◌, ◌⊎◌, ℕ, ◌+◌, ◌<◌, ◌�
 use Rattle.std.specs.FinMap as finmap
 use Rattle.codes.specs.declared.limits.TheConstants.{MAX_RECORDS}
 use Rattle.disk.specs.Moments.{View, IsSynced}
+use Rattle.epoch_log.specs.Logs.{TakenValue}
 use Rattle.ipc_model.specs.declared.call.Call.{Call}
 use Rattle.ipc_model.specs.declared.call.Reply.{Reply}
 use Rattle.slot_steps.specs.Steps.{segment_slot}
 use Rattle.store_half.specs.Changes.{Finishes, IsAppended, PassesAppend}
 use Rattle.store_half.specs.Values.{CutValue, begun}
 use Rattle.system.specs.Core.{SystemValue}
-use Rattle.system.specs.Halves.{Cuts, Gives, IsFullFor, TakenValue, TakesBatch, TicketValue, with_receipt}
+use Rattle.system.specs.Halves.{Cuts, Gives, IsFullFor, TakesBatch, TicketValue, with_receipt}
 
 module _ {D : Type 0} where
   -- A call was made, and its ticket given.

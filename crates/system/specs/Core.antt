@@ -5,6 +5,7 @@ use Rattle.std.specs.Ordering.{nat_cmp}
 use Rattle.codes.specs.declared.limits.TheConstants.{MAX_RECORDS}
 use Rattle.disk.specs.Moments.{View, MayLeave, Passes}
 use Rattle.disk.specs.Slots.{Slots}
+use Rattle.epoch_log.specs.Logs.{TakenValue}
 use Rattle.ipc_model.specs.calls.Step.{Run}
 use Rattle.ipc_model.specs.declared.record.Record.{Record}
 use Rattle.ipc_model.specs.declared.call.Reply.{Reply}
@@ -22,7 +23,7 @@ use Rattle.checkpoint_phases.specs.Phases.{Keeps}
 use Rattle.store_layout.specs.Gates.{StandForState}
 use Rattle.store_half.specs.Values.{CheckpointValue, StoreValue}
 use Rattle.system.specs.Events.{event_of, outcome_of}
-use Rattle.system.specs.Halves.{KernelValue, TakenValue, TicketValue, first_half}
+use Rattle.system.specs.Halves.{KernelValue, TicketValue, first_half}
 use Rattle.system.specs.declared.event.Event.{Event}
 use Rattle.system.specs.declared.event.Outcome.{Outcome}
 use Rattle.system.specs.declared.event.Outcome.TheVariants as outcome

@@ -1,56 +1,19 @@
 -- What clauses see of the half that makes calls.
-use Rattle.std.specs.Prelude.{◌≡◌, ◌⊎◌, ℕ, ◌+◌, ◌-◌, ◌^◌, ◌<◌, ◌≤◌, Bool, true, false, Option, None, Some, if◌then◌else◌, refl}
+use Rattle.std.specs.Prelude.{◌≡◌, ◌⊎◌, ℕ, ◌+◌, ◌-◌, ◌^◌, ◌<◌, ◌≤◌, Bool, true, false, Option, None, Some, refl}
 use Rattle.std.specs.Coded.{Coded, code_by, coded×, coded_ℕ, coded_bool}
 use Rattle.codes.specs.declared.kern_return.KernReturn.{KernReturn}
 use Rattle.codes.specs.declared.limits.TheConstants.{MAX_RECORDS}
+use Rattle.epoch_log.specs.Logs.{EpochLogValue, TakenValue, entry_of, log_after, log_code, next_log}
 use Rattle.ipc_model.specs.calls.Step.{Step, has_record}
 use Rattle.ipc_model.specs.declared.call.Call.{Call}
 use Rattle.ipc_model.specs.declared.call.Reply.{Reply}
 use Rattle.ipc_model.specs.declared.call.Reply.TheVariants as reply
-use Rattle.ipc_model.specs.declared.record.Record.{Record}
 use Rattle.ipc_model.specs.state.State.{State}
 use Rattle.ipc_model.specs.state.StateCode.{state_code}
 use Rattle.ipc_model.specs.store.Recovery.{IsImageOf}
-use Rattle.ipc_model.specs.encodings.Encodings.{canonical_record, record_encoding, FitsCall, IsRecord}
-use Rattle.journal.specs.Batch.{BatchValue, batch_code, empty_batch, with_encoding}
+use Rattle.ipc_model.specs.encodings.Encodings.{canonical_record, FitsCall, IsRecord}
+use Rattle.journal.specs.Batch.{BatchValue, batch_code, empty_batch}
 use Rattle.store_half.specs.Values.{CutValue}
-
--- The log of an epoch: how many records it has, how many were made since the store was opened, in all epochs, and the
--- ones that wait to be taken, the log's last.
-pub record EpochLogValue : Type 0 where
-  pub length : ℕ
-  pub made : ℕ
-  pub waiting : BatchValue
-
-abbrev pub log_code : Coded EpochLogValue
-log_code =
-    code_by (ℕ × (ℕ × BatchValue)) (coded× coded_ℕ (coded× coded_ℕ batch_code)) (λ r. (r.length, (r.made, r.waiting)))
-    (λ p. record { length = p.0; made = p.1.0; waiting = p.1.1 }) (λ _. refl)
-
-abbrev pub entry_of : ℕ → Call → Reply → Record
-entry_of space c answer = record { space = space; call = c; reply = answer }
-
--- one more record, which has the next number
-abbrev pub with_record : EpochLogValue → Record → EpochLogValue
-with_record log entry =
-    record {
-      length = log.length + 1;
-      made = log.made + 1;
-      waiting = with_encoding log.waiting (record_encoding log.length entry);
-    }
-
--- an epoch log after a call with this reply
-abbrev pub log_after : EpochLogValue → ℕ → Call → Reply → EpochLogValue
-log_after log space c answer = if has_record c answer then with_record log (entry_of space c answer) else log
-
--- A record was added to an epoch log, and what is kept of it is one that a segment may hold.
-abbrev pub Wrote : EpochLogValue → ℕ → Call → Reply → EpochLogValue → Type 0
-Wrote old space c answer new =
-    (new ≡ with_record old (entry_of space c answer)) × IsRecord (canonical_record (entry_of space c answer))
-
--- the log of the next epoch, which has no record
-abbrev pub next_log : EpochLogValue → EpochLogValue
-next_log log = record { length = 0; made = log.made; waiting = empty_batch }
 
 -- A ticket: the reply that it keeps, and how many of the records that were made its call saw.
 pub record TicketValue : Type 0 where
@@ -61,16 +24,6 @@ pub record TicketValue : Type 0 where
 abbrev pub message_code : Reply → Option KernReturn
 message_code (reply.Message code size member message) = Some code
 message_code answer = None
-
--- records of one epoch that were taken to be stored
-pub record TakenValue : Type 0 where
-  pub epoch : ℕ
-  pub batch : BatchValue
-
-abbrev pub taken_code : Coded TakenValue
-taken_code =
-    code_by (ℕ × BatchValue) (coded× coded_ℕ batch_code) (λ t. (t.epoch, t.batch))
-    (λ p. record { epoch = p.0; batch = p.1 }) (λ _. refl)
 
 -- The half that makes calls: the state, its epoch, the records of the epoch before that wait to be taken, the epoch
 -- log, how many of the records that were made are stored according to receipts, whether a batch is out, and whether a

@@ -1,9 +1,9 @@
 -- What holds of a core at any time.
 use Rattle.std.specs.Prelude.{◌≡◌, ℕ, ◌+◌, ◌<◌, ◌≤◌, Bool, true, false, Option, None, Some}
 use Rattle.std.specs.FinMap as finmap
+use Rattle.epoch_log.specs.Logs.{TakenValue}
 use Rattle.store_half.specs.Values.{CheckpointValue}
 use Rattle.system.specs.Core.{SystemValue}
-use Rattle.system.specs.Halves.{TakenValue}
 
 -- A batch is out from when it is taken until its receipt is handed in.
 abbrev pub IsOut : Option TakenValue → Option ℕ → Bool → Type 0

@@ -1,17 +1,17 @@
 ghost use Rattle.std.specs.Prelude.{◌≡◌, ◌+◌, ◌-◌, ◌^◌, ◌<◌, ◌≤◌, true, false, length, MatchBool, IfOk, IfErr, IfSome, IfNone, OnErr, IsErrOf};
 ghost use Rattle.codes.specs.declared.limits.TheConstants.{MAX_FRAME_CONTENT, MAX_RECORDS};
+ghost use Rattle.epoch_log.specs.Logs.{Wrote};
 ghost use Rattle.ipc_model.specs.calls.Step.{Step, has_record};
 ghost use Rattle.ipc_model.specs.encodings.Encodings.{reply_encoding};
-ghost use Rattle.system.specs.Halves.{CanCut, CannotTake, Cuts, Gives, IsFullFor, TakesBatch, Wrote, first_half, with_receipt};
+ghost use Rattle.system.specs.Halves.{CanCut, CannotTake, Cuts, Gives, IsFullFor, TakesBatch, first_half, with_receipt};
 ghost use Rattle.waiting.specs.Places.{names};
 ghost use Rattle.waiting.specs.Waiting.{Wakes};
 
 use crate::Ticket;
-use crate::epoch_log::EpochLog;
-use crate::taken::Taken;
 use crate::witness::{Witness, Witnessed};
 use checkpoint_phases::Kernel;
 use codes::MAX_RECORDS;
+use epoch_log::{EpochLog, Taken};
 use image::image_is_of_state;
 use ipc_model::{Call, Reply, call_in_range};
 use journal::Batch;
@@ -46,7 +46,7 @@ pub struct KernelHalf {
     epoch: u64,
 
     // The records of the previous epoch that wait to be taken.
-    older: Batch,
+    older: Taken,
     log: EpochLog,
     handed: u64,
 
@@ -75,7 +75,7 @@ impl Drop for KernelHalf {
 }
 
 impl Model for KernelHalf {
-    ghost use Rattle.std.specs.Prelude.{◌≡◌, ◌<◌, ◌≤◌, ◌^◌, is_none, IfSome};
+    ghost use Rattle.std.specs.Prelude.{◌≡◌, ◌+◌, ◌<◌, ◌≤◌, ◌^◌, is_none, IfSome};
     ghost use Rattle.journal.specs.Batch.{empty_batch};
     ghost use Rattle.system.specs.Halves.{KernelValue, kernel_code};
 
@@ -86,17 +86,17 @@ impl Model for KernelHalf {
     ghost view = { λ k. record {
       kernel = k.kernel;
       epoch = k.epoch;
-      older = k.older;
+      older = k.older.batch;
       log = k.log;
       handed = k.handed;
       is_out = is_none k.spare;
       is_cut = k.is_cut;
     } };
 
-    // If records of the previous epoch wait, this epoch isn't the first.
+    // Records that wait from an earlier epoch are of the one before this.
     ghost invariant = { λ k. (k.handed ≤ k.log.made) × (k.log.made < 2 ^ 64)
         × IfSome k.spare (λ batch. batch ≡ empty_batch)
-        × (0 < k.older.count → 0 < k.epoch) };
+        × (0 < k.older.batch.count → k.older.epoch + 1 ≡ k.epoch) };
 }
 
 impl KernelHalf {
@@ -107,7 +107,7 @@ impl KernelHalf {
         KernelHalf {
             kernel,
             epoch,
-            older: Batch::new(alloc),
+            older: Taken::none(epoch, Batch::new(alloc)),
             log: EpochLog::new(alloc, records),
             handed: 0,
             spare: Some(Batch::new(alloc)),
@@ -256,17 +256,14 @@ impl KernelHalf {
     {
         if self.older.count() > 0 {
             let empty = self.spare.take()?;
-            let epoch = self.epoch - 1;
-            let batch = std::mem::replace(&mut self.older, empty);
-            return Some(Taken { epoch, batch });
+            let none = Taken::none(self.epoch, empty);
+            return Some(std::mem::replace(&mut self.older, none));
         }
         if self.log.waiting() == 0 {
             return None;
         }
         let empty = self.spare.take()?;
-        let epoch = self.epoch;
-        let batch = self.log.take(empty);
-        Some(Taken { epoch, batch })
+        Some(self.log.take(self.epoch, empty))
     }
 
     /// Learns that the records of the batch that was out are stored.
@@ -292,7 +289,7 @@ impl KernelHalf {
         image_is_of_state();
         self.kernel.show_image();
         let log = self.log.len();
-        self.older = self.log.end();
+        self.older = self.log.end(self.epoch);
         self.epoch += 1;
         self.is_cut = true;
         Ok(Some(Cut::new(snapshot, self.epoch, log)))

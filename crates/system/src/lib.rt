@@ -2,22 +2,20 @@
 #![tactic(auto)]
 
 mod checkpointing;
-mod epoch_log;
 mod event;
 mod going_on;
 mod kernel_half;
 mod laws;
 mod stepping;
 mod system;
-mod taken;
 mod ticket;
 mod witness;
 
 pub use checkpoint_phases::{Kernel, Opened, open};
+pub use epoch_log::Taken;
 pub use event::{Event, Outcome};
 pub use kernel_half::{KernelHalf, SubmitFault};
 pub use laws::crashes_keep_calls;
 pub use system::{CallFault, System};
-pub use taken::Taken;
 pub use ticket::Ticket;
 pub use witness::Witness;

@@ -12,10 +12,10 @@ ghost use Rattle.system.specs.Faults.{NotCalled};
 ghost use Rattle.system.specs.Halves.{CannotTake, TicketValue};
 
 use crate::kernel_half::{KernelHalf, SubmitFault};
-use crate::taken::Taken;
 use crate::ticket::Tickets;
 use checkpoint_phases::Opened;
 use disk::Disk;
+use epoch_log::Taken;
 use ipc_model::{Call, Reply};
 use std::alloc::Global;
 use std::marker::Model;
@@ -229,19 +229,18 @@ impl<D: Disk> System<D> {
         let Some(taken) = self.out.take() else {
             return Ok(false);
         };
-        if taken.epoch != self.store.epoch() {
+        if taken.epoch() != self.store.epoch() {
             drop(self.out.replace(taken));
             return Ok(false);
         }
-        let Taken { epoch, batch } = taken;
-        match self.store.append(batch) {
+        match self.store.append(taken) {
             Ok(receipt) => {
                 drop(self.receipt.replace(receipt));
                 self.finished_first = true;
                 Ok(true)
             }
-            Err((fault, batch)) => {
-                drop(self.out.replace(Taken { epoch, batch }));
+            Err((fault, taken)) => {
+                drop(self.out.replace(taken));
                 Err(fault)
             }
         }

@@ -2,8 +2,8 @@ ghost use Rattle.std.specs.Prelude.{◌≡◌, ℕ, OnOk, OnErr};
 ghost use Rattle.ipc_model.specs.declared.call.Call.{Call};
 ghost use Rattle.ipc_model.specs.declared.call.Reply.{Reply};
 
-use crate::epoch_log::EpochLog;
 use checkpoint_phases::Recorder;
+use epoch_log::EpochLog;
 use ipc_model::{Call, Reply};
 use std::alloc::AllocError;
 
@@ -28,7 +28,7 @@ pub(crate) struct Witnessed<W: Witness> {
 impl<W: Witness> Recorder for Witnessed<W> {
     ghost use Rattle.std.specs.Prelude.{◌-◌, ◌<◌, ◌^◌};
     ghost use Rattle.codes.specs.declared.limits.TheConstants.{MAX_RECORDS};
-    ghost use Rattle.system.specs.Halves.{Wrote};
+    ghost use Rattle.epoch_log.specs.Logs.{Wrote};
 
     ghost has_room = { λ w. (w.log.length < MAX_RECORDS) × (w.log.made < 2 ^ 64 - 1) };
 

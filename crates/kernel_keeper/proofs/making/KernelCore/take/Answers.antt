@@ -76,8 +76,8 @@ invariant_of-result g c =
     (nat_lt (c.epoch.ensures i) (c.epoch-epoch.ensures i))) in
     subst (IsLoad g.L.Founding.base)
     (λ i. record {
-      epoch = sym c.epoch-2.ensures i;
-      batch = sym c.into_batch.ensures i;
+      epoch = t.epoch;
+      batch = t.batch;
       entries = entries;
       first = s.taken;
       number = sym number i;

@@ -14,8 +14,8 @@ invariant_of-self g c =
     } in
     let load : LoadValue =
     record {
-      epoch = c.load.inside.epoch;
-      batch = c.load.inside.batch;
+      epoch = c.load.inside.taken.epoch;
+      batch = c.load.inside.taken.batch;
       entries = c.load.inside.past.entries;
       first = c.load.inside.first;
       number = c.load.inside.number;
@@ -45,8 +45,8 @@ invariant_of-self-in-Err g c =
     } in
     let load : LoadValue =
     record {
-      epoch = c.load.inside.epoch;
-      batch = c.load.inside.batch;
+      epoch = c.load.inside.taken.epoch;
+      batch = c.load.inside.taken.batch;
       entries = c.load.inside.past.entries;
       first = c.load.inside.first;
       number = c.load.inside.number;
@@ -72,8 +72,8 @@ returns-in-Ok-clause-any_moment g c =
     } in
     let load : LoadValue =
     record {
-      epoch = c.load.inside.epoch;
-      batch = c.load.inside.batch;
+      epoch = c.load.inside.taken.epoch;
+      batch = c.load.inside.taken.batch;
       entries = c.load.inside.past.entries;
       first = c.load.inside.first;
       number = c.load.inside.number;
@@ -100,8 +100,8 @@ returns-in-Err-clause-any_moment g c =
     } in
     let load : LoadValue =
     record {
-      epoch = c.load.inside.epoch;
-      batch = c.load.inside.batch;
+      epoch = c.load.inside.taken.epoch;
+      batch = c.load.inside.taken.batch;
       entries = c.load.inside.past.entries;
       first = c.load.inside.first;
       number = c.load.inside.number;

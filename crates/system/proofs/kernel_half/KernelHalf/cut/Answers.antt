@@ -1,11 +1,12 @@
 use Rattle.std.proofs.Common.{rules, ◌≡◌, ◌+◌, ◌-◌, ◌<◌, ◌^◌, refl, true, ap, subst, ◌∙◌}
 use Rattle.std.specs.Prelude.{is_none}
 use Rattle.codes.specs.StoreVersion.{current}
+use Rattle.epoch_log.specs.Logs.{next_log}
 use Rattle.ipc_model.specs.state.State.{State}
 use Rattle.ipc_model.specs.store.Recovery.{IsImageOf}
 use Rattle.image.specs.Rows.{snapshot_encoding}
 use Rattle.store_half.specs.Values.{CutValue}
-use Rattle.system.specs.Halves.{KernelValue, next_log}
+use Rattle.system.specs.Halves.{KernelValue}
 use Rattle.system.proofs.Making.{can_cut, with_fault}
 use Rattle.system.proofs.kernel_half.KernelHalf.cut.Goals as goal
 
@@ -14,7 +15,7 @@ returns-in_err-snapshot-clause-err c =
     let old = c.self.view_is in
     let next : c.self.inside.epoch < 2 ^ 64 - 1 = search rules in
     let can =
-    can_cut c.self.inside.is_cut c.self.inside.epoch c.self.inside.older.count c.args.self.now
+    can_cut c.self.inside.is_cut c.self.inside.epoch c.self.inside.older.batch.count c.args.self.now
     (ap (λ (k : KernelValue). k.is_cut) old) (ap (λ (k : KernelValue). k.epoch) old)
     (ap (λ (k : KernelValue). k.older.count) old)
     c.if-self.false next c.count.result c.count.ensures c.if-count-gt0.false in
@@ -25,7 +26,7 @@ returns-clause-cut c =
     let old = c.self.view_is in
     let next : c.self.inside.epoch < 2 ^ 64 - 1 = search rules in
     let can =
-    can_cut c.self.inside.is_cut c.self.inside.epoch c.self.inside.older.count c.args.self.now
+    can_cut c.self.inside.is_cut c.self.inside.epoch c.self.inside.older.batch.count c.args.self.now
     (ap (λ (k : KernelValue). k.is_cut) old) (ap (λ (k : KernelValue). k.epoch) old)
     (ap (λ (k : KernelValue). k.older.count) old)
     c.if-self.false next c.count.result c.count.ensures c.if-count-gt0.false in
@@ -50,7 +51,7 @@ returns-clause-cut c =
           (λ i. record {
             kernel = c.self.inside.kernel;
             epoch = c.self.inside.epoch + 1;
-            older = c.end.ensures.taken i;
+            older = (c.end.ensures.taken i).batch;
             log = c.end.ensures.left i;
             handed = c.self.inside.handed;
             is_out = is_none c.self.inside.spare;

@@ -9,7 +9,7 @@ returns c =
     (λ i. record {
       kernel = inside.kernel;
       epoch = inside.epoch;
-      older = inside.older;
+      older = inside.older.batch;
       log = inside.log;
       handed = inside.handed + (c.from.ensures ∙ c.count.ensures) i;
       is_out = is_none (c.replace.ensures.after i);

@@ -2,9 +2,10 @@ use Rattle.std.proofs.Common.{rules, ◌≤◌, ◌<◌, ◌^◌, Err, ap, sym, 
 use Rattle.std.specs.Prelude.{is_none}
 use Rattle.std.proofs.lemmas.Result.{err_from_is_err_and}
 use Rattle.codes.specs.declared.limits.TheConstants.{MAX_RECORDS}
+use Rattle.epoch_log.specs.Logs.{EpochLogValue, log_after}
 use Rattle.ipc_model.specs.calls.Step.{Step}
 use Rattle.ipc_model.specs.state.State.{State}
-use Rattle.system.specs.Halves.{KernelValue, EpochLogValue, log_after}
+use Rattle.system.specs.Halves.{KernelValue}
 use Rattle.system.proofs.Making.{memory_no_full, no_fewer, log_is_after, with_fault}
 use Rattle.system.proofs.kernel_half.KernelHalf.submit.Goals as goal
 
@@ -30,7 +31,7 @@ returns-in_err-reply-clause-err c =
     ((λ i. record {
       kernel = err.0 i;
       epoch = c.self.inside.epoch;
-      older = c.self.inside.older;
+      older = c.self.inside.older.batch;
       log = err.1 i;
       handed = c.self.inside.handed;
       is_out = is_none c.self.inside.spare;

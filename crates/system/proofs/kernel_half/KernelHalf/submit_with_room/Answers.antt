@@ -1,8 +1,9 @@
 use Rattle.std.proofs.Common.{◌≤◌, ◌<◌, ◌^◌, ap, sym, subst, ◌∙◌}
+use Rattle.epoch_log.specs.Logs.{EpochLogValue, log_after}
 use Rattle.ipc_model.specs.state.State.{State}
 use Rattle.ipc_model.specs.calls.Step.{Step}
 use Rattle.std.specs.Prelude.{is_none}
-use Rattle.system.specs.Halves.{KernelValue, EpochLogValue, log_after}
+use Rattle.system.specs.Halves.{KernelValue}
 use Rattle.system.proofs.Making.{no_fewer, log_is_after}
 use Rattle.waiting.specs.Places.{names}
 use Rattle.waiting.specs.Waiting.{Wakes}
@@ -24,7 +25,7 @@ returns-in-Err-clause-err g c =
       (λ i. record {
         kernel = err.0 i;
         epoch = c.self.inside.epoch;
-        older = c.self.inside.older;
+        older = c.self.inside.older.batch;
         log = err.1 i;
         handed = c.self.inside.handed;
         is_out = is_none c.self.inside.spare;

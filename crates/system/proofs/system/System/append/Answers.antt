@@ -1,4 +1,4 @@
-use Rattle.std.proofs.Common.{◌≡◌, ◌⊎◌, true, Some, sym, ap, subst, ◌∙◌}
+use Rattle.std.proofs.Common.{◌≡◌, ◌⊎◌, true, sym, subst, ◌∙◌}
 use Rattle.system.specs.Changes.{FailsToStore, FindsFull, Stores}
 use Rattle.system.specs.Core.{SystemValue}
 use Rattle.store_fault.specs.declared.fault.StoreFault.TheVariants.{Device, Failed, Full}
@@ -8,7 +8,6 @@ use Rattle.system.proofs.system.System.append.Goals as goal
 pub returns-in-Ok-clause-done : goal.returns-in-Ok-clause-done
 returns-in-Ok-clause-done g c =
     let inside = c.self.inside in
-    let taken = c.taken.inside in
     let old : SystemValue _ =
     record {
       core = inside.core;
@@ -28,8 +27,8 @@ returns-in-Ok-clause-done g c =
     } in
     let done = c.in-Ok.ensures in
     subst (λ (s : SystemValue _). Stores g.D.Disk.honest g.D.Disk.view s new) c.self.view_is
-    (stores g.D.Disk.honest g.D.Disk.view old taken.epoch taken.batch c.append.new.self
-    (sym c.in-Some.ensures.value ∙ ap Some (sym c.taken.view_is)) (c.if-taken-epoch.false ∙ c.epoch.ensures)
+    (stores g.D.Disk.honest g.D.Disk.view old c.in-Some.taken c.append.new.self
+    (sym c.in-Some.ensures.value) (sym c.epoch.ensures ∙ c.if-epoch.false ∙ c.epoch-2.ensures)
     (sym c.has_failed.ensures ∙ c.if-has_failed.false) done.under_way done.any_moment
     c.take.new.self c.in-Ok.receipt c.replace-in-Ok.new.self c.take.ensures.after c.replace-in-Ok.ensures.after
     done.counted done.stored done.synced)
@@ -37,7 +36,6 @@ returns-in-Ok-clause-done g c =
 pub invariant_of-self-in-Err : goal.invariant_of-self-in-Err
 invariant_of-self-in-Err g c =
     let inside = c.self.inside in
-    let taken = c.taken.inside in
     let old : SystemValue _ =
     record {
       core = inside.core;
@@ -49,16 +47,15 @@ invariant_of-self-in-Err g c =
       tickets = inside.tickets;
     } in
     let left = c.in-Err.ensures in
-    fails_in_order g.D.Disk.honest g.D.Disk.view old taken.epoch taken.batch c.append.new.self
-    (sym c.in-Some.ensures.value ∙ ap Some (sym c.taken.view_is)) (c.if-taken-epoch.false ∙ c.epoch.ensures)
+    fails_in_order g.D.Disk.honest g.D.Disk.view old c.in-Some.taken c.append.new.self
+    (sym c.in-Some.ensures.value) (sym c.epoch.ensures ∙ c.if-epoch.false ∙ c.epoch-2.ensures)
     (sym c.has_failed.ensures ∙ c.if-has_failed.false) left.under_way left.any_moment
-    c.replace-in-Err.new.self c.in-Err.batch c.in-Err.fault c.replace-in-Err.ensures.after left.back
+    c.replace-in-Err.new.self c.in-Err.taken c.in-Err.fault c.replace-in-Err.ensures.after left.back
     (λ is. let acknowledged = left.device is in (acknowledged.0, acknowledged.2)) left.faults c.self.invariant
 
 pub returns-in-Err-clause-faults : goal.returns-in-Err-clause-faults
 returns-in-Err-clause-faults g c =
     let inside = c.self.inside in
-    let taken = c.taken.inside in
     let old : SystemValue _ =
     record {
       core = inside.core;
@@ -74,9 +71,9 @@ returns-in-Err-clause-faults g c =
     subst (λ (s : SystemValue _). ((c.in-Err.fault ≡ Failed) × (s.store.failed ≡ true) × (new ≡ s))
     ⊎ (((c.in-Err.fault ≡ Device) × FailsToStore g.D.Disk.honest g.D.Disk.view s new)
     ⊎ ((c.in-Err.fault ≡ Full) × FindsFull s new))) c.self.view_is
-    (fails g.D.Disk.honest g.D.Disk.view old taken.epoch taken.batch c.append.new.self
-    (sym c.in-Some.ensures.value ∙ ap Some (sym c.taken.view_is)) (c.if-taken-epoch.false ∙ c.epoch.ensures)
+    (fails g.D.Disk.honest g.D.Disk.view old c.in-Some.taken c.append.new.self
+    (sym c.in-Some.ensures.value) (sym c.epoch.ensures ∙ c.if-epoch.false ∙ c.epoch-2.ensures)
     (sym c.has_failed.ensures ∙ c.if-has_failed.false) left.under_way left.any_moment
-    c.replace-in-Err.new.self c.in-Err.batch c.in-Err.fault c.replace-in-Err.ensures.after left.back
+    c.replace-in-Err.new.self c.in-Err.taken c.in-Err.fault c.replace-in-Err.ensures.after left.back
     (λ is. let acknowledged = left.device is in (acknowledged.0, acknowledged.2)) left.faults
     (λ is. left.failed.0 is) (λ is. (left.full.0 is).1))

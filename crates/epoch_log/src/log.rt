@@ -4,20 +4,20 @@ ghost use Rattle.ipc_laws.specs.RecordedSteps.{IsAnsweredWhole};
 ghost use Rattle.ipc_model.specs.calls.Step.{has_record};
 ghost use Rattle.ipc_model.specs.encodings.Encodings.{record_encoding};
 ghost use Rattle.journal.specs.Batch.{empty_batch, without_last};
-ghost use Rattle.system.specs.Halves.{Wrote, entry_of, next_log};
+ghost use Rattle.epoch_log.specs.Logs.{Wrote, entry_of, next_log};
 
-use checkpoint_phases::Recorder;
+use crate::taken::Taken;
 use codes::MAX_RECORDS;
 use ipc_model::{Call, Reply};
 use journal::Batch;
+use kernel::Recorder;
 use record::{in_range, push_exchange};
 use std::alloc::{AllocError, Global};
 use std::marker::Model;
 
 /// An epoch log: the records that an epoch's segment holds or will hold. It keeps those that wait to be taken, encoded
 /// as they are stored.
-#[derive(Drop)]
-pub(crate) struct EpochLog {
+pub struct EpochLog {
     alloc: Global,
     length: u64,
 
@@ -29,10 +29,25 @@ pub(crate) struct EpochLog {
     encoding: Vec<u8>,
 }
 
+// Written out, so that proofs above know one function and not its parts.
+impl Drop for EpochLog {
+    fn drop(self) {
+        let EpochLog {
+            alloc: _,
+            length: _,
+            made: _,
+            waiting,
+            encoding,
+        } = self;
+        drop(waiting);
+        drop(encoding);
+    }
+}
+
 impl Model for EpochLog {
     ghost use Rattle.std.specs.Prelude.{◌<◌, ◌≤◌};
     ghost use Rattle.codes.specs.declared.limits.TheConstants.{MAX_RECORDS};
-    ghost use Rattle.system.specs.Halves.{EpochLogValue, log_code};
+    ghost use Rattle.epoch_log.specs.Logs.{EpochLogValue, log_code};
 
     ghost Value = { EpochLogValue };
 
@@ -45,7 +60,7 @@ impl Model for EpochLog {
 
 impl EpochLog {
     /// The log of an epoch whose segment holds `length` records. It takes no memory.
-    pub(crate) fn new(alloc: Global, length: u64) -> Self
+    pub fn new(alloc: Global, length: u64) -> Self
         ensures { result ≡ record { length = length; made = 0; waiting = empty_batch } }
     {
         EpochLog {
@@ -58,14 +73,14 @@ impl EpochLog {
     }
 
     /// How many records it has.
-    pub(crate) fn len(&self) -> u64
+    pub fn len(&self) -> u64
         ensures { result ≡ self.now.length }
     {
         self.length
     }
 
     /// How many records were made.
-    pub(crate) fn made(&self) -> u64
+    pub fn made(&self) -> u64
         ensures made { result ≡ self.now.made }
         ensures within { self.now.made < 2 ^ 64 }
     {
@@ -73,7 +88,7 @@ impl EpochLog {
     }
 
     /// How many of its records wait to be taken.
-    pub(crate) fn waiting(&self) -> u32
+    pub fn waiting(&self) -> u32
         ensures { result ≡ self.now.waiting.count }
     {
         self.waiting.count()
@@ -81,12 +96,7 @@ impl EpochLog {
 
     /// Adds the record of a call with this reply, and returns how many bytes its encoding has. If an allocation fails,
     /// nothing changed.
-    pub(crate) fn push(
-        &mut self,
-        space: u32,
-        call: &Call,
-        reply: &Reply,
-    ) -> Result<usize, AllocError>
+    pub fn push(&mut self, space: u32, call: &Call, reply: &Reply) -> Result<usize, AllocError>
         requires room { (self.old.length < MAX_RECORDS) × (self.old.made < 2 ^ 64 - 1) }
         requires whole { IsAnsweredWhole call.now reply.now }
         requires recorded { has_record call.now reply.now ≡ true }
@@ -112,7 +122,7 @@ impl EpochLog {
     }
 
     /// Removes the last record, whose encoding has `size` bytes and which waits.
-    pub(crate) fn remove_last(&mut self, size: usize)
+    pub fn remove_last(&mut self, size: usize)
         requires some { 0 < self.old.waiting.count }
         requires made { 0 < self.old.made }
         requires within { size ≤ length self.old.waiting.body }
@@ -128,7 +138,7 @@ impl EpochLog {
     }
 
     /// Takes the log out, and leaves an empty one.
-    pub(crate) fn take_out(&mut self) -> EpochLog
+    pub fn take_out(&mut self) -> EpochLog
         ensures taken { result ≡ self.old }
         ensures left { self.new ≡ record { length = 0; made = 0; waiting = empty_batch } }
     {
@@ -136,29 +146,31 @@ impl EpochLog {
         std::mem::replace(self, empty)
     }
 
-    /// Takes the records that wait, and puts an empty batch in their place.
-    pub(crate) fn take(&mut self, empty: Batch) -> Batch
+    /// Takes the records that wait, which are of this epoch, and puts an empty batch in their place.
+    pub fn take(&mut self, epoch: u64, empty: Batch) -> Taken
         requires { empty ≡ empty_batch }
-        ensures taken { result ≡ self.old.waiting }
+        ensures taken { result ≡ record { epoch = epoch; batch = self.old.waiting } }
         ensures left { self.new ≡ record self.old { waiting = empty_batch } }
     {
-        std::mem::replace(&mut self.waiting, empty)
+        let batch = std::mem::replace(&mut self.waiting, empty);
+        Taken { epoch, batch }
     }
 
-    /// Takes the records that wait, and becomes the next epoch's log. It takes no memory.
-    pub(crate) fn end(&mut self) -> Batch
-        ensures taken { result ≡ self.old.waiting }
+    /// Takes the records that wait, which are of this epoch, and becomes the next epoch's log. It takes no memory.
+    pub fn end(&mut self, epoch: u64) -> Taken
+        ensures taken { result ≡ record { epoch = epoch; batch = self.old.waiting } }
         ensures left { self.new ≡ next_log self.old }
     {
         self.length = 0;
-        std::mem::replace(&mut self.waiting, Batch::new(self.alloc))
+        let batch = std::mem::replace(&mut self.waiting, Batch::new(self.alloc));
+        Taken { epoch, batch }
     }
 }
 
 impl Recorder for EpochLog {
     ghost use Rattle.std.specs.Prelude.{◌-◌, ◌<◌, ◌^◌};
     ghost use Rattle.codes.specs.declared.limits.TheConstants.{MAX_RECORDS};
-    ghost use Rattle.system.specs.Halves.{Wrote};
+    ghost use Rattle.epoch_log.specs.Logs.{Wrote};
 
     ghost has_room = { λ log. (log.length < MAX_RECORDS) × (log.made < 2 ^ 64 - 1) };
 

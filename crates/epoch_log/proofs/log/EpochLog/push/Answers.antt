@@ -1,8 +1,8 @@
 use Rattle.std.proofs.Common.{rules, ◌≡◌, ◌+◌, ◌++◌, List, ℕ, ap, ◌∙◌}
 use Rattle.ipc_model.specs.encodings.Encodings.{record_encoding}
 use Rattle.journal.specs.Batch.{with_encoding}
-use Rattle.system.specs.Halves.{EpochLogValue, entry_of, with_record}
-use Rattle.system.proofs.epoch_log.EpochLog.push.Goals as goal
+use Rattle.epoch_log.specs.Logs.{EpochLogValue, entry_of, with_record}
+use Rattle.epoch_log.proofs.log.EpochLog.push.Goals as goal
 
 pub returns-clause-ok : goal.returns-clause-ok
 returns-clause-ok c =

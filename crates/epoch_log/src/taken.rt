@@ -1,0 +1,75 @@
+ghost use Rattle.std.specs.Prelude.{◌≡◌};
+ghost use Rattle.journal.specs.Batch.{empty_batch};
+
+use journal::Batch;
+use std::marker::Model;
+
+/// Records of one epoch that were taken to be stored. Only an epoch log gives them out, and they can't be copied.
+pub struct Taken {
+    pub(crate) epoch: u64,
+    pub(crate) batch: Batch,
+}
+
+// Written out, so that proofs above know one function and not its parts.
+impl Drop for Taken {
+    fn drop(self) {
+        let Taken { epoch: _, batch } = self;
+        drop(batch);
+    }
+}
+
+impl Model for Taken {
+    ghost use Rattle.epoch_log.specs.Logs.{TakenValue, taken_code};
+
+    ghost Value = { TakenValue };
+
+    ghost coded = { taken_code };
+
+    ghost view = { λ t. record { epoch = t.epoch; batch = t.batch } };
+}
+
+impl Taken {
+    /// No records of an epoch. It keeps the room of this batch.
+    pub fn none(epoch: u64, empty: Batch) -> Self
+        requires { empty ≡ empty_batch }
+        ensures { result ≡ record { epoch = epoch; batch = empty_batch } }
+    {
+        Taken {
+            epoch,
+            batch: empty,
+        }
+    }
+
+    /// The epoch in whose segment they are stored.
+    pub fn epoch(&self) -> u64
+        ensures { result ≡ self.now.epoch }
+    {
+        self.epoch
+    }
+
+    /// How many records they are.
+    pub fn count(&self) -> u32
+        ensures { result ≡ self.now.batch.count }
+    {
+        self.batch.count()
+    }
+
+    /// The records, as they are stored.
+    pub fn batch(&self) -> &Batch
+        ensures { result.now ≡ self.now.batch }
+    {
+        &self.batch
+    }
+
+    /// An empty batch, with the room of this one.
+    pub fn into_empty(self) -> Batch
+        ensures { result ≡ empty_batch }
+    {
+        let Taken {
+            epoch: _,
+            mut batch,
+        } = self;
+        batch.clear();
+        batch
+    }
+}
