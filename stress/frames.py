@@ -121,7 +121,7 @@ class Frames:
             6: [name],
             7: [choice([self.right(SEND), self.right(SEND_ONCE), name])],
             8: [name, choice([0, 1, 2, 3, 4, 5, LAST_WORD])],
-            10: [receiver, choice([0, 1, 2, 5, 16, 17, LAST_WORD])],
+            10: [receiver, choice([0, 1, 2, 5, 17, 64, 65, LAST_WORD])],
             11: [receiver, choice([0, 1, 7, LAST_WORD])],
             12: [receiver, choice([0, 1, 7, LAST_WORD])],
             13: [receiver],

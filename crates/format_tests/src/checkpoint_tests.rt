@@ -1,6 +1,7 @@
 use crate::expect::same;
 use crate::image_tests::ONE_PORT;
 use checkpoint::Image;
+use codes::StoreVersion;
 use disk::{Disk, DiskFault, MemDisk, Slot, Torn};
 use image::read;
 use journal::{roll_close, roll_head, roll_open};
@@ -8,13 +9,13 @@ use std::alloc::Global;
 
 /// What comes before the encoding of one port in the image of epoch 1.
 static HEADER: [u8; 24] = [
-    0x5a, 1, 0, 0, 0, 0, 0, 0, 1, 0, 0, 0, 0, 0, 0, 0, 94, 0, 0, 0, 0, 0, 0, 0,
+    0x5a, 2, 0, 0, 0, 0, 0, 0, 1, 0, 0, 0, 0, 0, 0, 0, 98, 0, 0, 0, 0, 0, 0, 0,
 ];
 
 /// The segment of epoch 1 without batches.
-static SEGMENT: [u8; 17] = [0x5a, 1, 0, 0, 0, 0, 0, 0, 1, 0, 0, 0, 0, 0, 0, 0, 0];
+static SEGMENT: [u8; 17] = [0x5a, 2, 0, 0, 0, 0, 0, 0, 1, 0, 0, 0, 0, 0, 0, 0, 0];
 
-/// An image and a segment of epoch 3 that stood in the slots before.
+/// An image and a segment of epoch 3, of version 1, that stood in the slots before.
 static FORMER: [u8; 30] = [
     0x5a, 1, 0, 0, 0, 0, 0, 0, 3, 0, 0, 0, 0, 0, 0, 0, 6, 0, 0, 0, 0, 0, 0, 0, 1, 2, 3, 4, 5, 6,
 ];
@@ -62,7 +63,7 @@ impl Store for MemDisk {
 
 /// The image of epoch 1 that has the encoding of one port.
 fn image_of_one_port(alloc: Global) -> Option<Image> {
-    let snapshot = read(alloc, &ONE_PORT).ok()?;
+    let snapshot = read(alloc, StoreVersion::Two, &ONE_PORT).ok()?;
     let image = Image::of(alloc, 1, &snapshot);
     drop(snapshot);
     image.ok()

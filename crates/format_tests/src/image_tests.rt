@@ -1,14 +1,28 @@
 use crate::expect::{same, same_in_row};
+use codes::StoreVersion;
 use image::{ImageFault, read, write_into};
 use std::alloc::Global;
 
-/// The opening state: next serial 1, space 1 without names, no port.
-static OPENING: [u8; 24] = [
+/// The opening state: next serial 1, space 1 without a request and without names, no port.
+static OPENING: [u8; 28] = [
+    1, 0, 0, 0, 0, 0, 0, 0, 1, 0, 0, 0, 1, 0, 0, 0, 0, 0, 0, 0, 0, 0, 0, 0, 0, 0, 0, 0,
+];
+
+/// The same in version 1, which has no word for a request.
+static OPENING_OF_ONE: [u8; 24] = [
     1, 0, 0, 0, 0, 0, 0, 0, 1, 0, 0, 0, 1, 0, 0, 0, 0, 0, 0, 0, 0, 0, 0, 0,
 ];
 
 /// One port, whose receive right space 1 holds under 0x100.
-pub(crate) static ONE_PORT: [u8; 94] = [
+pub(crate) static ONE_PORT: [u8; 98] = [
+    2, 0, 0, 0, 0, 0, 0, 0, 1, 0, 0, 0, 1, 0, 0, 0, 0, 0, 0, 0, 1, 0, 0, 0, 0, 1, 0, 0, 1, 1, 0, 0,
+    0, 0, 0, 0, 0, 1, 0, 0, 0, 0, 0, 0, 0, 0, 0, 0, 0, 0, 1, 0, 0, 0, 1, 0, 0, 0, 0, 0, 0, 0, 5, 0,
+    0, 0, 0, 0, 0, 0, 0, 0, 0, 0, 0, 0, 0, 0, 0, 0, 0, 0, 0, 0, 0, 0, 0, 0, 0, 0, 0, 0, 0, 0, 0, 0,
+    0, 0,
+];
+
+/// The same in version 1.
+static ONE_PORT_OF_ONE: [u8; 94] = [
     2, 0, 0, 0, 0, 0, 0, 0, 1, 0, 0, 0, 1, 0, 0, 0, 1, 0, 0, 0, 0, 1, 0, 0, 1, 1, 0, 0, 0, 0, 0, 0,
     0, 1, 0, 0, 0, 0, 0, 0, 0, 0, 0, 0, 0, 0, 1, 0, 0, 0, 1, 0, 0, 0, 0, 0, 0, 0, 5, 0, 0, 0, 0, 0,
     0, 0, 0, 0, 0, 0, 0, 0, 0, 0, 0, 0, 0, 0, 0, 0, 0, 0, 0, 0, 0, 0, 0, 0, 0, 0, 0, 0, 0, 0,
@@ -16,7 +30,19 @@ pub(crate) static ONE_PORT: [u8; 94] = [
 
 /// Every kind of entry, in two spaces; a port that is in a set, with a request and a message that carries the receive
 /// right of another and a send-once right to it for the reply; and that other port, with a request.
-static EVERY_KIND: [u8; 223] = [
+static EVERY_KIND: [u8; 231] = [
+    3, 0, 0, 0, 0, 0, 0, 0, 2, 0, 0, 0, 1, 0, 0, 0, 0, 0, 0, 0, 4, 0, 0, 0, 0, 1, 0, 0, 1, 1, 0, 0,
+    0, 0, 0, 0, 0, 1, 2, 0, 0, 0, 2, 0, 0, 0, 0, 0, 0, 0, 1, 1, 0, 0, 2, 1, 0, 0, 0, 0, 0, 0, 0, 0,
+    0, 0, 0, 0, 0, 0, 0, 2, 1, 0, 0, 3, 3, 1, 0, 0, 4, 3, 0, 0, 0, 7, 0, 0, 0, 0, 0, 0, 0, 0, 0, 0,
+    0, 2, 0, 0, 0, 1, 0, 0, 0, 0, 0, 0, 0, 5, 0, 0, 0, 6, 0, 0, 0, 7, 0, 0, 0, 2, 1, 0, 0, 2, 0, 0,
+    0, 0, 0, 0, 0, 0, 0, 0, 0, 0, 0, 0, 0, 1, 0, 0, 0, 17, 18, 2, 2, 0, 0, 0, 0, 0, 0, 0, 7, 0, 0,
+    0, 32, 0, 0, 0, 1, 1, 0, 0, 0, 16, 2, 2, 0, 0, 0, 0, 0, 0, 0, 16, 32, 1, 16, 0, 0, 0, 0, 2, 0,
+    0, 0, 0, 0, 0, 0, 0, 0, 0, 0, 0, 0, 0, 0, 0, 0, 0, 0, 0, 0, 0, 0, 0, 0, 0, 0, 0, 0, 0, 0, 1, 0,
+    0, 0, 0, 0, 0, 0, 0, 0, 0, 0,
+];
+
+/// The same in version 1.
+static EVERY_KIND_OF_ONE: [u8; 223] = [
     3, 0, 0, 0, 0, 0, 0, 0, 2, 0, 0, 0, 1, 0, 0, 0, 4, 0, 0, 0, 0, 1, 0, 0, 1, 1, 0, 0, 0, 0, 0, 0,
     0, 1, 2, 0, 0, 0, 2, 0, 0, 0, 0, 0, 0, 0, 1, 1, 0, 0, 2, 1, 0, 0, 0, 0, 0, 0, 0, 0, 0, 0, 0, 0,
     0, 0, 0, 2, 1, 0, 0, 3, 3, 1, 0, 0, 4, 3, 0, 0, 0, 7, 0, 0, 0, 0, 0, 0, 0, 2, 0, 0, 0, 1, 0, 0,
@@ -27,52 +53,59 @@ static EVERY_KIND: [u8; 223] = [
     0, 0,
 ];
 
-/// A byte of the last one that is replaced: its place, and the new byte. What it encodes then is no image, in order:
-/// spaces that don't ascend; names that don't; no kind of entry; no flag; a message by a receive right; a port where
+/// A byte of `EVERY_KIND` that is replaced: its place, and the new byte. What it encodes then is no image, in order:
+/// spaces that don't ascend; the number of a request, thrice; names that don't ascend; no kind of entry; no flag; a message by a receive right; a port where
 /// there is no reply; no kind of right; nothing that stands in a port's place; a dead port with a serial; a size below
 /// a header's; a body beyond the message; no flag; ports that don't ascend; a message that is missing.
-static OTHERWISE: [(usize, u8); 14] = [
+static OTHERWISE: [(usize, u8); 17] = [
     (12, 8),
-    (20, 1),
-    (24, 5),
-    (33, 2),
-    (137, 16),
-    (138, 0),
-    (138, 19),
-    (139, 3),
-    (139, 1),
-    (152, 23),
-    (152, 36),
-    (156, 2),
-    (93, 3),
-    (219, 1),
+    (16, 1),
+    (19, 1),
+    (89, 1),
+    (24, 1),
+    (28, 5),
+    (37, 2),
+    (145, 16),
+    (146, 0),
+    (146, 19),
+    (147, 3),
+    (147, 1),
+    (160, 23),
+    (160, 36),
+    (164, 2),
+    (101, 3),
+    (227, 1),
 ];
 
-/// An encoding that is read and written again.
-fn again(alloc: Global, encoding: &[u8]) -> Result<Vec<u8>, ImageFault> {
-    let snapshot = read(alloc, encoding)?;
+/// An encoding of a version that is read, and written again in the current one.
+fn again(alloc: Global, version: StoreVersion, encoding: &[u8]) -> Result<Vec<u8>, ImageFault> {
+    let snapshot = read(alloc, version, encoding)?;
     let mut out = Vec::new(alloc);
     write_into(&snapshot, &mut out)?;
     Ok(out)
 }
 
-/// Whether an encoding is read and written again byte for byte.
-fn is_kept(alloc: Global, encoding: &[u8]) -> bool {
-    match again(alloc, encoding) {
-        Ok(out) => out.as_slice() == encoding,
+/// Whether an encoding of a version is read, and written again in these bytes.
+fn is_written(alloc: Global, version: StoreVersion, encoding: &[u8], bytes: &[u8]) -> bool {
+    match again(alloc, version, encoding) {
+        Ok(out) => out.as_slice() == bytes,
         Err(_) => false,
     }
 }
 
-/// Whether bytes are no image.
-fn is_none(alloc: Global, encoding: &[u8]) -> bool {
-    match again(alloc, encoding) {
+/// Whether bytes are no image of a version.
+fn is_none_of(alloc: Global, version: StoreVersion, encoding: &[u8]) -> bool {
+    match again(alloc, version, encoding) {
         Ok(_) => false,
         Err(fault) => fault == ImageFault::NotCanonical,
     }
 }
 
-/// Whether the last encoding is no image after one byte is replaced.
+fn is_none(alloc: Global, encoding: &[u8]) -> bool {
+    is_none_of(alloc, StoreVersion::Two, encoding)
+}
+
+/// Whether `EVERY_KIND` is no image after one byte is replaced.
 fn is_none_changed(alloc: Global, place: usize, byte: u8) -> Option<bool> {
     let mut encoding = Vec::from_slice(alloc, &EVERY_KIND).ok()?;
     if let Some(at) = encoding.as_mut_slice().get_mut(place) {
@@ -84,21 +117,21 @@ fn is_none_changed(alloc: Global, place: usize, byte: u8) -> Option<bool> {
 /// Where the body of its message is cut off, the size that the message then has, and whether it is still an image: a
 /// size is a multiple of 4.
 static BODIES: [(usize, u8, bool); 5] = [
-    (171, 24, true),
-    (173, 26, false),
-    (175, 28, true),
-    (178, 31, false),
-    (179, 32, true),
+    (179, 24, true),
+    (181, 26, false),
+    (183, 28, true),
+    (186, 31, false),
+    (187, 32, true),
 ];
 
-/// The last encoding with its message's body cut off, and this size.
+/// `EVERY_KIND` with its message's body cut off, and this size.
 fn with_body(alloc: Global, end: usize, size: u8) -> Option<Vec<u8>> {
-    if end > 179 {
+    if end > 187 {
         return None;
     }
     let mut encoding = Vec::from_slice(alloc, &EVERY_KIND[..end]).ok()?;
-    encoding.extend_from_slice(&EVERY_KIND[179..]).ok()?;
-    if let Some(at) = encoding.as_mut_slice().get_mut(152) {
+    encoding.extend_from_slice(&EVERY_KIND[187..]).ok()?;
+    if let Some(at) = encoding.as_mut_slice().get_mut(160) {
         *at = size;
     }
     Some(encoding)
@@ -107,7 +140,8 @@ fn with_body(alloc: Global, end: usize, size: u8) -> Option<Vec<u8>> {
 /// Whether it is an image then, and whether it is none.
 fn seen_with_body(alloc: Global, end: usize, size: u8) -> Option<(bool, bool)> {
     let encoding = with_body(alloc, end, size)?;
-    Some((is_kept(alloc, &encoding), is_none(alloc, &encoding)))
+    let is_kept = is_written(alloc, StoreVersion::Two, &encoding, &encoding);
+    Some((is_kept, is_none(alloc, &encoding)))
 }
 
 /// Whether it is no image with one more byte.
@@ -118,34 +152,43 @@ fn is_none_longer(alloc: Global) -> Option<bool> {
 }
 
 /// How many of an encoding's prefixes are no images.
-fn refused_beginnings(alloc: Global, encoding: &[u8]) -> usize {
+fn refused_beginnings(alloc: Global, version: StoreVersion, encoding: &[u8]) -> usize {
     let mut count = 0usize;
     for length in 0..encoding.len() {
-        if is_none(alloc, &encoding[..length]) {
+        if is_none_of(alloc, version, &encoding[..length]) {
             count = count.saturating_add(1);
         }
     }
     count
 }
 
-/// Whether bytes are an image, and how many of their prefixes are none.
-fn seen(alloc: Global, encoding: &[u8]) -> (bool, usize) {
+/// Whether the encodings of a state in version 1 and in version 2 are both read and written in version 2, whether each is no image of the other version, and how many of their
+/// prefixes are none.
+fn seen(alloc: Global, one: &[u8], two: &[u8]) -> ([bool; 4], [usize; 2]) {
     (
-        is_kept(alloc, encoding),
-        refused_beginnings(alloc, encoding),
+        [
+            is_written(alloc, StoreVersion::One, one, two),
+            is_written(alloc, StoreVersion::Two, two, two),
+            is_none_of(alloc, StoreVersion::Two, one),
+            is_none_of(alloc, StoreVersion::One, two),
+        ],
+        [
+            refused_beginnings(alloc, StoreVersion::One, one),
+            refused_beginnings(alloc, StoreVersion::Two, two),
+        ],
     )
 }
 
 #[test]
 fn images_are_read_and_written(rt: HostRuntime) {
-    let encodings = [&OPENING[..], &ONE_PORT[..], &EVERY_KIND[..]];
-    for (index, encoding) in encodings.iter().enumerate() {
-        same_in_row(
-            &rt,
-            index,
-            seen(rt.alloc(), encoding),
-            (true, encoding.len()),
-        );
+    let encodings = [
+        (&OPENING_OF_ONE[..], &OPENING[..]),
+        (&ONE_PORT_OF_ONE[..], &ONE_PORT[..]),
+        (&EVERY_KIND_OF_ONE[..], &EVERY_KIND[..]),
+    ];
+    for (index, (one, two)) in encodings.iter().enumerate() {
+        let lengths = [one.len(), two.len()];
+        same_in_row(&rt, index, seen(rt.alloc(), one, two), ([true; 4], lengths));
     }
 }
 

@@ -242,12 +242,12 @@ pub space-first_stays : refusal a_port its_port call.SpaceDestroy ≡ Some Failu
 unfolding tests_of
 space-first_stays = refl
 
--- a queue's limit is 16 at most; a name that isn't in use can't be destroyed
-pub limit-too_great : refusal a_port its_port (call.SetQlimit 0x100 17) ≡ Some InvalidValue
+-- a queue's limit is 64 at most; a name that isn't in use can't be destroyed
+pub limit-too_great : refusal a_port its_port (call.SetQlimit 0x100 65) ≡ Some InvalidValue
 unfolding tests_of
 limit-too_great = refl
 
-pub limit-greatest : refusal a_port its_port (call.SetQlimit 0x100 16) ≡ None
+pub limit-greatest : refusal a_port its_port (call.SetQlimit 0x100 64) ≡ None
 unfolding tests_of
 limit-greatest = simp rows
 

@@ -39,7 +39,7 @@ fn lengths<S: Store + Drop>(alloc: Global, list: (&[u8], &[u8])) -> Option<(bool
 #[test]
 fn a_checkpoint_is_made_step_by_step(rt: HostRuntime) {
     let seen = lengths::<MemDisk>(rt.alloc(), CHECKPOINT);
-    same(&rt, seen, Some((true, 17, 118)));
+    same(&rt, seen, Some((true, 17, 122)));
 }
 
 // Whether a list of events has these answers on a new store.

@@ -53,6 +53,21 @@ fn listed_when_opened<D: Disk + Drop>(alloc: Global, disk: D) -> Result<Vec<u8>,
     }
 }
 
+/// The lines after a first one that says this.
+fn after_first<'a>(lines: &'a Result<Vec<u8>, ListFault>, first: &[u8]) -> Option<&'a [u8]> {
+    match lines {
+        Ok(lines) => lines.as_slice().strip_prefix(first),
+        Err(_) => None,
+    }
+}
+
+/// Whether the second lines are the first ones of the store of version 1, in the next epoch: opening such a store begins
+/// one, in version 2.
+fn is_upgraded(before: &Result<Vec<u8>, ListFault>, after: &Result<Vec<u8>, ListFault>) -> bool {
+    let state = after_first(before, b"epoch 0 records 1\n");
+    state.is_some() && state == after_first(after, b"epoch 1 records 0\n")
+}
+
 /// What the lister reports of a store, if the store's opening reports the same and the lister changed nothing.
 fn acknowledged<S: Store + Drop>(alloc: Global, disk: S) -> Option<Result<Vec<u8>, ListFault>> {
     let mut disk = disk;
@@ -61,7 +76,7 @@ fn acknowledged<S: Store + Drop>(alloc: Global, disk: S) -> Option<Result<Vec<u8
     let is_kept = are_alike(&before, &disk);
     drop(before);
     let again = listed_when_opened(alloc, disk);
-    if is_kept && again == lines {
+    if is_kept && (again == lines || is_upgraded(&lines, &again)) {
         Some(lines)
     } else {
         None
@@ -110,12 +125,12 @@ type Range = (Slot, usize, usize, u32, u32, u32);
 
 static RANGES: [Range; 14] = [
     (Slot::Image0, 0, 1, 0, 255, 0), // the gate
-    (Slot::Image0, 1, 2, 0, 0, 255), // the version
+    (Slot::Image0, 1, 2, 0, 1, 254), // the version: in version 1 these bytes are no image
     (Slot::Image0, 2, 24, 0, 5_610, 0), // zeros, the epoch, the length
     (Slot::Image0, 24, 32, 2_039, 1, 0), // the next serial, which isn't 0
-    (Slot::Image0, 32, 48, 0, 4_080, 0), // one space, space 1, no names, no ports
+    (Slot::Image0, 32, 52, 0, 5_100, 0), // one space, space 1, no request, no names, no ports
     (Slot::Segment0, 0, 1, 0, 255, 0), // the gate
-    (Slot::Segment0, 1, 2, 0, 0, 255), // the version
+    (Slot::Segment0, 1, 2, 1, 0, 254), // the version: in version 1 these bytes have the same record
     (Slot::Segment0, 2, 16, 0, 3_570, 0), // zeros, the epoch
     (Slot::Segment0, 16, 17, 255, 0, 0), // the batch's gate: closed by any other byte
     (Slot::Segment0, 17, 49, 0, 8_160, 0), // the count, the length, the record up to the call's argument

@@ -4,9 +4,9 @@ use crate::store::{Store, asked, failing, stored_records};
 use disk::{MemDisk, Torn};
 use std::alloc::Global;
 
-/// Opening a store makes thirteen device calls: four syncs, four reads of headers, two of the image, one of the
+/// Opening a store makes fifteen device calls: four syncs, four reads of headers, three of the image, two of the
 /// segment, and two that end it.
-const OPENING: u64 = 13;
+const OPENING: u64 = 15;
 
 /// An append writes the batch, syncs, opens its gate, and syncs. One of these fails.
 static FAILS: [AskedRow; 8] = [

@@ -42,3 +42,5 @@ mod stops;
 mod store;
 #[cfg(test)]
 mod streams;
+#[cfg(test)]
+mod upgrades;

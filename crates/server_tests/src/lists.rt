@@ -271,8 +271,8 @@ fn is_bounded<S: Store + Drop>(alloc: Global, disk: S, letters: &[u8]) -> Option
     Some((is, answers.contains(&b'!')))
 }
 
-/// Opening a store makes thirteen device calls, and each append four.
-pub(crate) const FIRST_CALL: u64 = 14;
+/// Opening a store makes fifteen device calls, and each append four.
+pub(crate) const FIRST_CALL: u64 = 16;
 
 /// How many device calls a list makes after those of the opening, by its answers if none fails.
 fn device_calls(letters: &[u8], answers: &[u8]) -> u64 {

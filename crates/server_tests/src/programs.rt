@@ -154,7 +154,7 @@ fn write_file(rt: &HostRuntime, words: &[String], file: &str, bytes: &[u8]) -> O
 
 /// An image whose header has a byte that isn't 0 where it has to be.
 static DAMAGED: [u8; 48] = [
-    0x5a, 1, 1, 0, 0, 0, 0, 0, 0, 0, 0, 0, 0, 0, 0, 0, 0, 0, 0, 0, 0, 0, 0, 0, 0, 0, 0, 0, 0, 0, 0,
+    0x5a, 2, 1, 0, 0, 0, 0, 0, 0, 0, 0, 0, 0, 0, 0, 0, 0, 0, 0, 0, 0, 0, 0, 0, 0, 0, 0, 0, 0, 0, 0,
     0, 0, 0, 0, 0, 0, 0, 0, 0, 0, 0, 0, 0, 0, 0, 0, 0,
 ];
 
@@ -287,6 +287,6 @@ fn answered_twice(rt: &HostRuntime, name: &str) -> Option<Runs> {
 #[test]
 fn a_second_run_knows_the_name(rt: HostRuntime) {
     let seen = answered_twice(&rt, "machipcd_second_run");
-    let run = (true, [Some(48), Some(70)]);
+    let run = (true, [Some(52), Some(70)]);
     same(&rt, seen, Some(([run, run], true)));
 }

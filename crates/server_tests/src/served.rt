@@ -73,10 +73,10 @@ fn on_failing_disk<S: Store + Drop>(
     Some((run.output.len(), run.end))
 }
 
-/// Which device call fails, and how many bytes are written. Opening makes thirteen calls: four syncs, four reads of
-/// headers, two of the image, one of the segment, and two that end it. An append makes four, so the seventeenth call is
+/// Which device call fails, and how many bytes are written. Opening makes fifteen calls: four syncs, four reads of
+/// headers, three of the image, two of the segment, and two that end it. An append makes four, so the nineteenth call is
 /// the first append's last.
-static FAILING: [(u64, usize); 4] = [(14, 0), (17, 0), (18, 16), (21, 16)];
+static FAILING: [(u64, usize); 4] = [(16, 0), (19, 0), (20, 16), (23, 16)];
 
 #[test]
 fn a_failing_store_gets_no_reply(rt: HostRuntime) {

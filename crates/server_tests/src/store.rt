@@ -80,6 +80,9 @@ pub(crate) trait Store: Disk {
     /// A disk whose slots hold what this one's do, all of it synced.
     fn copied(&self, alloc: Global) -> Option<Self>;
 
+    /// A disk with these bytes in image 0, segment 0 and segment 1.
+    fn holding(alloc: Global, image0: &[u8], segment0: &[u8], segment1: &[u8]) -> Option<Self>;
+
     /// The bytes of a slot.
     fn bytes(&self, slot: Slot) -> &[u8];
 
@@ -112,6 +115,10 @@ impl Store for MemDisk {
             self.content(Slot::Segment1),
         );
         copy.ok()
+    }
+
+    fn holding(alloc: Global, image0: &[u8], segment0: &[u8], segment1: &[u8]) -> Option<MemDisk> {
+        MemDisk::with_slots(alloc, image0, &[], segment0, segment1).ok()
     }
 
     fn bytes(&self, slot: Slot) -> &[u8] {

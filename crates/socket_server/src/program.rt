@@ -5,7 +5,6 @@ ghost use Rattle.socket_server.specs.Reporting.{HasReported, HasReportedOf, read
 ghost use Rattle.wire.specs.Writing.{AppendsPart};
 
 use crate::bound::bind;
-use crate::host::Host;
 use crate::threads::{accept, start_loops};
 use crate::watch::start_watch;
 use codes::MAX_RECORDS;
@@ -15,11 +14,13 @@ use sessions::{Admissions, EntryBlock, Founding, MOST_SESSIONS, NewMark, OpenGat
 use std::alloc::{AllocGlobal, Global};
 use std::io::Write;
 use std::marker::Brand;
-use std::net::Net;
+use std::net::{Net, TcpListener, TcpStream};
 use std::os::unix::net::UnixListener;
 use std::rt::Files;
-use std::sync::Arc;
 use std::sync::ledger::Blank;
+use std::sync::{Arc, Wait};
+use std::thread::Threads;
+use std::time::Clock;
 use store_fault::StoreFault;
 use system::{Opened, open};
 use wire::{WireFault, write_bytes};
@@ -27,12 +28,21 @@ use wire::{WireFault, write_bytes};
 /// Serves the store on a disk, whose folder is locked (`server::lock_disk`), at the socket's path, as `serve_disk`
 /// does, and keeps the lock until that has ended. If the folder isn't locked, the run ends that way, and nothing is
 /// written.
-pub fn serve_locked<K: Drop, D: Disk + Drop + Send + 'static, R: Host, O: Write>(
-    rt: R,
-    path: &str,
-    locked: Result<(K, D), SocketEnd>,
-    output: &mut O,
-) -> SocketEnd
+pub fn serve_locked<
+    K: Drop,
+    D: Disk + Drop + Send + 'static,
+    R: Threads
+        + Wait
+        + Net<Listener = TcpListener, Stream = TcpStream>
+        + Files
+        + Clock
+        + AllocGlobal
+        + Copy
+        + Send
+        + Sync
+        + 'static,
+    O: Write,
+>(rt: R, path: &str, locked: Result<(K, D), SocketEnd>, output: &mut O) -> SocketEnd
     ensures ended { IfErr locked (λ end. (result ≡ end) × Keeps (O.contents output.old) (O.contents output.new)) }
     ensures reported { IfOk locked (λ locked. HasReportedOf D.honest (D.view locked.1).seen (O.contents output.old)
         (O.contents output.new) result) }
@@ -49,12 +59,20 @@ pub fn serve_locked<K: Drop, D: Disk + Drop + Send + 'static, R: Host, O: Write>
 
 /// Opens the store on a disk, and serves it at the socket's path, as `serve_opened` does. The fault of a store that
 /// can't be opened is that of `recover::open`, and then nothing is written. It ends only after a fault.
-pub fn serve_disk<D: Disk + Drop + Send + 'static, R: Host, O: Write>(
-    rt: R,
-    path: &str,
-    disk: D,
-    output: &mut O,
-) -> SocketEnd
+pub fn serve_disk<
+    D: Disk + Drop + Send + 'static,
+    R: Threads
+        + Wait
+        + Net<Listener = TcpListener, Stream = TcpStream>
+        + Files
+        + Clock
+        + AllocGlobal
+        + Copy
+        + Send
+        + Sync
+        + 'static,
+    O: Write,
+>(rt: R, path: &str, disk: D, output: &mut O) -> SocketEnd
     ensures reported { HasReportedOf D.honest (D.view disk).seen (O.contents output.old) (O.contents output.new)
         result }
 {
@@ -69,12 +87,20 @@ pub fn serve_disk<D: Disk + Drop + Send + 'static, R: Host, O: Write>(
 
 /// Binds the socket's path, says on the output that it is ready, and serves an opened store there, each connection in a
 /// thread of its own as a session of the store's history. It ends only after a fault.
-pub fn serve_opened<D: Disk + Drop + Send + 'static, R: Host, O: Write>(
-    rt: R,
-    path: &str,
-    opened: Opened<D>,
-    output: &mut O,
-) -> SocketEnd
+pub fn serve_opened<
+    D: Disk + Drop + Send + 'static,
+    R: Threads
+        + Wait
+        + Net<Listener = TcpListener, Stream = TcpStream>
+        + Files
+        + Clock
+        + AllocGlobal
+        + Copy
+        + Send
+        + Sync
+        + 'static,
+    O: Write,
+>(rt: R, path: &str, opened: Opened<D>, output: &mut O) -> SocketEnd
     ensures reported { HasReported (O.contents output.old) (O.contents output.new) result }
 {
     let (listener, block, mark, path) = match prepare(&rt, path) {
@@ -116,7 +142,15 @@ fn first_block(alloc: Global) -> Option<Arc<EntryBlock, Global>> {
 fn serve_history<
     L: Founding + Send + Sync + 'static,
     D: Disk + Drop + Send + 'static,
-    R: Host,
+    R: Threads
+        + Wait
+        + Net<Listener = TcpListener, Stream = TcpStream>
+        + Clock
+        + AllocGlobal
+        + Copy
+        + Send
+        + Sync
+        + 'static,
     O: Write,
 >(
     rt: R,
@@ -150,7 +184,15 @@ fn serve_history<
 fn serve_shared<
     L: Founding + Send + Sync + 'static,
     D: Disk + Drop + Send + 'static,
-    R: Host,
+    R: Threads
+        + Wait
+        + Net<Listener = TcpListener, Stream = TcpStream>
+        + Clock
+        + AllocGlobal
+        + Copy
+        + Send
+        + Sync
+        + 'static,
     O: Write,
 >(
     rt: R,

@@ -1,6 +1,5 @@
 //! The threads: one that stores, one that makes images, one for each connection.
 
-use crate::host::Host;
 use crate::watch::Watch;
 use codes::CHECKPOINT_RECORDS;
 use disk::Disk;
@@ -8,10 +7,10 @@ use sessions::{Admission, Admissions, Founding, OpenGate, Shared};
 use socket_session::{Connection, SocketPeer, serve_connection};
 use std::alloc::{AllocGlobal, Global};
 use std::io::{self, BufReader, BufWriter};
-use std::net::{Net, Shutdown};
+use std::net::{Net, Shutdown, TcpListener, TcpStream};
 use std::os::unix::net::{UnixListener, UnixStream};
 use std::sync::{Arc, Wait};
-use std::thread;
+use std::thread::{self, Threads};
 use std::time::{Clock, Duration};
 use store_fault::StoreFault;
 
@@ -22,7 +21,11 @@ const PATIENCE_SECONDS: u64 = 5;
 const READ_BYTES: usize = 65_536;
 
 /// Serves each connection in a thread of its own, until the store fails.
-pub(crate) fn accept<L: Founding + Send + Sync + 'static, D: Disk + Drop + Send + 'static, R: Host>(
+pub(crate) fn accept<
+    L: Founding + Send + Sync + 'static,
+    D: Disk + Drop + Send + 'static,
+    R: Threads + Wait + AllocGlobal + Clock + Copy + Send + Sync + 'static,
+>(
     rt: R,
     listener: &UnixListener,
     shared: &Arc<Shared<L, D, OpenGate>, Global>,
@@ -48,7 +51,11 @@ pub(crate) fn accept<L: Founding + Send + Sync + 'static, D: Disk + Drop + Send 
 }
 
 /// Begins to serve a connection. If there is no session, thread or memory for it, it is closed.
-fn begin<L: Founding + Send + Sync + 'static, D: Disk + Drop + Send + 'static, R: Host>(
+fn begin<
+    L: Founding + Send + Sync + 'static,
+    D: Disk + Drop + Send + 'static,
+    R: Threads + Wait + Clock + AllocGlobal + Copy + Send + Sync + 'static,
+>(
     rt: R,
     stream: UnixStream,
     shared: &Arc<Shared<L, D, OpenGate>, Global>,
@@ -103,7 +110,14 @@ fn serve_stream<L: Founding, D: Disk, R: Wait + Clock + AllocGlobal>(
 pub(crate) fn start_loops<
     L: Founding + Send + Sync + 'static,
     D: Disk + Drop + Send + 'static,
-    R: Host,
+    R: Threads
+        + Wait
+        + Net<Listener = TcpListener, Stream = TcpStream>
+        + Clock
+        + Copy
+        + Send
+        + Sync
+        + 'static,
 >(
     rt: R,
     alloc: Global,

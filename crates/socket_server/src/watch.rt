@@ -1,17 +1,18 @@
 //! Watches the other sides of all connections, so that a waiting call learns at once that its task has gone.
 
-use crate::host::Host;
 use disk::Disk;
 use mio::event::Events;
 use mio::unix::SourceFd;
 use mio::{Interest, Poll, Registry, Token};
 use sessions::{Founding, OpenGate, Shared};
-use std::alloc::Global;
+use std::alloc::{AllocGlobal, Global};
+use std::io;
+use std::net::Net;
 use std::os::fd::AsRawFd;
 use std::os::unix::net::UnixStream;
 use std::sync::{Arc, Wait};
+use std::thread::{self, Threads};
 use std::time::{Clock, Duration};
-use std::{io, thread};
 
 /// How many closed connections one wait reports at most.
 const MOST_AT_ONCE: usize = 64;
@@ -43,7 +44,7 @@ impl Watch {
 pub(crate) fn start_watch<
     L: Founding + Send + Sync + 'static,
     D: Disk + Drop + Send + 'static,
-    R: Host,
+    R: Threads + Wait + Net + Clock + AllocGlobal + Copy + Send + Sync + 'static,
 >(rt: R, shared: &Arc<Shared<L, D, OpenGate>, Global>) -> io::Result<Arc<Watch, Global>> {
     let poll = Poll::new(&rt)?;
     let registry = poll.registry().try_clone()?;

@@ -1,6 +1,6 @@
 //! Stores of whole slots and corrupted ones, and what opening them returns.
 use crate::store::{Store, are_receive, disk_of, keeps};
-use crate::written::{image_of_name, segment_of_name};
+use crate::written::{CURRENT, image_of_name, segment_of_name};
 use disk::Slot;
 use journal::OPEN_GATE;
 use std::alloc::{AllocError, Global};
@@ -39,13 +39,18 @@ pub(crate) enum Bend {
     Length(usize),
 }
 
-// A slot of this epoch, with a name of its own.
-fn whole_slot(alloc: Global, slot: Slot, epoch: u64) -> Result<Vec<u8>, AllocError> {
+/// A slot of this version and epoch, with a name of its own.
+pub(crate) fn whole_slot(
+    alloc: Global,
+    slot: Slot,
+    version: u8,
+    epoch: u64,
+) -> Result<Vec<u8>, AllocError> {
     match slot {
-        Slot::Image0 => image_of_name(alloc, epoch, 0),
-        Slot::Image1 => image_of_name(alloc, epoch, 1),
-        Slot::Segment0 => segment_of_name(alloc, epoch, 2),
-        Slot::Segment1 => segment_of_name(alloc, epoch, 3),
+        Slot::Image0 => image_of_name(alloc, version, epoch, 0),
+        Slot::Image1 => image_of_name(alloc, version, epoch, 1),
+        Slot::Segment0 => segment_of_name(alloc, version, epoch, 2),
+        Slot::Segment1 => segment_of_name(alloc, version, epoch, 3),
     }
 }
 
@@ -90,7 +95,7 @@ fn corrupted_slot(
     let Some(epoch) = epoch else {
         return Some(Vec::new(alloc));
     };
-    let mut bytes = whole_slot(alloc, slot, epoch).ok()?;
+    let mut bytes = whole_slot(alloc, slot, CURRENT, epoch).ok()?;
     change_all(&mut bytes, slot, bends)?;
     Some(bytes)
 }

@@ -23,7 +23,7 @@ static PASSED_OVER: [Row; 14] = [
     (
         "the older image is of no state",
         BOTH,
-        &[(Slot::Image0, Bend::Byte(57, 2))],
+        &[(Slot::Image0, Bend::Byte(61, 2))],
         FIVE,
     ),
     (
@@ -35,7 +35,7 @@ static PASSED_OVER: [Row; 14] = [
     (
         "the older image's length is another",
         BOTH,
-        &[(Slot::Image0, Bend::Byte(16, 95))],
+        &[(Slot::Image0, Bend::Byte(16, 99))],
         FIVE,
     ),
     (
@@ -125,7 +125,7 @@ static UNFINISHED: [Row; 11] = [
         BOTH,
         &[
             (Slot::Image1, Bend::Byte(0, 0)),
-            (Slot::Image1, Bend::Byte(57, 2)),
+            (Slot::Image1, Bend::Byte(61, 2)),
         ],
         FOUR_TO_FIVE,
     ),
@@ -186,17 +186,23 @@ static UNFINISHED: [Row; 11] = [
 ];
 
 // Damage of the newest image: the older one doesn't stand in for it.
-static NEWEST_IMAGE: [Row; 10] = [
+static NEWEST_IMAGE: [Row; 11] = [
     (
         "a flag is 2",
         BOTH,
-        &[(Slot::Image1, Bend::Byte(57, 2))],
+        &[(Slot::Image1, Bend::Byte(61, 2))],
+        DAMAGED,
+    ),
+    (
+        "its space has a request",
+        BOTH,
+        &[(Slot::Image1, Bend::Byte(40, 1))],
         DAMAGED,
     ),
     (
         "a name has rights to a port that doesn't live",
         BOTH,
-        &[(Slot::Image1, Bend::Byte(49, 7))],
+        &[(Slot::Image1, Bend::Byte(53, 7))],
         DAMAGED,
     ),
     (
@@ -208,21 +214,21 @@ static NEWEST_IMAGE: [Row; 10] = [
     (
         "its length is short by one",
         BOTH,
-        &[(Slot::Image1, Bend::Byte(16, 93))],
+        &[(Slot::Image1, Bend::Byte(16, 97))],
         DAMAGED,
     ),
     (
         "its length is long by one",
         BOTH,
-        &[(Slot::Image1, Bend::Byte(16, 95))],
+        &[(Slot::Image1, Bend::Byte(16, 99))],
         DAMAGED,
     ),
     (
         "its length is long by one, and so is its slot",
         BOTH,
         &[
-            (Slot::Image1, Bend::Byte(16, 95)),
-            (Slot::Image1, Bend::Length(119)),
+            (Slot::Image1, Bend::Byte(16, 99)),
+            (Slot::Image1, Bend::Length(123)),
         ],
         DAMAGED,
     ),
@@ -235,7 +241,7 @@ static NEWEST_IMAGE: [Row; 10] = [
     (
         "it is cut by a byte",
         BOTH,
-        &[(Slot::Image1, Bend::Length(117))],
+        &[(Slot::Image1, Bend::Length(121))],
         DAMAGED,
     ),
     (
@@ -247,7 +253,7 @@ static NEWEST_IMAGE: [Row; 10] = [
     (
         "the image before the next segment is of no state",
         HALF,
-        &[(Slot::Image0, Bend::Byte(57, 2))],
+        &[(Slot::Image0, Bend::Byte(61, 2))],
         DAMAGED,
     ),
 ];
@@ -422,27 +428,27 @@ static NO_IMAGE: [Row; 7] = [
 // Headers of open slots, read or not: another version comes first, and then bytes that should be zero and epochs.
 static HEADERS: [Row; 20] = [
     (
-        "the older image's version is 2",
+        "the older image's version is 3",
         BOTH,
-        &[(Slot::Image0, Bend::Byte(1, 2))],
+        &[(Slot::Image0, Bend::Byte(1, 3))],
         VERSION,
     ),
     (
-        "the newest image's version is 2",
+        "the newest image's version is 3",
         BOTH,
-        &[(Slot::Image1, Bend::Byte(1, 2))],
+        &[(Slot::Image1, Bend::Byte(1, 3))],
         VERSION,
     ),
     (
-        "the older segment's version is 2",
+        "the older segment's version is 3",
         BOTH,
-        &[(Slot::Segment0, Bend::Byte(1, 2))],
+        &[(Slot::Segment0, Bend::Byte(1, 3))],
         VERSION,
     ),
     (
-        "the newest segment's version is 2",
+        "the newest segment's version is 3",
         BOTH,
-        &[(Slot::Segment1, Bend::Byte(1, 2))],
+        &[(Slot::Segment1, Bend::Byte(1, 3))],
         VERSION,
     ),
     (
@@ -452,55 +458,55 @@ static HEADERS: [Row; 20] = [
         VERSION,
     ),
     (
-        "the next segment's version is 2",
+        "the next segment's version is 3",
         HALF,
-        &[(Slot::Segment1, Bend::Byte(1, 2))],
+        &[(Slot::Segment1, Bend::Byte(1, 3))],
         VERSION,
     ),
     (
-        "a segment's version is 2, and no image is open",
+        "a segment's version is 3, and no image is open",
         [None, None, Some(4), None],
-        &[(Slot::Segment0, Bend::Byte(1, 2))],
+        &[(Slot::Segment0, Bend::Byte(1, 3))],
         VERSION,
     ),
     (
-        "a version is 2, and an epoch is of the other number",
+        "a version is 3, and an epoch is of the other number",
         [Some(4), Some(5), Some(5), Some(5)],
-        &[(Slot::Image0, Bend::Byte(1, 2))],
+        &[(Slot::Image0, Bend::Byte(1, 3))],
         VERSION,
     ),
     (
-        "a version is 2, and a byte beyond it isn't zero",
+        "a version is 3, and a byte beyond it isn't zero",
         BOTH,
         &[
-            (Slot::Segment1, Bend::Byte(1, 2)),
+            (Slot::Segment1, Bend::Byte(1, 3)),
             (Slot::Segment1, Bend::Byte(2, 1)),
         ],
         VERSION,
     ),
     (
-        "a version is 2, and a byte of another slot isn't zero",
+        "a version is 3, and a byte of another slot isn't zero",
         BOTH,
         &[
-            (Slot::Segment1, Bend::Byte(1, 2)),
+            (Slot::Segment1, Bend::Byte(1, 3)),
             (Slot::Image0, Bend::Byte(2, 1)),
         ],
         VERSION,
     ),
     (
-        "a closed image's version is 2",
+        "a closed image's version is 3",
         BOTH,
         &[
             (Slot::Image0, Bend::Byte(0, 0)),
-            (Slot::Image0, Bend::Byte(1, 2)),
+            (Slot::Image0, Bend::Byte(1, 3)),
         ],
         FIVE,
     ),
     (
-        "a short segment's version is 2",
+        "a short segment's version is 3",
         BOTH,
         &[
-            (Slot::Segment0, Bend::Byte(1, 2)),
+            (Slot::Segment0, Bend::Byte(1, 3)),
             (Slot::Segment0, Bend::Length(15)),
         ],
         FIVE,

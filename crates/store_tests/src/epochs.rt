@@ -4,7 +4,7 @@ use crate::expect::{same, same_in_row};
 use crate::looked::looked;
 use crate::making::{SEGMENT, append_allocations, append_from};
 use crate::store::{Store, disk_of, keeps};
-use crate::written::{image_of_name, image_of_none, opened_slot};
+use crate::written::{CURRENT, image_of_name, image_of_none, opened_slot};
 use disk::{Disk, MemDisk, Slot, Torn};
 use journal::{Segment, roll_close, roll_head, roll_open};
 use slot_steps::segment_slot;
@@ -80,10 +80,10 @@ fn in_epochs(
     segment1: &[u8],
 ) -> Result<[Vec<u8>; 4], AllocError> {
     Ok([
-        image_of_none(alloc, first)?,
-        image_of_name(alloc, next, 0)?,
-        opened_slot(alloc, first, &SEGMENT[16..])?,
-        opened_slot(alloc, next, segment1)?,
+        image_of_none(alloc, CURRENT, first)?,
+        image_of_name(alloc, CURRENT, next, 0)?,
+        opened_slot(alloc, CURRENT, first, &SEGMENT[16..])?,
+        opened_slot(alloc, CURRENT, next, segment1)?,
     ])
 }
 
@@ -179,10 +179,10 @@ static TORN: [Torn; 6] = [
     Torn::Fill(0xff),
 ];
 
-// How many device calls the opening of such a store makes: four syncs, four headers, the image's length and encoding,
-// two reads of segments; four calls that clear the next image, one for its encoding, two for its header and two for its
+// How many device calls the opening of such a store makes: four syncs, four headers, the image's version, length and
+// encoding, the version and the batches of two segments; four calls that clear the next image, one for its encoding, two for its header and two for its
 // gate; and the two that end the segment.
-const CALLS: u64 = 23;
+const CALLS: u64 = 26;
 
 // The fault of an opening within which a crash may come, and what opening the store again returns then.
 fn stopped<S: Store + Drop>(

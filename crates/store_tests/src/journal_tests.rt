@@ -41,7 +41,7 @@ fn a_batch_is_stored(rt: HostRuntime) {
 
 // A segment of epoch 0 with two batches: one of two records, and then one of a single record.
 static TWO_BATCHES: [u8; 163] = [
-    0x5a, 1, 0, 0, 0, 0, 0, 0, 0, 0, 0, 0, 0, 0, 0, 0, // the header
+    0x5a, 2, 0, 0, 0, 0, 0, 0, 0, 0, 0, 0, 0, 0, 0, 0, // the header
     0x5a, 2, 0, 0, 0, 80, 0, 0, 0, 0, 0, 0, 0, // two records of 80 bytes
     0, 0, 0, 0, 0, 0, 0, 0, 1, 0, 0, 0, // the first, of space 1
     8, 0, 0, 0, 5, 0, 0, 0, 1, 0, 0, 0, // allocate a receive right

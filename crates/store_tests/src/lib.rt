@@ -64,4 +64,6 @@ mod transit_tests;
 #[cfg(test)]
 mod two_epochs;
 #[cfg(test)]
+mod versions;
+#[cfg(test)]
 mod written;

@@ -13,13 +13,13 @@ use store_fault::StoreFault;
 
 /// A segment of epoch 0 with one batch: that of record 0, which is the allocation of the name 0x100.
 pub(crate) static SEGMENT: [u8; 70] = [
-    0x5a, 1, 0, 0, 0, 0, 0, 0, 0, 0, 0, 0, 0, 0, 0, 0, 0x5a, 1, 0, 0, 0, 40, 0, 0, 0, 0, 0, 0, 0,
+    0x5a, 2, 0, 0, 0, 0, 0, 0, 0, 0, 0, 0, 0, 0, 0, 0, 0x5a, 1, 0, 0, 0, 40, 0, 0, 0, 0, 0, 0, 0,
     0, 0, 0, 0, 0, 0, 0, 0, 1, 0, 0, 0, 8, 0, 0, 0, 5, 0, 0, 0, 1, 0, 0, 0, 12, 0, 0, 0, 5, 0, 0,
     0, 0, 0, 0, 0, 0, 1, 0, 0, 0,
 ];
 
 /// A segment of epoch 0 with no batch.
-pub(crate) static NEW_SEGMENT: [u8; 17] = [0x5a, 1, 0, 0, 0, 0, 0, 0, 0, 0, 0, 0, 0, 0, 0, 0, 0];
+pub(crate) static NEW_SEGMENT: [u8; 17] = [0x5a, 2, 0, 0, 0, 0, 0, 0, 0, 0, 0, 0, 0, 0, 0, 0, 0];
 
 /// The allocation of a name, done.
 #[tactic(auto, unfolding(ipc_model::specs::encodings::Encodings::call_encoding, ipc_model::specs::encodings::Encodings::reply_encoding))]

@@ -10,9 +10,9 @@ use std::process::Abort;
 use store_fault::StoreFault;
 
 // The image of the opening state, epoch 0.
-static IMAGE: [u8; 48] = [
-    0x5a, 1, 0, 0, 0, 0, 0, 0, 0, 0, 0, 0, 0, 0, 0, 0, 24, 0, 0, 0, 0, 0, 0, 0, 1, 0, 0, 0, 0, 0,
-    0, 0, 1, 0, 0, 0, 1, 0, 0, 0, 0, 0, 0, 0, 0, 0, 0, 0,
+static IMAGE: [u8; 52] = [
+    0x5a, 2, 0, 0, 0, 0, 0, 0, 0, 0, 0, 0, 0, 0, 0, 0, 28, 0, 0, 0, 0, 0, 0, 0, 1, 0, 0, 0, 0, 0,
+    0, 0, 1, 0, 0, 0, 1, 0, 0, 0, 0, 0, 0, 0, 0, 0, 0, 0, 0, 0, 0, 0,
 ];
 
 // What opening a store returned: how many records it holds, the type bits of the names 0x100, 0x163 and 0x164, 0 for
@@ -95,9 +95,13 @@ const DAMAGED: Found = Err(StoreFault::Damaged);
 
 const VERSION: Found = Err(StoreFault::Version);
 
-static CORRUPTED: [(bool, usize, u8, Found); 8] = [
+// A version of 1 makes the image none; the segment has the same record then, and the store goes on in the next one.
+static CORRUPTED: [(bool, usize, u8, Found); 11] = [
     (true, 0, 0, DAMAGED),
+    (true, 1, 1, DAMAGED),
     (true, 1, 9, VERSION),
+    (false, 1, 1, Ok((0, [0x20000, 0, 0], 70))),
+    (false, 1, 3, VERSION),
     (true, 2, 1, DAMAGED),
     (true, 8, 1, DAMAGED),
     (true, 8, 2, DAMAGED),
@@ -167,7 +171,7 @@ fn stores_of_many_records(rt: HostRuntime) {
 
 // `SEGMENT` with another version.
 static OTHER: [u8; 70] = [
-    0x5a, 2, 0, 0, 0, 0, 0, 0, 0, 0, 0, 0, 0, 0, 0, 0, 0x5a, 1, 0, 0, 0, 40, 0, 0, 0, 0, 0, 0, 0,
+    0x5a, 3, 0, 0, 0, 0, 0, 0, 0, 0, 0, 0, 0, 0, 0, 0, 0x5a, 1, 0, 0, 0, 40, 0, 0, 0, 0, 0, 0, 0,
     0, 0, 0, 0, 0, 0, 0, 0, 1, 0, 0, 0, 8, 0, 0, 0, 5, 0, 0, 0, 1, 0, 0, 0, 12, 0, 0, 0, 5, 0, 0,
     0, 0, 0, 0, 0, 0, 1, 0, 0, 0,
 ];
@@ -237,18 +241,19 @@ fn crashes_within_an_append(rt: HostRuntime) {
 }
 
 // Stores: whether there is an image, how many batches the segment has, how many bytes are left of it, how many device
-// calls an opening makes (four syncs and four reads of headers; then the making, or a read of the image's length and
-// one of its encoding, a read of what stands after the segment's header, and the segment's end), and what it finds.
+// calls an opening makes (four syncs and four reads of headers; then the making, or reads of the image's version,
+// its length and its encoding, of the segment's version and of what stands after its header, and the segment's end),
+// and what it finds.
 type Described = (bool, u8, usize, u64, Found);
 
 static STORES: [Described; 3] = [
     (false, 0, 0, 24, EMPTY),
-    (true, 1, 70, 13, STORED),
-    (true, 100, 5_317, 13, HUNDRED),
+    (true, 1, 70, 15, STORED),
+    (true, 100, 5_317, 15, HUNDRED),
 ];
 
 // Segments with no gate after their batches, which no server leaves.
-static FOREIGN: [Described; 2] = [(true, 1, 69, 13, STORED), (true, 0, 16, 12, EMPTY)];
+static FOREIGN: [Described; 2] = [(true, 1, 69, 15, STORED), (true, 0, 16, 14, EMPTY)];
 
 static TORN: [Torn; 6] = [
     Torn::Old,

@@ -1,28 +1,14 @@
-//! Slots written byte by byte: headers and segments as docs/FORMATS.md has them, and the images of two states.
+//! Slots written byte by byte, in either version: headers and segments as docs/FORMATS.md has them, and the images of two
+//! states. A version is its number here.
 use std::alloc::{AllocError, Global};
 
-// An open gate and version 1, before the epoch.
-static FRONT: [u8; 8] = [0x5a, 1, 0, 0, 0, 0, 0, 0];
+/// The version that slots are written in.
+pub(crate) const CURRENT: u8 = 2;
 
-// The length and the encoding of the opening state.
-static NO_NAME: [u8; 32] = [
-    24, 0, 0, 0, 0, 0, 0, 0, // length
-    1, 0, 0, 0, 0, 0, 0, 0, // next serial
-    1, 0, 0, 0, 1, 0, 0, 0, // one space, space 1
-    0, 0, 0, 0, 0, 0, 0, 0, // no names, no ports
-];
-
-// The length of the encoding of a state with one receive right, and that encoding up to its name's lowest byte.
-static IMAGE_TO_NAME: [u8; 28] = [
-    94, 0, 0, 0, 0, 0, 0, 0, // length
-    2, 0, 0, 0, 0, 0, 0, 0, // next serial
-    1, 0, 0, 0, 1, 0, 0, 0, // one space, space 1
-    1, 0, 0, 0, // one name
-];
-
-// The same encoding after that byte.
-static IMAGE_AFTER_NAME: [u8; 73] = [
-    1, 0, 0, // the rest of the name
+// The encoding of a state with one receive right, after its space's number and request.
+static ONE_NAME: [u8; 78] = [
+    1, 0, 0, 0, // one name,
+    0, 1, 0, 0, // 0x100
     1, 1, 0, 0, 0, 0, 0, 0, 0, // rights to port 1:
     1, 0, 0, 0, 0, // the receive right, no send rights
     0, 0, 0, 0, 0, 0, 0, 0, // no dead-name request
@@ -48,35 +34,104 @@ static BATCH_AFTER_NAME: [u8; 16] = [
     0, // closed gate
 ];
 
-/// A slot whose gate is open, of version 1 and this epoch.
+// A record that sets the queue limit of the name 0x100 to 0, in a batch of its own, and a closed gate.
+static LIMIT_BATCH: [u8; 54] = [
+    0x5a, 1, 0, 0, 0, 40, 0, 0, 0, 0, 0, 0, 0, // open gate, one record, 40 bytes
+    0, 0, 0, 0, 0, 0, 0, 0, 1, 0, 0, 0, // record 0, space 1
+    12, 0, 0, 0, 10, 0, 0, 0, 0, 1, 0, 0, // mach_port_set_qlimit of 0x100
+    0, 0, 0, 0, // the limit
+    8, 0, 0, 0, 10, 0, 0, 0, 0, 0, 0, 0, // the reply: done
+    0, // closed gate
+];
+
+/// A slot whose gate is open, of this version and epoch.
 pub(crate) fn opened_slot(
     alloc: Global,
+    version: u8,
     epoch: u64,
     content: &[u8],
 ) -> Result<Vec<u8>, AllocError> {
-    let mut slot = Vec::from_slice(alloc, &FRONT)?;
+    let mut slot = Vec::from_slice(alloc, &[0x5a, version, 0, 0, 0, 0, 0, 0])?;
     slot.extend_from_slice(&epoch.to_le_bytes())?;
     slot.extend_from_slice(content)?;
     Ok(slot)
 }
 
-/// An image slot with the opening state.
-pub(crate) fn image_of_none(alloc: Global, epoch: u64) -> Result<Vec<u8>, AllocError> {
-    opened_slot(alloc, epoch, &NO_NAME)
-}
-
-/// An image slot with a state that has one receive right, under this name after 0x100.
-pub(crate) fn image_of_name(alloc: Global, epoch: u64, name: u8) -> Result<Vec<u8>, AllocError> {
-    let mut slot = opened_slot(alloc, epoch, &IMAGE_TO_NAME)?;
-    slot.push(name)?;
-    slot.extend_from_slice(&IMAGE_AFTER_NAME)?;
+// An image slot of a state with only space 1: what its encoding has after the next serial, the space's number and, in
+// version 2, that of its last request.
+fn image_slot(
+    alloc: Global,
+    version: u8,
+    epoch: u64,
+    next_serial: u8,
+    names_and_ports: &[u8],
+) -> Result<Vec<u8>, AllocError> {
+    let request: &[u8] = if version == 1 { &[] } else { &[0; 4] };
+    let length = names_and_ports
+        .len()
+        .saturating_add(request.len())
+        .saturating_add(16) as u64;
+    let mut slot = opened_slot(alloc, version, epoch, &length.to_le_bytes())?;
+    slot.extend_from_slice(&[next_serial, 0, 0, 0, 0, 0, 0, 0])?;
+    slot.extend_from_slice(&[1, 0, 0, 0, 1, 0, 0, 0])?;
+    slot.extend_from_slice(request)?;
+    slot.extend_from_slice(names_and_ports)?;
     Ok(slot)
 }
 
+/// An image slot with the opening state.
+pub(crate) fn image_of_none(alloc: Global, version: u8, epoch: u64) -> Result<Vec<u8>, AllocError> {
+    image_slot(alloc, version, epoch, 1, &[0; 8])
+}
+
+/// An image slot with a state that has one receive right, under this name after 0x100, to a port with this queue limit.
+pub(crate) fn image_with_limit(
+    alloc: Global,
+    version: u8,
+    epoch: u64,
+    name: u8,
+    limit: u8,
+) -> Result<Vec<u8>, AllocError> {
+    let mut names_and_ports = ONE_NAME;
+    names_and_ports[4] = name;
+    names_and_ports[42] = limit;
+    image_slot(alloc, version, epoch, 2, &names_and_ports)
+}
+
+/// The same with the limit that a port has at first.
+pub(crate) fn image_of_name(
+    alloc: Global,
+    version: u8,
+    epoch: u64,
+    name: u8,
+) -> Result<Vec<u8>, AllocError> {
+    image_with_limit(alloc, version, epoch, name, 5)
+}
+
 /// A segment slot with one record, which allocates this name after 0x100 as a receive right.
-pub(crate) fn segment_of_name(alloc: Global, epoch: u64, name: u8) -> Result<Vec<u8>, AllocError> {
-    let mut segment = opened_slot(alloc, epoch, &BATCH_TO_NAME)?;
+pub(crate) fn segment_of_name(
+    alloc: Global,
+    version: u8,
+    epoch: u64,
+    name: u8,
+) -> Result<Vec<u8>, AllocError> {
+    let mut segment = opened_slot(alloc, version, epoch, &BATCH_TO_NAME)?;
     segment.push(name)?;
     segment.extend_from_slice(&BATCH_AFTER_NAME)?;
     Ok(segment)
+}
+
+/// A segment slot with one record, which sets the queue limit of the name 0x100, or without a batch.
+pub(crate) fn segment_of_limit(
+    alloc: Global,
+    version: u8,
+    epoch: u64,
+    limit: Option<u8>,
+) -> Result<Vec<u8>, AllocError> {
+    let Some(limit) = limit else {
+        return opened_slot(alloc, version, epoch, &[0]);
+    };
+    let mut batch = LIMIT_BATCH;
+    batch[37] = limit;
+    opened_slot(alloc, version, epoch, &batch)
 }
