@@ -3,7 +3,7 @@ ghost use Rattle.ipc_model.specs.encodings.Encodings.{call_encoding, reply_encod
 
 use crate::expect::{is_there, same, same_bytes, same_in_row};
 use codes::KernReturn;
-use ipc_model::{Call, Record, Reply, Sequence};
+use ipc_model::{Call, PlainCall, PlainReply, Record, Reply, Sequence};
 use record::{in_range, push_record, take_frame, take_record};
 use std::alloc::Global;
 
@@ -74,18 +74,18 @@ fn receive_bytes(alloc: Global) -> Option<Vec<u8>> {
     let message = Sequence::new(Vec::from_slice(alloc, &RECEIPT[56..]).ok()?);
     let record = Record {
         space: 1,
-        call: Call::Receive {
+        call: Call::Plain(PlainCall::Receive {
             limit: 28,
             large: false,
             name: 0x100,
             waited: false,
-        },
-        reply: Reply::Message {
+        }),
+        reply: Reply::Plain(PlainReply::Message {
             code: KernReturn::Success,
             size: 28,
             member: 0x100,
             message,
-        },
+        }),
     };
     let written = record_bytes(alloc, 2, &record);
     drop(record);
@@ -99,10 +99,10 @@ fn raw_send_bytes(alloc: Global) -> Option<Vec<u8>> {
         \x07\0\0\0\x44\x33\x22\x11";
     let record = Record {
         space: 1,
-        call: Call::Send {
+        call: Call::Plain(PlainCall::Send {
             message: Sequence::new(Vec::from_slice(alloc, sent).ok()?),
-        },
-        reply: Reply::without_message(alloc, KernReturn::Success, 0, 0),
+        }),
+        reply: Reply::Plain(PlainReply::without_message(alloc, KernReturn::Success, 0, 0)),
     };
     let written = record_bytes(alloc, 1, &record);
     drop(record);

@@ -35,12 +35,12 @@ pub(crate) trait Form {
 pub(crate) struct Lines;
 
 impl Form for Lines {
-    ghost use Rattle.listing.specs.Listing.{listing};
+    ghost use Rattle.inspect.specs.Printed.{listing_of};
 
-    ghost text_of = { listing };
+    ghost text_of = { listing_of };
 
     fn append(&self, alloc: Global, look: &Looked, text: &mut Vec<u8>) -> Result<(), AllocError> {
-        listing::list(alloc, look.epoch, look.records, &look.snapshot, text)
+        listing::list(alloc, look.epoch, look.records, &look.snapshot.ipc, text)
     }
 }
 
@@ -54,7 +54,7 @@ impl Form for Drawing {
     ghost text_of = { drawing_of };
 
     fn append(&self, alloc: Global, look: &Looked, text: &mut Vec<u8>) -> Result<(), AllocError> {
-        listing::draw(alloc, &look.snapshot, text)
+        listing::draw(alloc, &look.snapshot.ipc, text)
     }
 }
 

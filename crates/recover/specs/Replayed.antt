@@ -12,7 +12,7 @@ use Rattle.journal.specs.Reading.{Place, EncodesFrom}
 
 -- The records that a segment of a version encodes from this place on lead from one state to another. By then `count`
 -- records are read, and the last batch ends at `end`.
-pub record Replays (version : StoreVersion) (segment : List ℕ) (place : Place) (old new : State)
+pub record ReplaysFrom (version : StoreVersion) (segment : List ℕ) (place : Place) (old new : State)
     (count end : ℕ) : Type 0 where
   pub records : List Record
   pub encoded : EncodesFrom segment place records end

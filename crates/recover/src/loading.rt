@@ -83,12 +83,15 @@ fn state_of(alloc: Global, version: StoreVersion, encoding: &[u8]) -> Result<Ker
         Err(ImageFault::NotCanonical) => return Err(StoreFault::Damaged),
         Err(ImageFault::NoMemory) => return Err(StoreFault::NoMemory),
     };
-    if !have_limits(version, snapshot.ports.as_slice()) {
+    if !have_limits(version, snapshot.ipc.ports.as_slice()) {
         drop(snapshot);
         return Err(StoreFault::Damaged);
     }
     match Kernel::from_snapshot(alloc, snapshot) {
-        Ok(kernel) => Ok(kernel),
+        Ok(kernel) => {
+            kernel.show_image();
+            Ok(kernel)
+        }
         Err(SnapshotFault::NotLawful) => Err(StoreFault::Damaged),
         Err(SnapshotFault::NoMemory) => Err(StoreFault::NoMemory),
     }

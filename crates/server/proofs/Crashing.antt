@@ -11,7 +11,7 @@ use Rattle.disk.specs.Slots.{Slots}
 use Rattle.ipc_model.specs.calls.Step.{Run, Step, has_record, succeeded}
 use Rattle.ipc_model.specs.declared.call.Call.{Call}
 use Rattle.ipc_model.specs.declared.call.Call.TheVariants as call
-use Rattle.ipc_model.specs.declared.call.Reply.{Reply}
+use Rattle.ipc_model.specs.declared.reply.Reply.{Reply}
 use Rattle.ipc_model.specs.declared.record.Record.{Record}
 use Rattle.ipc_model.specs.state.State.{State}
 use Rattle.store_fault.specs.declared.fault.StoreFault.{StoreFault}
@@ -194,12 +194,12 @@ module _ {D : Type 0} (honest : Type 0) (view : D → View) where
         reach = call_reach old receive answer new is_honest held answered;
       }
   message_made (Some send) (Some receive) old answer new is_honest held (sent, mid, first, second) =
-      by (succeeded send sent) refl second
+      by (succeeded sent) refl second
     where
       reach : Reach view old (record_of old.space send sent) mid
       reach = call_reach old send sent mid is_honest held first
 
-      by : (b : Bool) → succeeded send sent ≡ b
+      by : (b : Bool) → succeeded sent ≡ b
           → MatchBool b (AnswersKept honest view mid receive answer new) ((answer ≡ sent) × (new ≡ mid))
           → Made (λ n. MakesMessage (AnswersKept honest view) old (Some send) (Some receive) answer n) old new
       by true is done = record {
@@ -259,7 +259,7 @@ module _ {D : Type 0} (honest : Type 0) (view : D → View) where
   frame_made content old answer new is_honest held (inr (inl refused)) =
       record { records = []; made = inr (inl refused, refl); reach = same_reach old new held refused.2 }
   frame_made content old answer new is_honest held (inr (inr lacks)) =
-      record { records = []; made = inr (inr lacks, refl); reach = same_reach old new held lacks.2 }
+      record { records = []; made = inr (inr lacks, refl); reach = same_reach old new held lacks.1 }
 
   all_made : (exchanges : Exchanges) (old new : AloneValue D) → honest → IsHeld (view old.store.disk) old.kernel
       → Answers (AnswersKept honest view) (RestsKept honest view) old exchanges new

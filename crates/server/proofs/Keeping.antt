@@ -5,7 +5,7 @@ use Rattle.disk.specs.Moments.{View, LeftSince, Passes, IsSynced}
 use Rattle.disk.specs.Slots.{Slots}
 use Rattle.ipc_model.specs.calls.Step.{Step, has_record}
 use Rattle.ipc_model.specs.declared.call.Call.{Call}
-use Rattle.ipc_model.specs.declared.call.Reply.{Reply}
+use Rattle.ipc_model.specs.declared.reply.Reply.{Reply}
 use Rattle.ipc_model.specs.state.State.{State}
 use Rattle.ipc_model.specs.encodings.Encodings.{FitsCall, canonical_record, IsRecord}
 use Rattle.journal.specs.Batch.{BatchValue, Holds}

@@ -1,7 +1,9 @@
 use crate::asked::Asked;
 use crate::expect::same;
 use crate::machine::{Machine, Words, ask, ask_all, make};
-use ipc_model::{Call, CarriedRight, Entry, PortInMessage, PortRights, RightKind, Sequence};
+use ipc_model::{
+    Call, CarriedRight, Entry, PlainCall, PortInMessage, PortRights, RightKind, Sequence,
+};
 use kernel::Kernel;
 use snapshot::{NamedEntry, Snapshot};
 use std::alloc::Global;
@@ -34,9 +36,9 @@ static MESSAGE: [u8; 32] = [
 
 fn message(alloc: Global) -> Option<Call> {
     let bytes = Vec::from_slice(alloc, &MESSAGE).ok()?;
-    Some(Call::Send {
+    Some(Call::Plain(PlainCall::Send {
         message: Sequence::new(bytes),
-    })
+    }))
 }
 
 fn make_calls<M: Machine>(alloc: Global, machine: &mut M) -> Option<Words> {

@@ -4,7 +4,7 @@ ghost use Rattle.std.specs.Prelude.{◌<◌, ◌^◌, length};
 ghost use Rattle.ipc_model.specs.encodings.Encodings.{call_encoding, reply_encoding};
 
 use disk::Disk;
-use ipc_model::{Call, Record, Reply};
+use ipc_model::{Call, PlainCall, PlainReply, Record, Reply};
 use journal::{Batch, Segment};
 use record::push_record;
 use slot_steps::segment_slot;
@@ -29,8 +29,8 @@ fn allocation(name: u32) -> Record
 {
     Record {
         space: 1,
-        call: Call::Allocate { right: 1 },
-        reply: Reply::Allocate { name },
+        call: Call::Plain(PlainCall::Allocate { right: 1 }),
+        reply: Reply::Plain(PlainReply::Allocate { name }),
     }
 }
 

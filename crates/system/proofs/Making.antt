@@ -7,7 +7,7 @@ use Rattle.std.proofs.lemmas.Bool.Decides.{leb_tells}
 use Rattle.epoch_log.specs.Logs.{EpochLogValue, entry_of, log_after, with_record}
 use Rattle.ipc_model.specs.calls.Step.{has_record}
 use Rattle.ipc_model.specs.declared.call.Call.{Call}
-use Rattle.ipc_model.specs.declared.call.Reply.{Reply}
+use Rattle.ipc_model.specs.declared.reply.Reply.{Reply}
 use Rattle.ipc_model.specs.encodings.Encodings.{record_encoding}
 use Rattle.journal.specs.Batch.{without_last}
 use Rattle.system.specs.Halves.{CanCut, KernelValue}

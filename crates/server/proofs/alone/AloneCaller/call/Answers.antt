@@ -16,7 +16,7 @@ returns-then-self-clause-fails g c =
 pub returns-in-Ok-clause-answers : goal.returns-in-Ok-clause-answers
 returns-in-Ok-clause-answers g c =
     let attached =
-    ap (λ (n : ℕ). if succeeded c.args.call c.in-Ok.reply then n else c.self.inside.space)
+    ap (λ (n : ℕ). if succeeded c.in-Ok.reply then n else c.self.inside.space)
     c.attached_by-attached.ensures in
     let after = c.space_after-self-inside.result in
     rw (← c.self.view_is) (record {
