@@ -31,11 +31,13 @@ bench:
 	@folder=$$(mktemp -d) && (cd crates/bench && rt run -- "$$folder") && rm -r "$$folder"
 
 # How many calls a second a server on a socket answers, for several numbers of connections and of frames that are written at once,
-# in a new folder, and what those who wait cost: it proves the programs first.
+# in a new folder, and what those who wait cost: it proves the programs first. With REDIS=1 the server is measured interleaved
+# with Redis, where that is installed, and nothing else is; ROUNDS=N sets how often (3). docs/draw-load draws that table.
 load:
+	@[ -z "$(REDIS)" ] || demo/load-redis --check
 	.ci/bin machipcd load_client
 	@demo/load
-	@demo/waiting
+	@[ -n "$(REDIS)" ] || demo/waiting
 
 # Calls at random, to servers that are killed amid them, compared with the machine written down a second time; and clients that
 # wait. It proves the programs first.

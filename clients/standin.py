@@ -24,12 +24,10 @@ import time
 sys.path.insert(0, str(pathlib.Path(__file__).resolve().parent.parent / "stress"))
 
 import machine  # noqa: E402
-from machine import ARGUMENTS, KERN_INVALID_ARGUMENT, KERN_INVALID_TASK, MACH_MSG  # noqa: E402
-from machine import MACH_RCV_IN_SET, MACH_RCV_INVALID_NAME, MACH_RCV_TIMED_OUT, MACH_RCV_TOO_LARGE  # noqa: E402
+from machine import MACH_MSG  # noqa: E402
+from machine import MACH_RCV_IN_SET, MACH_RCV_INVALID_NAME, MACH_RCV_TIMED_OUT  # noqa: E402
 from machine import MACH_SEND_TIMED_OUT, RCV_MSG, RCV_TIMEOUT, SEND_MSG, SEND_TIMEOUT  # noqa: E402
 
-NUMBERED, KERN_INVALID_VALUE = 22, 18
-IN_REQUESTS = {3, 4, 5, 6, 7, 9, 10, 11, 12, 15, 16, 17, 18, 19, 20}
 LONGEST = 65_532
 # What a receipt's refusals become after a wait.
 AFTER_A_WAIT = {MACH_RCV_INVALID_NAME: 0x10004009, MACH_RCV_IN_SET: 0x10004006}
@@ -53,11 +51,11 @@ class Connection(machine.Connection):
 
 class Standin:
     def __init__(self, path, file, rate, seed):
-        self.machine, self.kept = machine.Machine(), {}
+        self.machine = machine.Machine()
         self.file, self.stored = file, 0
         if file and os.path.exists(file):
             with open(file, "rb") as old:
-                self.machine, self.kept = pickle.load(old)
+                self.machine = pickle.load(old)
             self.stored = self.machine.records
         with contextlib.suppress(FileNotFoundError):
             os.unlink(path)
@@ -130,7 +128,7 @@ class Standin:
         if not self.file or self.stored == self.machine.records:
             return
         with open(f"{self.file}.new", "wb") as new:
-            pickle.dump((self.machine, self.kept), new)
+            pickle.dump(self.machine, new)
         os.rename(f"{self.file}.new", self.file)
         self.stored = self.machine.records
 
@@ -147,12 +145,8 @@ class Standin:
         """The reply, or None where the call waits."""
         (number,) = struct.unpack_from("<I", frame)
         arguments = frame[4:]
-        if number == NUMBERED:
-            return self.numbered(connection.space, arguments)
         if number != MACH_MSG or len(arguments) < 16:
-            reply = connection.answer(frame)
-            self.kept = {it: kept for it, kept in self.kept.items() if it in self.machine.spaces}
-            return reply
+            return connection.answer(frame)
         option, limit, name, timeout = struct.unpack_from("<4I", arguments)
         both = option & SEND_MSG and option & RCV_MSG
         if both and not option & ~machine.OPTIONS:
@@ -199,37 +193,6 @@ class Standin:
                     is_done = is_done and reply is None and before == len(connection.halves)
                     if reply is not None:
                         self.write(connection, reply)
-
-    def numbered(self, space, arguments):
-        if len(arguments) < 8:
-            return words(NUMBERED, KERN_INVALID_ARGUMENT)
-        if space not in self.machine.spaces:
-            return words(NUMBERED, KERN_INVALID_TASK)
-        request, number = struct.unpack_from("<2I", arguments)
-        inner = arguments[8:]
-        if not self.can_be(number, inner):
-            return words(NUMBERED, KERN_INVALID_ARGUMENT)
-        last, last_number, reply = self.kept.get(space, (0, 0, b""))
-        if request == 0 or request < last:
-            return words(NUMBERED, KERN_INVALID_VALUE)
-        if request == last:
-            return reply if number == last_number else words(NUMBERED, KERN_INVALID_ARGUMENT)
-        code, results = self.inner(space, number, inner)
-        reply = words(NUMBERED, 0, request, number, code) + results
-        if code == 0 or code == MACH_RCV_TOO_LARGE and inner[:4] == words(RCV_MSG | RCV_TIMEOUT):
-            self.kept[space] = request, number, reply
-        return reply
-
-    def can_be(self, number, inner):
-        if number == MACH_MSG:
-            return len(inner) >= 16 and inner[:4] in (words(0x11), words(0x102), words(0x902)) and inner[12:16] == words(0)
-        return number in IN_REQUESTS and len(inner) == 4 * ARGUMENTS[number]
-
-    def inner(self, space, number, inner):
-        if number == MACH_MSG:
-            code, size, member, text = self.machine.mach_msg(space, inner)
-            return code, words(size, member) + text
-        return self.machine.call(space, number, struct.unpack(f"<{len(inner) // 4}I", inner))
 
 
 def main():

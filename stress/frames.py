@@ -16,6 +16,8 @@ from machine import (
     MOVE_SEND_ONCE,
     NO_SENDERS,
     NULL,
+    NUMBERED,
+    ONE_ATTEMPT,
     PORT_DESTROYED,
     RCV_LARGE,
     RCV_MSG,
@@ -29,7 +31,7 @@ from machine import (
 
 # How often each call is made.
 OFTEN = {0: 2, 1: 2, 2: 2, 3: 3, 4: 3, 5: 7, 6: 2, 7: 5, 8: 2, 9: 5, 10: 2, 11: 1, 12: 1, 13: 4, 14: 2, 15: 4}
-OFTEN |= {16: 9, 17: 9, 18: 7, MACH_MSG: 60, 20: 1, 21: 0.3, 99: 0.3}
+OFTEN |= {16: 9, 17: 9, 18: 7, MACH_MSG: 60, 20: 1, 21: 0.3, NUMBERED: 12, 99: 0.3}
 OF_SPACES = {0, 20, 21}
 
 # How many names and spaces there are before more is destroyed than made.
@@ -58,10 +60,30 @@ class Frames:
         number = self.number()
         if number == MACH_MSG:
             return words(number) + self.mach_msg()
+        if number == NUMBERED:
+            return words(number) + self.numbered()
         if number not in ARGUMENTS:
             return words(self.random.choice([23, 99, LAST_WORD])) + bytes(self.random.choice([0, 1, 4, 8]))
         arguments = words(*self.arguments(number))
         return words(number) + arguments + bytes(4 * (self.random.random() < 0.003))
+
+    def numbered(self):
+        """A request, most often the next one or the last one again, and a call, most often one that may be numbered."""
+        chance = self.random.random()
+        last, _ = self.machine.kept.get(self.connection.space, (0, b""))
+        others = [*[0, last - 1, last + 2] * 20, LAST_WORD]
+        asked = last + 1 if chance < 0.7 else last if chance < 0.9 else self.random.choice(others)
+        if chance > 0.98:
+            return words(asked)[: self.random.choice([0, 4])] + bytes(self.random.choice([0, 1, 4, 8]))
+        number = self.number()
+        if number == MACH_MSG:
+            option = self.random.choice([*ONE_ATTEMPT] * 8 + [SEND_MSG, RCV_MSG, 0])
+            arguments = words(option) + self.mach_msg()[4:]
+            is_once = self.random.random() < 0.95
+            return words(asked, number) + arguments[:12] + (words(0) if is_once else arguments[12:16]) + arguments[16:]
+        if number not in ARGUMENTS:
+            return words(asked, number) + bytes(4)
+        return words(asked, number, *self.arguments(number))
 
     def number(self):
         while True:

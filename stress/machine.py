@@ -46,7 +46,7 @@ MACH_RCV_HEADER_ERROR, MACH_MSG_IPC_SPACE = 0x1000400B, 0x2000
 
 SEND_MSG, RCV_MSG, SEND_TIMEOUT, RCV_TIMEOUT, RCV_LARGE = 1, 2, 0x10, 0x100, 0x800
 OPTIONS = SEND_MSG | RCV_MSG | SEND_TIMEOUT | RCV_TIMEOUT | RCV_LARGE
-MACH_MSG = 19
+MACH_MSG, NUMBERED = 19, 22
 
 MOST_NAMES, MOST_PORTS, MOST_SPACES, MOST_RIGHTS = 4096, 16384, 256, 256
 MOST_SENDS, MOST_DEAD, MOST_QUEUED, LONGEST = 65_534, 65_535, 64, 8192
@@ -55,6 +55,10 @@ MOST_SENDS, MOST_DEAD, MOST_QUEUED, LONGEST = 65_534, 65_535, 64, 8192
 ARGUMENTS = {0: 1, 1: 0, 2: 1, 3: 2, 4: 2, 5: 1, 6: 1, 7: 1, 8: 2, 9: 3, 10: 2, 11: 2, 12: 2}
 ARGUMENTS |= {13: 1, 14: 1, 15: 2, 16: 5, 17: 3, 18: 2, 20: 2, 21: 0}
 WITHOUT_RECORD = {0, 1, 2, 8, 13, 14}
+
+# What number 22 takes: these calls, and of mach_msg a send and a receive that are one attempt.
+MAY_BE_NUMBERED = {3, 4, 5, 6, 7, 9, 10, 11, 12, 15, 16, 17, 18, 20}
+ONE_ATTEMPT = {SEND_MSG | SEND_TIMEOUT, RCV_MSG | RCV_TIMEOUT, RCV_MSG | RCV_TIMEOUT | RCV_LARGE}
 
 
 class Refused(Exception):
@@ -162,6 +166,7 @@ class Machine:
         self.next_serial = 1
         self.effects = deque()
         self.records = 0
+        self.kept = {}
 
     # What is counted and found.
 
@@ -564,6 +569,7 @@ class Machine:
         for name in sorted(self.spaces[space]):
             self.destroy(space, name)
         del self.spaces[space]
+        self.kept.pop(space, None)
 
     # Messages.
 
@@ -697,6 +703,36 @@ class Machine:
         return self.receive(space, limit, bool(option & RCV_LARGE), name)
 
 
+    def numbered(self, space, arguments):
+        """The code and the results of a call that a task numbers. A space keeps the last one that has a record."""
+        if space not in self.spaces:
+            return KERN_INVALID_TASK, b""
+        if not may_be_numbered(arguments[4:]):
+            return KERN_INVALID_ARGUMENT, b""
+        (request,), call = struct.unpack_from("<I", arguments), arguments[4:]
+        last, reply = self.kept.get(space, (0, b""))
+        if request < max(last, 1):
+            return KERN_INVALID_VALUE, b""
+        if request == last:
+            return (0, reply) if reply[4:8] == call[:4] else (KERN_INVALID_ARGUMENT, b"")
+        records, connection = self.records, Connection(self)
+        connection.space = space
+        reply = arguments[:4] + connection.answer(call)
+        if self.records > records:
+            self.kept[space] = request, reply
+        return 0, reply
+
+
+def may_be_numbered(call):
+    (number,) = struct.unpack_from("<I", call)
+    if number == MACH_MSG:
+        if len(call) < 20:
+            return False
+        option, _, _, timeout = struct.unpack_from("<4I", call, 4)
+        return option in ONE_ATTEMPT and timeout == 0
+    return number in MAY_BE_NUMBERED and len(call) == 4 + 4 * ARGUMENTS[number]
+
+
 CALLS = {
     0: "attach",
     1: "names",
@@ -736,6 +772,9 @@ class Connection:
         if number == MACH_MSG:
             code, size, member, text = self.machine.mach_msg(self.space, arguments)
             return struct.pack("<4I", number, code, size, member) + text
+        if number == NUMBERED and len(arguments) >= 8:
+            code, results = self.machine.numbered(self.space, arguments)
+            return struct.pack("<II", number, code) + results
         if len(arguments) != 4 * ARGUMENTS.get(number, -1):
             return struct.pack("<II", number, KERN_INVALID_ARGUMENT)
         words = struct.unpack(f"<{ARGUMENTS[number]}I", arguments)

@@ -2,6 +2,7 @@
 
 import pathlib
 import shutil
+import signal
 import struct
 import subprocess
 import tempfile
@@ -52,6 +53,25 @@ def compare(frames, wanted, replies):
     for frame, want, reply in zip(frames, wanted, replies):
         if want != reply:
             raise Difference(f"frame {frame.hex()}\nwanted {want.hex()}\ncame   {reply.hex()}")
+
+
+def kill(server):
+    """Kills a server, which hasn't ended by itself."""
+    server.kill()
+    status = server.wait()
+    if status != -signal.SIGKILL:
+        raise Difference(f"the server ended by itself, with status {status}")
+
+
+def on_socket(store):
+    """A server on a socket that is ready, and the socket's path."""
+    path = store.folder + ".socket"
+    pathlib.Path(path).unlink(missing_ok=True)
+    pipes = {"stdout": subprocess.PIPE, "stderr": subprocess.PIPE}
+    server = subprocess.Popen([store.programs / "machipcd", "--socket", path, store.folder], **pipes)
+    if server.stdout.readline() != b"machipcd: ready\n":
+        raise Difference(f"not ready: {server.stderr.read()}")
+    return server, path
 
 
 class Store:

@@ -13,8 +13,11 @@ use std::alloc::Global;
 /// How many times calls, requests and plain writes are timed, interleaved; the shortest time of each counts.
 const TURNS: u32 = 25;
 
-/// How many times the lines of each kind are made in a turn, and how many plain writes are.
+/// How many times the lines of each kind are made in a turn, how many numbers they have there, and how many plain
+/// writes are made.
 const PAIRS: u64 = 25;
+
+const NUMBERS: u32 = 50;
 
 const TRIPS: u64 = 12;
 
@@ -26,6 +29,12 @@ static BEFORE: [&str; 2] = ["allocate receive", "allocate receive"];
 /// Calls that are stored one by one.
 static CALLS: [&str; 2] = ["allocate dead_name", "deallocate 0x102"];
 
+/// The same with numbers.
+static NUMBERED: [&str; 2] = [
+    "numbered # allocate dead_name",
+    "numbered # deallocate 0x102",
+];
+
 /// The calls of a request and its reply.
 static TRIP: [&str; 4] = [
     "send make_send 0x100 local make_send_once 0x101 id 1",
@@ -34,50 +43,57 @@ static TRIP: [&str; 4] = [
     "receive 0x101 limit 100",
 ];
 
-/// The nanoseconds that calls, requests with their replies, and plain writes take.
+/// The nanoseconds that calls, numbered calls, requests with their replies, and plain writes take.
 #[derive(Clone, Copy)]
 struct Times {
     calls: u64,
+    numbered: u64,
     trips: u64,
     writes: u64,
 }
 
-/// Makes a call, which has to be acknowledged.
-fn make<C: Caller>(alloc: Global, caller: &mut C, line: &str) -> Result<(), Fault> {
-    match caller.call(call_of(alloc, line, 0)?) {
+/// Makes a call, which has to be acknowledged, with this number if its line has one.
+fn make<C: Caller>(alloc: Global, caller: &mut C, line: &str, number: u32) -> Result<(), Fault> {
+    match caller.call(call_of(alloc, line, number)?) {
         Ok(reply) if reply.is_success() => Ok(()),
         _ => Err(Fault::Call),
     }
 }
 
-/// Makes the calls of lines `times` times, and returns how long that takes.
+/// Makes the calls of lines `times` times, with numbers after this one, and returns how long that takes.
 fn time_lines<C: Caller>(
     context: &Context<'_>,
     caller: &mut C,
     lines: &[&'static str],
     times: u64,
+    last: u32,
 ) -> Result<u64, Fault> {
     let start = context.nanos();
+    let mut number = last;
     for _ in 0..times {
         for line in lines {
-            make(context.alloc, caller, line)?;
+            number = number.saturating_add(1);
+            make(context.alloc, caller, line, number)?;
         }
     }
     Ok(context.since(start))
 }
 
-/// One turn, whose times count if they are shorter.
+/// One turn, whose times count if they are shorter. Its numbers follow this one.
 fn time_turn<C: Caller>(
     context: &Context<'_>,
     caller: &mut C,
     plain: &mut Plain,
+    last: u32,
     least: Times,
 ) -> Result<Times, Fault> {
-    let calls = time_lines(context, caller, &CALLS, PAIRS)?;
-    let trips = time_lines(context, caller, &TRIP, TRIPS)?;
+    let calls = time_lines(context, caller, &CALLS, PAIRS, 0)?;
+    let numbered = time_lines(context, caller, &NUMBERED, PAIRS, last)?;
+    let trips = time_lines(context, caller, &TRIP, TRIPS, 0)?;
     let writes = plain.time(context, PAIR, WRITES)?;
     Ok(Times {
         calls: calls.min(least.calls),
+        numbered: numbered.min(least.numbered),
         trips: trips.min(least.trips),
         writes: writes.min(least.writes),
     })
@@ -88,14 +104,17 @@ fn time_turns<C: Caller>(
     caller: &mut C,
     plain: &mut Plain,
 ) -> Result<Times, Fault> {
-    time_lines(context, caller, &BEFORE, 1)?;
+    time_lines(context, caller, &BEFORE, 1, 0)?;
     let mut least = Times {
         calls: u64::MAX,
+        numbered: u64::MAX,
         trips: u64::MAX,
         writes: u64::MAX,
     };
+    let mut last = 0u32;
     for _ in 0..TURNS {
-        least = time_turn(context, caller, plain, least)?;
+        least = time_turn(context, caller, plain, last, least)?;
+        last = last.saturating_add(NUMBERS);
     }
     Ok(least)
 }
@@ -112,8 +131,8 @@ fn time_disk<D: Disk + Drop>(
     times
 }
 
-/// Prints how many calls per second are stored, how many requests with their replies, which are four calls, and how
-/// many plain writes are made, on a disk that has no store yet.
+/// Prints how many calls per second are stored, how many with numbers, how many requests with their replies, which are
+/// four calls, and how many plain writes are made, on a disk that has no store yet.
 pub(crate) fn print_lone<D: Disk + Drop>(
     context: &Context<'_>,
     disk: Result<D, Fault>,
@@ -121,14 +140,15 @@ pub(crate) fn print_lone<D: Disk + Drop>(
 ) -> Result<(), Fault> {
     let times = time_disk(context, disk?, plain)?;
     let calls = per_second(PAIRS.saturating_mul(2), times.calls);
+    let numbered = per_second(PAIRS.saturating_mul(2), times.numbered);
     let trips = per_second(TRIPS, times.trips);
     let writes = per_second(WRITES, times.writes);
     context.print_row(
-        "a second, of a lone connection: calls, round trips, pairs of syncs; calls for a pair, round trips for a pair",
+        "a second, of a lone connection: calls, numbered calls, round trips, pairs of syncs; each of the first three for a pair",
         &[],
         &[],
     );
-    let ratios = [hundredths(calls, writes), hundredths(trips, writes)];
-    context.print_row("lone", &[calls, trips, writes], &ratios);
+    let ratios = [calls, numbered, trips].map(|rate| hundredths(rate, writes));
+    context.print_row("lone", &[calls, numbered, trips, writes], &ratios);
     Ok(())
 }

@@ -13,6 +13,7 @@ mod lines;
 mod lone;
 mod makers;
 mod messages;
+mod numbered;
 mod openings;
 mod plain;
 mod slowest;
@@ -29,6 +30,7 @@ use crate::deaths::print_deaths;
 use crate::images::print_images;
 use crate::lone::print_lone;
 use crate::messages::print_messages;
+use crate::numbered::print_numbered;
 use crate::openings::print_openings;
 use crate::plain::Plain;
 use crate::slowest::print_slowest;
@@ -84,6 +86,7 @@ fn print_in_memory<M: Machine + Drop>(context: &Context<'_>) -> Result<(), Fault
     let mut machines = place_all::<M>(context.alloc, u32::MAX)?;
     print_costs(context, &mut machines)?;
     print_messages(context, &mut machines)?;
+    print_numbered::<M>(context)?;
     let mut machines = place_all::<M>(context.alloc, ROOM_FOR_DEATHS)?;
     print_deaths(context, &mut machines)
 }

@@ -9,7 +9,7 @@ use crate::watched::{Watch, Watched};
 use crate::ways::HERE;
 use codes::CHECKPOINT_RECORDS;
 use disk::Disk;
-use ipc_model::Call;
+use ipc_model::{Call, PlainCall};
 use server::Caller;
 use std::alloc::Global;
 
@@ -112,10 +112,10 @@ fn time_round<C: Caller>(
     caller: &mut C,
     watch: &Watch,
 ) -> Result<Round, Fault> {
-    let recorded = Call::SetMscount {
+    let recorded = Call::Plain(PlainCall::SetMscount {
         name: FIRST_NAME,
         count: 1,
-    };
+    });
     let start = context.nanos();
     match caller.call(recorded) {
         Ok(reply) if reply.is_success() => {}

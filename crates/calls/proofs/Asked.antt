@@ -1,11 +1,13 @@
 -- What frames ask for.
 use Rattle.std.proofs.Common.{◌≡◌, ◌≢◌, ℕ, Bool, true, false, ◌==◌, ◌||◌, List, ◌++◌, drop, ◌⊎◌, Result, Ok, Err, IfOk, bit_and, if◌then◌else◌, sym, ap, subst, ◌∙◌, arith}
-use Rattle.codes.specs.declared.call_number.TheConstants.{MACH_MSG}
+use Rattle.codes.specs.declared.call_number.TheConstants.{MACH_MSG, NUMBERED}
 use Rattle.codes.specs.declared.kern_return.KernReturn.TheVariants.{Success, InvalidArgument}
 use Rattle.ipc_model.specs.declared.call.Call.{Call}
-use Rattle.ipc_model.specs.calls.Step.{number_of_call}
+use Rattle.ipc_model.specs.declared.call.Call.TheVariants.{Plain, Numbered, Unnumberable}
+use Rattle.ipc_model.specs.declared.plain_call.PlainCall.{PlainCall}
+use Rattle.ipc_model.specs.calls.PlainStep.{number_of_call}
 use Rattle.ipc_laws.specs.EncodingReading.{number-fits}
-use Rattle.ipc_model.specs.encodings.Encodings.{call_encoding, arguments_encoding}
+use Rattle.ipc_model.specs.encodings.PlainCalls.{call_encoding, arguments_encoding}
 use Rattle.words.specs.WordLaws.{same_word}
 use Rattle.words.specs.Words.{word}
 use Rattle.calls.specs.declared.request.CallFault.{CallFault}
@@ -44,8 +46,8 @@ pub asks_in_front : (content arguments : List ℕ) (r : Result Request CallFault
 asks_in_front content arguments (Ok q) is asks = front_of content arguments q is asks
 asks_in_front content arguments (Err e) is asks = tt
 
-not_one : (content arguments : List ℕ) (c : Call) → content ≡ word MACH_MSG ++ arguments → number_of_call c ≢ MACH_MSG
-    → content ≡ call_encoding c → ⊥
+not_one : (content arguments : List ℕ) (c : PlainCall) → content ≡ word MACH_MSG ++ arguments
+    → number_of_call c ≢ MACH_MSG → content ≡ call_encoding c → ⊥
 unfolding call_encoding
 not_one content arguments c is other encoding =
     other (same_word (number_of_call c) MACH_MSG (arguments_encoding c) arguments (number-fits c) (omega arith)
@@ -57,12 +59,20 @@ beyond arguments others q same asks =
     let e : others ≡ arguments = ap (λ (l : List ℕ). drop 4 l) (sym same) in subst
     (λ (l : List ℕ). AsksMachMsg l q) e asks
 
+not_numbered : (arguments others : List ℕ) → word MACH_MSG ++ arguments ≡ word NUMBERED ++ others → ⊥
+not_numbered arguments others same =
+    absurd (omega (arith, same_word MACH_MSG NUMBERED arguments others (omega arith) (omega arith) same))
+
 -- and what its frame asks for, they ask for
 pub asks_after : (content arguments : List ℕ) (r : Result Request CallFault) → content ≡ word MACH_MSG ++ arguments
     → ((q : Request) → AsksMachMsg arguments q → (r ≡ Ok q) ⊎ (r ≡ Err NoMemory)) → (q : Request) → Asks content q
     → (r ≡ Ok q) ⊎ (r ≡ Err NoMemory)
-asks_after content arguments r is only (request.One c) (other, fits, encoding) =
+asks_after content arguments r is only (request.One (Plain c)) (other, fits, encoding) =
     absurd (not_one content arguments c is other encoding)
+asks_after content arguments r is only (request.One (Numbered numbered)) (others, encoding, asks) =
+    absurd (not_numbered arguments others (sym is ∙ encoding))
+asks_after content arguments r is only (request.One Unnumberable) (others, encoding, asks) =
+    absurd (not_numbered arguments others (sym is ∙ encoding))
 asks_after content arguments r is only (request.Message m) (others, encoding, asks) =
     only (request.Message m) (beyond arguments others (request.Message m) (sym is ∙ encoding) asks)
 asks_after content arguments r is only (request.Answered code) (others, encoding, asks) =

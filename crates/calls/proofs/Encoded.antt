@@ -1,10 +1,10 @@
 -- What is added for a call is its encoding.
 use Rattle.std.proofs.Common.{◌≡◌, ◌++◌, List, ℕ, OnOk, Result, sym, subst}
 use Rattle.std.specs.declared.alloc.AllocError.{AllocError}
-use Rattle.ipc_model.specs.declared.call.Call.{Call}
-use Rattle.ipc_model.specs.encodings.Encodings.{call_encoding}
+use Rattle.ipc_model.specs.declared.plain_call.PlainCall.{PlainCall}
+use Rattle.ipc_model.specs.encodings.PlainCalls.{call_encoding}
 
-pub encoded : (result : Result (Unit {0}) AllocError) (call other : Call) (old new : List ℕ) → call ≡ other
+pub encoded : (result : Result (Unit {0}) AllocError) (call other : PlainCall) (old new : List ℕ) → call ≡ other
     → OnOk result (new ≡ old ++ call_encoding other) → OnOk result (new ≡ old ++ call_encoding call)
 encoded result call other old new is holds =
-    subst (λ (c : Call). OnOk result (new ≡ old ++ call_encoding c)) (sym is) holds
+    subst (λ (c : PlainCall). OnOk result (new ≡ old ++ call_encoding c)) (sym is) holds

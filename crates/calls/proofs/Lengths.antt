@@ -1,9 +1,10 @@
 -- How long the encodings of rows are.
 use Rattle.std.proofs.Common.{◌≡◌, ℕ, ◌+◌, ◌*◌, ◌<◌, ◌≤◌, List, [], ◌∷◌, ◌++◌, length, take, flat_map, refl, subst, ap, arith, length-append, length-take}
-use Rattle.ipc_model.specs.declared.call.NamedType.{NamedType}
-use Rattle.ipc_model.specs.declared.call.Reply.{Reply}
-use Rattle.ipc_model.specs.declared.call.Reply.TheVariants as reply
-use Rattle.ipc_model.specs.encodings.Encodings.{reply_encoding}
+use Rattle.codes.specs.declared.kern_return.KernReturn.{KernReturn}
+use Rattle.ipc_model.specs.declared.plain_reply.NamedType.{NamedType}
+use Rattle.ipc_model.specs.declared.plain_reply.PlainReply.{PlainReply}
+use Rattle.ipc_model.specs.declared.plain_reply.PlainReply.TheVariants as reply
+use Rattle.ipc_model.specs.encodings.PlainCalls.{reply_encoding}
 use Rattle.words.specs.Words.{word}
 use Rattle.calls.specs.Rows.{names_encoding}
 
@@ -28,18 +29,18 @@ pub length-members_reply : (members : List ℕ)
 unfolding reply_encoding
 length-members_reply members = let row = length-words_text members in omega (arith, row)
 
-pub few_names : (r : Reply) (names : List NamedType) (most : ℕ) → r ≡ reply.Names names
+pub few_names : (r : PlainReply) (names : List NamedType) (most : ℕ) → r ≡ reply.Names names
     → length (reply_encoding r) ≤ most → 12 + 8 * length names ≤ most
 few_names r names most is short =
     let few : length (reply_encoding (reply.Names names)) ≤ most =
-    subst (λ (x : Reply). length (reply_encoding x) ≤ most) is short in
+    subst (λ (x : PlainReply). length (reply_encoding x) ≤ most) is short in
     omega (arith, few, length-names_reply names)
 
-pub few_members : (r : Reply) (members : List ℕ) (most : ℕ) → r ≡ reply.SetStatus members
+pub few_members : (r : PlainReply) (members : List ℕ) (most : ℕ) → r ≡ reply.SetStatus members
     → length (reply_encoding r) ≤ most → 12 + 4 * length members ≤ most
 few_members r members most is short =
     let few : length (reply_encoding (reply.SetStatus members)) ≤ most =
-    subst (λ (x : Reply). length (reply_encoding x) ≤ most) is short in
+    subst (λ (x : PlainReply). length (reply_encoding x) ≤ most) is short in
     omega (arith, few, length-members_reply members)
 
 -- room for one more item, once some of a row have been added
@@ -55,3 +56,11 @@ pub names_room : (old content : List ℕ) (names : List NamedType) (i : ℕ)
 names_room old content names i is less =
     let added = length-names_encoding (take i names) in
     omega (arith, ap length is, length-append old (names_encoding (take i names)), added, length-take i names)
+
+pub few_bytes : (r : PlainReply) (code : KernReturn) (size member : ℕ) (message : List ℕ) (most : ℕ)
+    → r ≡ reply.Message code size member message → length (reply_encoding r) ≤ most → 16 + length message ≤ most
+unfolding reply_encoding
+few_bytes r code size member message most is short =
+    let few : length (reply_encoding (reply.Message code size member message)) ≤ most =
+    subst (λ (x : PlainReply). length (reply_encoding x) ≤ most) is short in
+    omega (arith, few)

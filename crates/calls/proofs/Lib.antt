@@ -2,6 +2,7 @@ mod Asked
 mod Lengths
 mod Masks
 mod Messages
+mod RequestLaws
 mod Options
-mod Replies
+pub mod PlainReplies
 mod Encoded

@@ -4,10 +4,10 @@ use Rattle.std.proofs.lemmas.Bool.Decides.{Decides-eqb}
 use Rattle.std.proofs.lemmas.Slice.Eq.{slice_eq-Decides}
 use Rattle.std.specs.Cmp.Lexicographic.{pointwise}
 use Rattle.codes.specs.declared.call_number.TheConstants.{MACH_MSG}
-use Rattle.ipc_model.specs.declared.call.Call.{Call}
-use Rattle.ipc_model.specs.declared.call.Call.TheVariants as call
-use Rattle.ipc_model.specs.calls.Step.{number_of_call}
-use Rattle.ipc_model.specs.encodings.Encodings.{arguments_encoding, receive_option, number_of_bool, IsCanonicalCall}
+use Rattle.ipc_model.specs.declared.plain_call.PlainCall.{PlainCall}
+use Rattle.ipc_model.specs.declared.plain_call.PlainCall.TheVariants as call
+use Rattle.ipc_model.specs.calls.PlainStep.{number_of_call}
+use Rattle.ipc_model.specs.encodings.PlainCalls.{arguments_encoding, receive_option, number_of_bool, IsCanonicalCall}
 use Rattle.ipc_model.specs.messages.Kept.{canonical_message}
 use Rattle.words.specs.Words.{AreBytes, word}
 use Rattle.calls.proofs.Masks.{at_drop}
@@ -38,11 +38,11 @@ bytes_after bytes beyond n are is i =
     (subst (λ (k : ℕ). k < 256) (sym (at_drop n bytes i)) (are (n + i)))
 
 -- after the option of a receive comes a receive
-pub only_receipt : (large : Bool) (words : List ℕ) (r : Option Call)
+pub only_receipt : (large : Bool) (words : List ℕ) (r : Option PlainCall)
     → ((limit name : ℕ) (waited : Bool) → limit < 2 ^ 32 → name < 2 ^ 32
     → words ≡ word limit ++ (word name ++ word (number_of_bool waited))
     → r ≡ Some (call.Receive limit large name waited))
-    → (c : Call) → IsCanonicalCall c → number_of_call c ≡ MACH_MSG
+    → (c : PlainCall) → IsCanonicalCall c → number_of_call c ≡ MACH_MSG
     → word (receive_option large) ++ words ≡ arguments_encoding c → r ≡ Some c
 only_receipt true words r only (call.Send message) fits number is = absurd cc
 only_receipt false words r only (call.Send message) fits number is = absurd cc
@@ -55,7 +55,7 @@ only_receipt false words r only (call.Receive limit false name waited) fits numb
 only_receipt large words r only c fits number is = absurd (omega (arith, number))
 
 -- a message in its kept form is kept unchanged
-message_of : Call → List ℕ
+message_of : PlainCall → List ℕ
 message_of (call.Send message) = message
 message_of c = []
 

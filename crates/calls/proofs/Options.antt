@@ -3,15 +3,15 @@ use Rattle.std.proofs.Common.{◌≡◌, ℕ, ◌<◌, ◌^◌, true, false, Lis
 use Rattle.bitflags.specs.Sets.{known_bits, known_from}
 use Rattle.codes.specs.declared.call_number.TheConstants.{MACH_MSG}
 use Rattle.codes.specs.MessageOptions.{option_rows}
-use Rattle.ipc_model.specs.declared.call.Call.{Call}
-use Rattle.ipc_model.specs.declared.call.Call.TheVariants as call
-use Rattle.ipc_model.specs.calls.Step.{number_of_call}
-use Rattle.ipc_model.specs.encodings.Encodings.{arguments_encoding}
+use Rattle.ipc_model.specs.declared.plain_call.PlainCall.{PlainCall}
+use Rattle.ipc_model.specs.declared.plain_call.PlainCall.TheVariants as call
+use Rattle.ipc_model.specs.calls.PlainStep.{number_of_call}
+use Rattle.ipc_model.specs.encodings.PlainCalls.{arguments_encoding}
 use Rattle.words.specs.WordLaws.{same_word}
 use Rattle.words.specs.Words.{word}
 
 -- each of them is known
-pub known_option : (option : ℕ) (words : List ℕ) (c : Call) → option < 2 ^ 32 → number_of_call c ≡ MACH_MSG
+pub known_option : (option : ℕ) (words : List ℕ) (c : PlainCall) → option < 2 ^ 32 → number_of_call c ≡ MACH_MSG
     → word option ++ words ≡ arguments_encoding c
     → bit_and option (known_bits option_rows) ≡ option
 unfolding known_from

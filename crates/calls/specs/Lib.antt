@@ -1,3 +1,4 @@
+pub mod PlainReplies
 pub mod Replies
 pub mod Requests
 pub mod Rows

@@ -1,24 +1,16 @@
--- Replies, as the frames that answer calls have them.
-use Rattle.std.specs.Prelude.{◌≡◌, ◌≢◌, ℕ, Bool, true, false, ◌==◌, ◌||◌, not, IsTrue, List}
-use Rattle.codes.specs.declared.call_number.TheConstants.{MACH_PORT_NAMES, MACH_PORT_TYPE, MACH_PORT_ALLOCATE, MACH_PORT_GET_REFS, MACH_PORT_GET_RECEIVE_STATUS, MACH_PORT_GET_SET_STATUS, MACH_PORT_REQUEST_NOTIFICATION, MACH_PORT_EXTRACT_RIGHT, MACH_MSG, SPACE_CREATE}
-use Rattle.codes.specs.declared.kern_return.KernReturn.TheVariants.{Success}
-use Rattle.ipc_model.specs.declared.call.Reply.{Reply}
-use Rattle.ipc_model.specs.declared.call.Reply.TheVariants as reply
-use Rattle.ipc_model.specs.encodings.Encodings.{reply_encoding, done_encoding, number_of_reply, FitsReply}
+-- Replies, as the frames that answer calls have them, with those to numbered calls.
+use Rattle.std.specs.Prelude.{◌≡◌, ℕ, List}
+use Rattle.ipc_model.specs.declared.reply.Reply.{Reply}
+use Rattle.ipc_model.specs.declared.reply.Reply.TheVariants as reply
+use Rattle.ipc_model.specs.encodings.Encodings.{reply_encoding, number_of_reply, FitsReply}
+use Rattle.calls.specs.PlainReplies as plain
 
--- a call of this number that was done has results
-abbrev pub has_results : ℕ → Bool
-has_results n =
-    n == MACH_PORT_NAMES || n == MACH_PORT_TYPE || n == MACH_PORT_ALLOCATE || n == MACH_PORT_GET_REFS ||
-    n == MACH_PORT_GET_RECEIVE_STATUS || n == MACH_PORT_GET_SET_STATUS || n == MACH_PORT_REQUEST_NOTIFICATION ||
-    n == MACH_PORT_EXTRACT_RIGHT || n == SPACE_CREATE || n == MACH_MSG
-
--- A refusal has a code, and is none of mach_msg, which has its results in any case. No call that has results is done
--- without them.
+-- The reply to the call that is numbered is one of its own. That a call was made before isn't seen: in bytes, its reply
+-- again is the first one.
 abbrev pub IsWellFormed : Reply → Type 0
-IsWellFormed (reply.Refused number code) = (number ≢ MACH_MSG) × (code ≢ Success)
-IsWellFormed (reply.Done number) = IsTrue (not (has_results number))
-IsWellFormed answer = Unit {0}
+IsWellFormed (reply.Plain answer) = plain.IsWellFormed answer
+IsWellFormed (reply.Numbered answer) = plain.IsWellFormed answer.reply
+IsWellFormed (reply.Repeated answer) = ⊥
 
 -- A frame of this content answers a call of this number by this reply.
 pub record Answers (number : ℕ) (content : List ℕ) (answer : Reply) : Type 0 where
@@ -26,16 +18,3 @@ pub record Answers (number : ℕ) (content : List ℕ) (answer : Reply) : Type 0
   pub fits : FitsReply answer
   pub of_call : number_of_reply answer ≡ number
   pub well_formed : IsWellFormed answer
-
--- a call other than mach_msg was done
-abbrev pub is_done : Reply → Bool
-is_done (reply.Refused number code) = false
-is_done (reply.Message code size member message) = false
-is_done answer = true
-
--- A call of this number was done, and these are the results of the reply.
-pub record HasResults (number : ℕ) (results : List ℕ) (answer : Reply) : Type 0 where
-  pub text : done_encoding number results ≡ reply_encoding answer
-  pub fits : FitsReply answer
-  pub of_call : number_of_reply answer ≡ number
-  pub done : IsTrue (is_done answer)

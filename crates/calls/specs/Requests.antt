@@ -1,11 +1,13 @@
 -- What a frame asks for.
-use Rattle.std.specs.Prelude.{◌≡◌, ◌≢◌, ℕ, ◌<◌, ◌^◌, Bool, false, IsTrue, ◌==◌, ◌||◌, List, ◌++◌, Option, None, Some, bit_and, if◌then◌else◌}
-use Rattle.codes.specs.declared.call_number.TheConstants.{MACH_MSG}
+use Rattle.std.specs.Prelude.{◌≡◌, ◌≢◌, ◌⊎◌, ℕ, ◌<◌, ◌≤◌, ◌^◌, Bool, true, false, IsTrue, ◌==◌, ◌||◌, List, ◌++◌, length, Option, None, Some, bit_and, if◌then◌else◌}
+use Rattle.codes.specs.declared.call_number.TheConstants.{MACH_MSG, NUMBERED}
 use Rattle.codes.specs.declared.kern_return.KernReturn.TheVariants.{Success, InvalidArgument}
 use Rattle.ipc_model.specs.declared.call.Call.{Call}
-use Rattle.ipc_model.specs.declared.call.Call.TheVariants as call
-use Rattle.ipc_model.specs.calls.Step.{number_of_call}
-use Rattle.ipc_model.specs.encodings.Encodings.{call_encoding, FitsCall}
+use Rattle.ipc_model.specs.declared.call.Call.TheVariants.{Plain, Numbered, Unnumberable}
+use Rattle.ipc_model.specs.declared.plain_call.PlainCall.{PlainCall}
+use Rattle.ipc_model.specs.declared.plain_call.PlainCall.TheVariants as call
+use Rattle.ipc_model.specs.calls.PlainStep.{number_of_call, may_be_numbered}
+use Rattle.ipc_model.specs.encodings.PlainCalls.{call_encoding, FitsCall}
 use Rattle.words.specs.Words.{AreBytes, word}
 use Rattle.calls.specs.declared.request.MessageRequest.{MessageRequest}
 use Rattle.calls.specs.declared.request.Request.{Request}
@@ -55,11 +57,12 @@ mach_msg_arguments m = word m.option ++ (word m.limit ++ (word m.name ++ (word m
 
 -- The send and the receive that it asks for, in this order, and how long each may wait.
 abbrev pub asked_send : ℕ → List ℕ → Option Call
-asked_send option message = if has_option option send_msg then Some (call.Send message) else None
+asked_send option message = if has_option option send_msg then Some (Plain (call.Send message)) else None
 
 abbrev pub asked_receive : ℕ → ℕ → ℕ → Option Call
 asked_receive option limit name =
-    if has_option option rcv_msg then Some (call.Receive limit (has_option option rcv_large) name false) else None
+    if has_option option rcv_msg then Some (Plain (call.Receive limit (has_option option rcv_large) name false))
+    else None
 
 abbrev pub asked_timeout : ℕ → ℕ → ℕ → Option ℕ
 asked_timeout option bit timeout = if has_option option bit then Some timeout else None
@@ -84,11 +87,64 @@ asked m =
 abbrev pub AsksMachMsg : List ℕ → Request → Type 0
 AsksMachMsg arguments asks = (m : MachMsg) × FitsMachMsg m × (arguments ≡ mach_msg_arguments m) × (asks ≡ asked m)
 
+-- The options of a mach_msg that may be numbered, each for one attempt: to send, to receive, and to receive with
+-- MACH_RCV_LARGE. All have their timeout, which is 0.
+abbrev pub send_attempt : ℕ
+send_attempt = 0x11
+
+abbrev pub receive_attempt : ℕ
+receive_attempt = 0x102
+
+abbrev pub large_attempt : ℕ
+large_attempt = 0x902
+
+-- the one attempt that a mach_msg asks for, if it may be numbered
+abbrev pub attempt_of : ℕ → ℕ → ℕ → List ℕ → Option PlainCall
+attempt_of option limit name message =
+    if option == send_attempt then Some (call.Send message)
+    else if option == receive_attempt then Some (call.Receive limit false name false)
+    else if option == large_attempt then Some (call.Receive limit true name false)
+    else None
+
+abbrev pub one_attempt : MachMsg → Option PlainCall
+one_attempt m = if m.timeout == 0 then attempt_of m.option m.limit m.name m.message else None
+
+-- the arguments of mach_msg ask for this attempt
+abbrev pub AsksAttempt : List ℕ → PlainCall → Type 0
+AsksAttempt arguments c =
+    (m : MachMsg) × FitsMachMsg m × (arguments ≡ mach_msg_arguments m) × (one_attempt m ≡ Some c)
+
+-- The content of a frame that asks for this call, which may be numbered: a mach_msg that is one attempt, or another
+-- call.
+abbrev pub Numbers : List ℕ → PlainCall → Type 0
+Numbers content c =
+    ((arguments : List ℕ) × (content ≡ word MACH_MSG ++ arguments) × AsksAttempt arguments c)
+    ⊎ ((number_of_call c ≢ MACH_MSG) × (may_be_numbered c ≡ true) × FitsCall c × (content ≡ call_encoding c))
+
+-- The arguments of number 22 ask for this: after the request stands the content of the call's frame. It is one that
+-- may be numbered, or else one of any four bytes or more.
+abbrev pub AsksNumbered : List ℕ → Call → Type 0
+AsksNumbered arguments (Plain c) = ⊥
+AsksNumbered arguments (Numbered numbered) =
+    (content : List ℕ) × (numbered.request < 2 ^ 32) × (arguments ≡ word numbered.request ++ content)
+    × Numbers content numbered.call
+AsksNumbered arguments Unnumberable =
+    (request : ℕ) × (content : List ℕ) × (request < 2 ^ 32) × (arguments ≡ word request ++ content)
+    × (4 ≤ length content) × ((c : PlainCall) → Numbers content c → ⊥)
+
 -- A frame of this content asks for this.
 abbrev pub Asks : List ℕ → Request → Type 0
-Asks content (request.One c) = (number_of_call c ≢ MACH_MSG) × FitsCall c × (content ≡ call_encoding c)
+Asks content (request.One (Plain c)) = (number_of_call c ≢ MACH_MSG) × FitsCall c × (content ≡ call_encoding c)
+Asks content (request.One c) =
+    (arguments : List ℕ) × (content ≡ word NUMBERED ++ arguments) × AsksNumbered arguments c
 Asks content asks = (arguments : List ℕ) × (content ≡ word MACH_MSG ++ arguments) × AsksMachMsg arguments asks
 
 -- the arguments of a mach_msg that sends
 abbrev pub IsSend : List ℕ → Type 0
 IsSend arguments = (m : MachMsg) × (arguments ≡ mach_msg_arguments m) × IsTrue (has_option m.option send_msg)
+
+-- a frame of this content asks for a numbered send
+abbrev pub IsNumberedSend : List ℕ → Type 0
+IsNumberedSend content =
+    (numbered : ℕ) × (message : List ℕ)
+    × Asks content (request.One (Numbered (record { request = numbered; call = call.Send message })))

@@ -1,6 +1,6 @@
 -- Rows of results in bytes.
 use Rattle.std.specs.Prelude.{ℕ, List, ◌++◌, flat_map}
-use Rattle.ipc_model.specs.declared.call.NamedType.{NamedType}
+use Rattle.ipc_model.specs.declared.plain_reply.NamedType.{NamedType}
 use Rattle.words.specs.Words.{word}
 
 -- the encoding of names with their type bits

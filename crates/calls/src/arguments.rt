@@ -1,7 +1,7 @@
 ghost use Rattle.std.specs.Prelude.{◌≡◌, ◌≢◌, ◌++◌, IfSome, IfNone, Some, []};
-ghost use Rattle.ipc_model.specs.declared.call.Call.{Call};
-ghost use Rattle.ipc_model.specs.calls.Step.{number_of_call};
-ghost use Rattle.ipc_model.specs.encodings.Encodings.{arguments_encoding, FitsCall, IsCanonicalCall};
+ghost use Rattle.ipc_model.specs.declared.plain_call.PlainCall.{PlainCall};
+ghost use Rattle.ipc_model.specs.calls.PlainStep.{number_of_call};
+ghost use Rattle.ipc_model.specs.encodings.PlainCalls.{arguments_encoding, FitsCall, IsCanonicalCall};
 ghost use Rattle.words.specs.Words.{word};
 ghost use Rattle.calls.specs.Shapes.{count_of_words};
 
@@ -13,61 +13,61 @@ use codes::{
     MACH_PORT_NAMES, MACH_PORT_RENAME, MACH_PORT_REQUEST_NOTIFICATION, MACH_PORT_SET_MSCOUNT,
     MACH_PORT_SET_QLIMIT, MACH_PORT_SET_SEQNO, MACH_PORT_TYPE, SPACE_CREATE, SPACE_DESTROY,
 };
-use ipc_model::Call;
+use ipc_model::PlainCall;
 
 /// The call with this number that has no arguments.
-fn call_of_none(number: u32) -> Option<Call>
+fn call_of_none(number: u32) -> Option<PlainCall>
     ensures found { IfSome result (λ call. (number_of_call call ≡ number) × (arguments_encoding call ≡ [])
         × IsCanonicalCall call) }
     ensures none { IfNone result (count_of_words number ≢ 0) }
 {
     match number {
-        MACH_PORT_NAMES => Some(Call::Names),
-        SPACE_DESTROY => Some(Call::SpaceDestroy),
+        MACH_PORT_NAMES => Some(PlainCall::Names),
+        SPACE_DESTROY => Some(PlainCall::SpaceDestroy),
         _ => None,
     }
 }
 
 /// The call with this number that has this argument.
-fn call_of_one(number: u32, a: u32) -> Option<Call>
+fn call_of_one(number: u32, a: u32) -> Option<PlainCall>
     ensures found { IfSome result (λ call. (number_of_call call ≡ number) × (arguments_encoding call ≡ word a)
         × IsCanonicalCall call) }
     ensures none { IfNone result (count_of_words number ≢ 1) }
 {
     match number {
-        ATTACH => Some(Call::Attach { space: a }),
-        MACH_PORT_TYPE => Some(Call::Type { name: a }),
-        MACH_PORT_ALLOCATE => Some(Call::Allocate { right: a }),
-        MACH_PORT_DESTROY => Some(Call::Destroy { name: a }),
-        MACH_PORT_DEALLOCATE => Some(Call::Deallocate { name: a }),
-        MACH_PORT_GET_RECEIVE_STATUS => Some(Call::GetReceiveStatus { name: a }),
-        MACH_PORT_GET_SET_STATUS => Some(Call::GetSetStatus { name: a }),
+        ATTACH => Some(PlainCall::Attach { space: a }),
+        MACH_PORT_TYPE => Some(PlainCall::Type { name: a }),
+        MACH_PORT_ALLOCATE => Some(PlainCall::Allocate { right: a }),
+        MACH_PORT_DESTROY => Some(PlainCall::Destroy { name: a }),
+        MACH_PORT_DEALLOCATE => Some(PlainCall::Deallocate { name: a }),
+        MACH_PORT_GET_RECEIVE_STATUS => Some(PlainCall::GetReceiveStatus { name: a }),
+        MACH_PORT_GET_SET_STATUS => Some(PlainCall::GetSetStatus { name: a }),
         _ => None,
     }
 }
 
 /// The call with this number that has these two arguments.
-fn call_of_two(number: u32, a: u32, b: u32) -> Option<Call>
+fn call_of_two(number: u32, a: u32, b: u32) -> Option<PlainCall>
     ensures found { IfSome result (λ call. (number_of_call call ≡ number) × (arguments_encoding call ≡ word a ++ word b)
         × IsCanonicalCall call) }
     ensures none { IfNone result (count_of_words number ≢ 2) }
 {
     match number {
-        MACH_PORT_RENAME => Some(Call::Rename { from: a, to: b }),
-        MACH_PORT_ALLOCATE_NAME => Some(Call::AllocateName { right: a, name: b }),
-        MACH_PORT_GET_REFS => Some(Call::GetRefs { name: a, right: b }),
-        MACH_PORT_SET_QLIMIT => Some(Call::SetQlimit { name: a, limit: b }),
-        MACH_PORT_SET_MSCOUNT => Some(Call::SetMscount { name: a, count: b }),
-        MACH_PORT_SET_SEQNO => Some(Call::SetSeqno { name: a, seqno: b }),
-        MACH_PORT_MOVE_MEMBER => Some(Call::MoveMember {
+        MACH_PORT_RENAME => Some(PlainCall::Rename { from: a, to: b }),
+        MACH_PORT_ALLOCATE_NAME => Some(PlainCall::AllocateName { right: a, name: b }),
+        MACH_PORT_GET_REFS => Some(PlainCall::GetRefs { name: a, right: b }),
+        MACH_PORT_SET_QLIMIT => Some(PlainCall::SetQlimit { name: a, limit: b }),
+        MACH_PORT_SET_MSCOUNT => Some(PlainCall::SetMscount { name: a, count: b }),
+        MACH_PORT_SET_SEQNO => Some(PlainCall::SetSeqno { name: a, seqno: b }),
+        MACH_PORT_MOVE_MEMBER => Some(PlainCall::MoveMember {
             member: a,
             after: b,
         }),
-        MACH_PORT_EXTRACT_RIGHT => Some(Call::ExtractRight {
+        MACH_PORT_EXTRACT_RIGHT => Some(PlainCall::ExtractRight {
             name: a,
             disposition: b,
         }),
-        SPACE_CREATE => Some(Call::SpaceCreate {
+        SPACE_CREATE => Some(PlainCall::SpaceCreate {
             name: a,
             disposition: b,
         }),
@@ -76,18 +76,18 @@ fn call_of_two(number: u32, a: u32, b: u32) -> Option<Call>
 }
 
 /// The call with this number that has these three arguments.
-fn call_of_three(number: u32, a: u32, b: u32, c: u32) -> Option<Call>
+fn call_of_three(number: u32, a: u32, b: u32, c: u32) -> Option<PlainCall>
     ensures found { IfSome result (λ call. (number_of_call call ≡ number)
         × (arguments_encoding call ≡ word a ++ (word b ++ word c)) × IsCanonicalCall call) }
     ensures none { IfNone result (count_of_words number ≢ 3) }
 {
     match number {
-        MACH_PORT_MOD_REFS => Some(Call::ModRefs {
+        MACH_PORT_MOD_REFS => Some(PlainCall::ModRefs {
             name: a,
             right: b,
             delta: c,
         }),
-        MACH_PORT_INSERT_RIGHT => Some(Call::InsertRight {
+        MACH_PORT_INSERT_RIGHT => Some(PlainCall::InsertRight {
             name: a,
             right_name: b,
             disposition: c,
@@ -97,11 +97,11 @@ fn call_of_three(number: u32, a: u32, b: u32, c: u32) -> Option<Call>
 }
 
 /// The call whose number and arguments these are, of any number but that of `mach_msg`.
-pub(crate) fn read_arguments(number: u32, arguments: &[u8]) -> Option<Call>
+pub(crate) fn read_arguments(number: u32, arguments: &[u8]) -> Option<PlainCall>
     requires { number ≢ MACH_MSG }
     ensures found { IfSome result (λ call. (number_of_call call ≡ number) × (arguments.now ≡ arguments_encoding call)
         × IsCanonicalCall call) }
-    ensures only { (call : Call) → FitsCall call → number_of_call call ≡ number
+    ensures only { (call : PlainCall) → FitsCall call → number_of_call call ≡ number
         → arguments.now ≡ arguments_encoding call → result ≡ Some call }
 {
     match arguments.len() {
@@ -120,7 +120,7 @@ pub(crate) fn read_arguments(number: u32, arguments: &[u8]) -> Option<Call>
         }
         20 if number == MACH_PORT_REQUEST_NOTIFICATION => {
             let (name, variant, sync, notify, disposition) = five_words(arguments)?;
-            Some(Call::RequestNotification {
+            Some(PlainCall::RequestNotification {
                 name,
                 variant,
                 sync,

@@ -1,6 +1,6 @@
 ghost use Rattle.std.specs.Prelude.{◌≡◌, ◌++◌, ◌<◌, ◌^◌, OnOk, flat_map, length};
-ghost use Rattle.ipc_model.specs.declared.call.Call.TheVariants as call;
-ghost use Rattle.ipc_model.specs.encodings.Encodings.{call_encoding, canonical_call, reply_encoding, done_encoding, status_encoding, number_of_bool};
+ghost use Rattle.ipc_model.specs.declared.plain_call.PlainCall.TheVariants as call;
+ghost use Rattle.ipc_model.specs.encodings.PlainCalls.{call_encoding, canonical_call, reply_encoding, done_encoding, status_encoding, number_of_bool};
 ghost use Rattle.words.specs.Words.{word};
 ghost use Rattle.calls.specs.Rows.{names_encoding};
 
@@ -16,7 +16,7 @@ use codes::{
     MACH_PORT_SET_QLIMIT, MACH_PORT_SET_SEQNO, MACH_PORT_TYPE, MessageOptions, SPACE_CREATE,
     SPACE_DESTROY,
 };
-use ipc_model::{Call, NamedType, ReceiveStatus, Reply, RightKind};
+use ipc_model::{NamedType, PlainCall, PlainReply, ReceiveStatus, RightKind};
 use std::alloc::{AllocError, Global};
 
 /// Adds two numbers, as `push_words` does.
@@ -41,7 +41,7 @@ fn push_four(out: &mut Vec<u8>, a: u32, b: u32, c: u32, d: u32) -> Result<(), Al
 }
 
 /// Adds the number and the arguments of a send.
-#[tactic(auto, unfolding(ipc_model::specs::encodings::Encodings::call_encoding))]
+#[tactic(auto, unfolding(ipc_model::specs::encodings::PlainCalls::call_encoding))]
 fn push_send(out: &mut Vec<u8>, message: &[u8]) -> Result<(), AllocError>
     ensures ok { OnOk result (out.new.items ≡ out.old.items ++ call_encoding (call.Send message.now)) }
 {
@@ -50,44 +50,49 @@ fn push_send(out: &mut Vec<u8>, message: &[u8]) -> Result<(), AllocError>
 }
 
 /// Adds the number and the arguments of a call. If an allocation fails, some of them may have been added.
-#[tactic(auto, unfolding(ipc_model::specs::encodings::Encodings::call_encoding))]
-pub fn push_call(out: &mut Vec<u8>, call: &Call) -> Result<(), AllocError>
+#[tactic(auto, unfolding(ipc_model::specs::encodings::PlainCalls::call_encoding))]
+pub fn push_plain_call(out: &mut Vec<u8>, call: &PlainCall) -> Result<(), AllocError>
     ensures ok { OnOk result (out.new.items ≡ out.old.items ++ call_encoding call.now) }
 {
     match call {
-        &Call::Attach { space } => push_two(out, ATTACH, space),
-        &Call::Names => push_words(out, &[MACH_PORT_NAMES]),
-        &Call::Type { name } => push_two(out, MACH_PORT_TYPE, name),
-        &Call::Rename { from, to } => push_three(out, MACH_PORT_RENAME, from, to),
-        &Call::AllocateName { right, name } => push_three(
+        &PlainCall::Attach { space } => push_two(out, ATTACH, space),
+        &PlainCall::Names => push_words(out, &[MACH_PORT_NAMES]),
+        &PlainCall::Type { name } => push_two(out, MACH_PORT_TYPE, name),
+        &PlainCall::Rename { from, to } => push_three(out, MACH_PORT_RENAME, from, to),
+        &PlainCall::AllocateName { right, name } => push_three(
             out,
             MACH_PORT_ALLOCATE_NAME,
             right,
             name,
         ),
-        &Call::Allocate { right } => push_two(out, MACH_PORT_ALLOCATE, right),
-        &Call::Destroy { name } => push_two(out, MACH_PORT_DESTROY, name),
-        &Call::Deallocate { name } => push_two(out, MACH_PORT_DEALLOCATE, name),
-        &Call::GetRefs { name, right } => push_three(out, MACH_PORT_GET_REFS, name, right),
-        &Call::ModRefs { name, right, delta } => push_four(
+        &PlainCall::Allocate { right } => push_two(out, MACH_PORT_ALLOCATE, right),
+        &PlainCall::Destroy { name } => push_two(out, MACH_PORT_DESTROY, name),
+        &PlainCall::Deallocate { name } => push_two(out, MACH_PORT_DEALLOCATE, name),
+        &PlainCall::GetRefs { name, right } => push_three(out, MACH_PORT_GET_REFS, name, right),
+        &PlainCall::ModRefs { name, right, delta } => push_four(
             out,
             MACH_PORT_MOD_REFS,
             name,
             right,
             delta,
         ),
-        &Call::SetQlimit { name, limit } => push_three(out, MACH_PORT_SET_QLIMIT, name, limit),
-        &Call::SetMscount { name, count } => push_three(out, MACH_PORT_SET_MSCOUNT, name, count),
-        &Call::SetSeqno { name, seqno } => push_three(out, MACH_PORT_SET_SEQNO, name, seqno),
-        &Call::GetReceiveStatus { name } => push_two(out, MACH_PORT_GET_RECEIVE_STATUS, name),
-        &Call::GetSetStatus { name } => push_two(out, MACH_PORT_GET_SET_STATUS, name),
-        &Call::MoveMember { member, after } => push_three(
+        &PlainCall::SetQlimit { name, limit } => push_three(out, MACH_PORT_SET_QLIMIT, name, limit),
+        &PlainCall::SetMscount { name, count } => push_three(
+            out,
+            MACH_PORT_SET_MSCOUNT,
+            name,
+            count,
+        ),
+        &PlainCall::SetSeqno { name, seqno } => push_three(out, MACH_PORT_SET_SEQNO, name, seqno),
+        &PlainCall::GetReceiveStatus { name } => push_two(out, MACH_PORT_GET_RECEIVE_STATUS, name),
+        &PlainCall::GetSetStatus { name } => push_two(out, MACH_PORT_GET_SET_STATUS, name),
+        &PlainCall::MoveMember { member, after } => push_three(
             out,
             MACH_PORT_MOVE_MEMBER,
             member,
             after,
         ),
-        &Call::RequestNotification {
+        &PlainCall::RequestNotification {
             name,
             variant,
             sync,
@@ -106,19 +111,19 @@ pub fn push_call(out: &mut Vec<u8>, call: &Call) -> Result<(), AllocError>
                 ],
             )
         }
-        &Call::InsertRight {
+        &PlainCall::InsertRight {
             name,
             right_name,
             disposition,
         } => { push_four(out, MACH_PORT_INSERT_RIGHT, name, right_name, disposition) }
-        &Call::ExtractRight { name, disposition } => push_three(
+        &PlainCall::ExtractRight { name, disposition } => push_three(
             out,
             MACH_PORT_EXTRACT_RIGHT,
             name,
             disposition,
         ),
-        Call::Send { message } => { push_send(out, message.as_slice()) }
-        &Call::Receive {
+        PlainCall::Send { message } => { push_send(out, message.as_slice()) }
+        &PlainCall::Receive {
             limit,
             large,
             name,
@@ -135,24 +140,28 @@ pub fn push_call(out: &mut Vec<u8>, call: &Call) -> Result<(), AllocError>
                 ],
             )
         }
-        &Call::SpaceCreate { name, disposition } => push_three(
+        &PlainCall::SpaceCreate { name, disposition } => push_three(
             out,
             SPACE_CREATE,
             name,
             disposition,
         ),
-        &Call::SpaceDestroy => push_words(out, &[SPACE_DESTROY]),
+        &PlainCall::SpaceDestroy => push_words(out, &[SPACE_DESTROY]),
     }
 }
 
 /// Adds the number and the arguments of a call as a record keeps it: of a send the message with 0 in place of what a
 /// send ignores. If an allocation fails, some of them may have been added.
-#[tactic(auto, unfolding(ipc_model::specs::encodings::Encodings::call_encoding))]
-pub fn push_canonical_call(alloc: Global, out: &mut Vec<u8>, call: &Call) -> Result<(), AllocError>
+#[tactic(auto, unfolding(ipc_model::specs::encodings::PlainCalls::call_encoding))]
+pub(crate) fn push_canonical_plain_call(
+    alloc: Global,
+    out: &mut Vec<u8>,
+    call: &PlainCall,
+) -> Result<(), AllocError>
     ensures ok { OnOk result (out.new.items ≡ out.old.items ++ call_encoding (canonical_call call.now)) }
 {
-    let Call::Send { message } = call else {
-        return push_call(out, call);
+    let PlainCall::Send { message } = call else {
+        return push_plain_call(out, call);
     };
     let kept = canonical_message_of(alloc, message.as_slice())?;
     push_send(out, &kept)
@@ -204,36 +213,41 @@ fn push_status(out: &mut Vec<u8>, status: &ReceiveStatus) -> Result<(), AllocErr
 }
 
 /// Adds the number, the code and the results of a reply. If an allocation fails, some of them may have been added.
-#[tactic(auto, unfolding(ipc_model::specs::encodings::Encodings::reply_encoding))]
-pub fn push_reply(out: &mut Vec<u8>, reply: &Reply) -> Result<(), AllocError>
+#[tactic(auto, unfolding(ipc_model::specs::encodings::PlainCalls::reply_encoding))]
+pub(crate) fn push_plain_reply(out: &mut Vec<u8>, reply: &PlainReply) -> Result<(), AllocError>
     requires { length (reply_encoding reply.now) < 2 ^ 32 }
     ensures ok { OnOk result (out.new.items ≡ out.old.items ++ reply_encoding reply.now) }
 {
     match reply {
-        Reply::Refused { number, code } => push_two(out, *number, code.number()),
-        Reply::Done { number } => push_words(out, &[*number, 0]),
-        Reply::Names { names } => {
+        PlainReply::Refused { number, code } => push_two(out, *number, code.number()),
+        PlainReply::Done { number } => push_words(out, &[*number, 0]),
+        PlainReply::Names { names } => {
             push_two(out, MACH_PORT_NAMES, 0)?;
             push_names(out, names.as_slice())
         }
-        Reply::Type { bits } => push_three(out, MACH_PORT_TYPE, 0, *bits),
-        Reply::Allocate { name } => push_three(out, MACH_PORT_ALLOCATE, 0, *name),
-        Reply::References { count } => push_three(out, MACH_PORT_GET_REFS, 0, *count),
-        Reply::ReceiveStatus { status } => push_status(out, status),
-        Reply::SetStatus { members } => {
+        PlainReply::Type { bits } => push_three(out, MACH_PORT_TYPE, 0, *bits),
+        PlainReply::Allocate { name } => push_three(out, MACH_PORT_ALLOCATE, 0, *name),
+        PlainReply::References { count } => push_three(out, MACH_PORT_GET_REFS, 0, *count),
+        PlainReply::ReceiveStatus { status } => push_status(out, status),
+        PlainReply::SetStatus { members } => {
             let members = members.as_slice();
             push_three(out, MACH_PORT_GET_SET_STATUS, 0, members.len() as u32)?;
             push_words(out, members)
         }
-        Reply::PreviousTarget { name } => push_three(out, MACH_PORT_REQUEST_NOTIFICATION, 0, *name),
-        Reply::Extracted { name, kind } => push_four(
+        PlainReply::PreviousTarget { name } => push_three(
+            out,
+            MACH_PORT_REQUEST_NOTIFICATION,
+            0,
+            *name,
+        ),
+        PlainReply::Extracted { name, kind } => push_four(
             out,
             MACH_PORT_EXTRACT_RIGHT,
             0,
             *name,
             kind.number(),
         ),
-        Reply::Message {
+        PlainReply::Message {
             code,
             size,
             member,
@@ -242,6 +256,6 @@ pub fn push_reply(out: &mut Vec<u8>, reply: &Reply) -> Result<(), AllocError>
             push_four(out, MACH_MSG, code.number(), *size, *member)?;
             out.extend_from_slice(message.as_slice())
         }
-        Reply::SpaceCreated { space, name } => push_four(out, SPACE_CREATE, 0, *space, *name),
+        PlainReply::SpaceCreated { space, name } => push_four(out, SPACE_CREATE, 0, *space, *name),
     }
 }

@@ -1,5 +1,5 @@
 ghost use Rattle.std.specs.Prelude.{◌≡◌, ◌+◌, ◌*◌, ◌≤◌, ◌++◌, length, flat_map};
-ghost use Rattle.ipc_model.specs.encodings.Encodings.{reply_encoding, done_encoding, status_encoding};
+ghost use Rattle.ipc_model.specs.encodings.PlainCalls.{reply_encoding, done_encoding, status_encoding};
 ghost use Rattle.words.specs.Words.{word};
 ghost use Rattle.calls.specs.Rows.{names_encoding};
 
@@ -9,7 +9,7 @@ use codes::{
     MACH_PORT_GET_REFS, MACH_PORT_GET_SET_STATUS, MACH_PORT_NAMES, MACH_PORT_REQUEST_NOTIFICATION,
     MACH_PORT_TYPE, MAX_FRAME_CONTENT, SPACE_CREATE,
 };
-use ipc_model::{NamedType, ReceiveStatus, Reply};
+use ipc_model::{NamedType, PlainReply, ReceiveStatus};
 use wire::Frame;
 
 /// Adds numbers of four bytes.
@@ -17,6 +17,7 @@ fn put_words(frame: &mut Frame, numbers: &[u32])
     requires room { length frame.old.content + 4 * length numbers.now ≤ frame.old.room }
     requires limit { length frame.old.content + 4 * length numbers.now ≤ MAX_FRAME_CONTENT }
     ensures content { frame.new.content ≡ frame.old.content ++ flat_map word numbers.now }
+    ensures length { length frame.new.content ≡ length frame.old.content + 4 * length numbers.now }
     ensures room { frame.new.room ≡ frame.old.room }
 {
     for &number in numbers {
@@ -24,14 +25,32 @@ fn put_words(frame: &mut Frame, numbers: &[u32])
     }
 }
 
-/// Makes this a frame with a call's number, a code and these numbers.
-fn start_reply(frame: &mut Frame, number: u32, code: u32, numbers: &[u32])
+/// Makes this a frame with the numbers that stand in front, and then a call's number.
+fn start_after(frame: &mut Frame, front: &[u32], number: u32)
     requires room { MAX_FRAME_CONTENT ≤ frame.old.room }
-    requires limit { 8 + 4 * length numbers.now ≤ MAX_FRAME_CONTENT }
-    ensures content { frame.new.content ≡ word number ++ (word code ++ flat_map word numbers.now) }
+    requires limit { 4 + 4 * length front.now ≤ MAX_FRAME_CONTENT }
+    ensures content { frame.new.content ≡ flat_map word front.now ++ word number }
+    ensures length { length frame.new.content ≡ 4 + 4 * length front.now }
     ensures room { frame.old.room ≤ frame.new.room }
 {
-    frame.start(number);
+    let Some((first, others)) = front.split_first() else {
+        return frame.start(number);
+    };
+    frame.start(*first);
+    put_words(frame, others);
+    frame.put_word(number);
+}
+
+/// Makes this a frame with the numbers that stand in front, and then a call's number, a code and these numbers.
+fn start_reply(frame: &mut Frame, front: &[u32], number: u32, code: u32, numbers: &[u32])
+    requires room { MAX_FRAME_CONTENT ≤ frame.old.room }
+    requires limit { 8 + 4 * length front.now + 4 * length numbers.now ≤ MAX_FRAME_CONTENT }
+    ensures content { frame.new.content
+        ≡ flat_map word front.now ++ (word number ++ (word code ++ flat_map word numbers.now)) }
+    ensures length { length frame.new.content ≡ 8 + 4 * length front.now + 4 * length numbers.now }
+    ensures room { frame.old.room ≤ frame.new.room }
+{
+    start_after(frame, front, number);
     frame.put_word(code);
     put_words(frame, numbers);
 }
@@ -48,69 +67,92 @@ fn put_names(frame: &mut Frame, names: &[NamedType])
     }
 }
 
-/// Makes this the frame of the state of a port.
-fn start_status(frame: &mut Frame, status: &ReceiveStatus)
-    requires { MAX_FRAME_CONTENT ≤ frame.old.room }
-    ensures content { frame.new.content ≡ done_encoding MACH_PORT_GET_RECEIVE_STATUS (status_encoding status.now) }
+/// Makes this the frame of the state of a port, after the numbers that stand in front.
+fn start_status(frame: &mut Frame, front: &[u32], status: &ReceiveStatus)
+    requires room { MAX_FRAME_CONTENT ≤ frame.old.room }
+    requires limit { 44 + 4 * length front.now ≤ MAX_FRAME_CONTENT }
+    ensures content { frame.new.content
+        ≡ flat_map word front.now ++ done_encoding MACH_PORT_GET_RECEIVE_STATUS (status_encoding status.now) }
     ensures room { frame.old.room ≤ frame.new.room }
 {
     start_reply(
         frame,
+        front,
         MACH_PORT_GET_RECEIVE_STATUS,
         0,
         &status_words(status),
     );
 }
 
-/// Writes a reply into a frame. It takes no memory.
-#[tactic(auto, unfolding(ipc_model::specs::encodings::Encodings::reply_encoding))]
-pub fn reply_frame(reply: &Reply, frame: &mut Frame)
+/// Writes a plain reply into a frame, after the numbers that stand in front. It takes no memory.
+#[tactic(auto, unfolding(ipc_model::specs::encodings::PlainCalls::reply_encoding))]
+pub(crate) fn put_plain_reply(front: &[u32], reply: &PlainReply, frame: &mut Frame)
     requires room { MAX_FRAME_CONTENT ≤ frame.old.room }
-    // The names of a space and of a set's members fit, and so does a message of the greatest size.
-    requires limit { length (reply_encoding reply.now) ≤ MAX_FRAME_CONTENT }
-    ensures content { frame.new.content ≡ reply_encoding reply.now }
+    requires limit { 4 * length front.now + length (reply_encoding reply.now) ≤ MAX_FRAME_CONTENT }
+    ensures content { frame.new.content ≡ flat_map word front.now ++ reply_encoding reply.now }
     ensures room { frame.old.room ≤ frame.new.room }
 {
     match reply {
-        Reply::Refused { number, code } => start_reply(frame, *number, code.number(), &[]),
-        Reply::Done { number } => start_reply(frame, *number, 0, &[]),
-        Reply::Names { names } => {
+        PlainReply::Refused { number, code } => start_reply(
+            frame,
+            front,
+            *number,
+            code.number(),
+            &[],
+        ),
+        PlainReply::Done { number } => start_reply(frame, front, *number, 0, &[]),
+        PlainReply::Names { names } => {
             let names = names.as_slice();
-            start_reply(frame, MACH_PORT_NAMES, 0, &[names.len() as u32]);
+            start_reply(frame, front, MACH_PORT_NAMES, 0, &[names.len() as u32]);
             put_names(frame, names);
         }
-        Reply::Type { bits } => start_reply(frame, MACH_PORT_TYPE, 0, &[*bits]),
-        Reply::Allocate { name } => start_reply(frame, MACH_PORT_ALLOCATE, 0, &[*name]),
-        Reply::References { count } => start_reply(frame, MACH_PORT_GET_REFS, 0, &[*count]),
-        Reply::ReceiveStatus { status } => start_status(frame, status),
-        Reply::SetStatus { members } => {
+        PlainReply::Type { bits } => start_reply(frame, front, MACH_PORT_TYPE, 0, &[*bits]),
+        PlainReply::Allocate { name } => start_reply(frame, front, MACH_PORT_ALLOCATE, 0, &[*name]),
+        PlainReply::References { count } => start_reply(
+            frame,
+            front,
+            MACH_PORT_GET_REFS,
+            0,
+            &[*count],
+        ),
+        PlainReply::ReceiveStatus { status } => start_status(frame, front, status),
+        PlainReply::SetStatus { members } => {
             let members = members.as_slice();
-            start_reply(frame, MACH_PORT_GET_SET_STATUS, 0, &[members.len() as u32]);
+            start_reply(
+                frame,
+                front,
+                MACH_PORT_GET_SET_STATUS,
+                0,
+                &[members.len() as u32],
+            );
             put_words(frame, members);
         }
-        Reply::PreviousTarget { name } => start_reply(
+        PlainReply::PreviousTarget { name } => start_reply(
             frame,
+            front,
             MACH_PORT_REQUEST_NOTIFICATION,
             0,
             &[*name],
         ),
-        Reply::Extracted { name, kind } => start_reply(
+        PlainReply::Extracted { name, kind } => start_reply(
             frame,
+            front,
             MACH_PORT_EXTRACT_RIGHT,
             0,
             &[*name, kind.number()],
         ),
-        Reply::Message {
+        PlainReply::Message {
             code,
             size,
             member,
             message,
         } => {
-            start_reply(frame, MACH_MSG, code.number(), &[*size, *member]);
+            start_reply(frame, front, MACH_MSG, code.number(), &[*size, *member]);
             frame.put_bytes(message.as_slice());
         }
-        Reply::SpaceCreated { space, name } => start_reply(
+        PlainReply::SpaceCreated { space, name } => start_reply(
             frame,
+            front,
             SPACE_CREATE,
             0,
             &[*space, *name],

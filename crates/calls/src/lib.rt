@@ -2,20 +2,23 @@
 #![tactic(auto)]
 
 mod arguments;
+mod call_bytes;
 mod canonical_message;
 mod encode;
 mod frame;
+mod numbered;
 mod read;
 mod record_options;
 mod reply;
+mod reply_bytes;
 mod reply_rows;
 mod request;
 mod results;
 mod word_rows;
 
-pub use encode::{push_call, push_canonical_call, push_reply};
-pub use frame::reply_frame;
-pub use read::read_call;
-pub use reply::read_reply;
+pub use call_bytes::{push_call, push_canonical_call, read_call};
+pub use encode::push_plain_call;
+pub use reply_bytes::{
+    push_numbered_reply, push_reply, read_recorded_reply, read_reply, reply_frame,
+};
 pub use request::{CallFault, MessageRequest, Request, read_request};
-pub use results::read_recorded_reply;

@@ -1,8 +1,8 @@
 ghost use Rattle.std.specs.Prelude.{◌≡◌, ◌≢◌, ◌<◌, ◌^◌, ◌++◌, Bool, ℕ, List, None, Some, IfOk, IfSome, IfNone};
-ghost use Rattle.ipc_model.specs.declared.call.Call.{Call};
-ghost use Rattle.ipc_model.specs.declared.call.Call.TheVariants as call_variants;
-ghost use Rattle.ipc_model.specs.calls.Step.{number_of_call};
-ghost use Rattle.ipc_model.specs.encodings.Encodings.{arguments_encoding, call_encoding, receive_option, number_of_bool, IsCanonicalCall};
+ghost use Rattle.ipc_model.specs.declared.plain_call.PlainCall.{PlainCall};
+ghost use Rattle.ipc_model.specs.declared.plain_call.PlainCall.TheVariants as call_variants;
+ghost use Rattle.ipc_model.specs.calls.PlainStep.{number_of_call};
+ghost use Rattle.ipc_model.specs.encodings.PlainCalls.{arguments_encoding, call_encoding, receive_option, number_of_bool, IsCanonicalCall};
 ghost use Rattle.words.specs.Words.{word};
 
 use crate::arguments::read_arguments;
@@ -11,7 +11,7 @@ use crate::record_options::receives_large;
 use crate::word_rows::three_words;
 use bitflags::Flags;
 use codes::{MACH_MSG, MessageOptions};
-use ipc_model::{Call, Sequence, is_message_size};
+use ipc_model::{PlainCall, Sequence, is_message_size};
 use std::alloc::{AllocError, Global};
 use words::take_word;
 
@@ -28,7 +28,7 @@ fn flag_of(number: u32) -> Option<bool>
 }
 
 /// A receive as a record has it, after its option.
-fn read_receive(large: bool, words: &[u8]) -> Option<Call>
+fn read_receive(large: bool, words: &[u8]) -> Option<PlainCall>
     ensures found { IfSome result (λ call. (word (receive_option large) ++ words.now ≡ arguments_encoding call)
         × (number_of_call call ≡ MACH_MSG) × IsCanonicalCall call) }
     ensures only { (limit name : ℕ) (waited : Bool) → limit < 2 ^ 32 → name < 2 ^ 32
@@ -37,7 +37,7 @@ fn read_receive(large: bool, words: &[u8]) -> Option<Call>
 {
     let (limit, name, waited) = three_words(words)?;
     let waited = flag_of(waited)?;
-    Some(Call::Receive {
+    Some(PlainCall::Receive {
         limit,
         large,
         name,
@@ -57,7 +57,7 @@ fn after_zeros(bytes: &[u8]) -> Option<&[u8]>
 }
 
 /// A send as a record has it, after its option.
-fn read_send(alloc: Global, words: &[u8]) -> Result<Option<Call>, AllocError>
+fn read_send(alloc: Global, words: &[u8]) -> Result<Option<PlainCall>, AllocError>
     ensures found { IfOk result (λ found. IfSome found (λ call. (word 1 ++ words.now ≡ arguments_encoding call)
         × (number_of_call call ≡ MACH_MSG) × IsCanonicalCall call)) }
     ensures only { (message : List ℕ) → IsCanonicalCall (call_variants.Send message)
@@ -75,14 +75,14 @@ fn read_send(alloc: Global, words: &[u8]) -> Result<Option<Call>, AllocError>
         return Ok(None);
     }
     let message = Sequence::new(kept);
-    Ok(Some(Call::Send { message }))
+    Ok(Some(PlainCall::Send { message }))
 }
 
 /// The send or the receive whose arguments in a record these are.
-fn read_message_call(alloc: Global, arguments: &[u8]) -> Result<Option<Call>, AllocError>
+fn read_message_call(alloc: Global, arguments: &[u8]) -> Result<Option<PlainCall>, AllocError>
     ensures found { IfOk result (λ found. IfSome found (λ call. (arguments.now ≡ arguments_encoding call)
         × (number_of_call call ≡ MACH_MSG) × IsCanonicalCall call)) }
-    ensures only { (call : Call) → IsCanonicalCall call → number_of_call call ≡ MACH_MSG
+    ensures only { (call : PlainCall) → IsCanonicalCall call → number_of_call call ≡ MACH_MSG
         → arguments.now ≡ arguments_encoding call
         → IfOk result (λ found. found ≡ Some call) }
 {
@@ -103,11 +103,14 @@ fn read_message_call(alloc: Global, arguments: &[u8]) -> Result<Option<Call>, Al
 
 /// The call that these bytes encode, if they encode a call as a record has it. It can run out of memory only for the
 /// message of a send.
-#[tactic(auto, unfolding(ipc_model::specs::encodings::Encodings::call_encoding))]
-pub fn read_call(alloc: Global, content: &[u8]) -> Result<Option<Call>, AllocError>
+#[tactic(auto, unfolding(ipc_model::specs::encodings::PlainCalls::call_encoding))]
+pub(crate) fn read_plain_call(
+    alloc: Global,
+    content: &[u8],
+) -> Result<Option<PlainCall>, AllocError>
     ensures found { IfOk result (λ found. IfSome found
         (λ call. (content.now ≡ call_encoding call) × IsCanonicalCall call)) }
-    ensures only { (call : Call) → IsCanonicalCall call → content.now ≡ call_encoding call
+    ensures only { (call : PlainCall) → IsCanonicalCall call → content.now ≡ call_encoding call
         → IfOk result (λ found. found ≡ Some call) }
 {
     let Some((number, arguments)) = take_word(content) else {

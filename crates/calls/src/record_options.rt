@@ -1,6 +1,6 @@
 ghost use Rattle.std.specs.Prelude.{◌≡◌, ◌≢◌, false, true, IfNone, IfSome};
 ghost use Rattle.codes.specs.MessageOptions.{bits_of};
-ghost use Rattle.ipc_model.specs.encodings.Encodings.{receive_option};
+ghost use Rattle.ipc_model.specs.encodings.PlainCalls.{receive_option};
 
 use bitflags::Flags;
 use codes::MessageOptions;

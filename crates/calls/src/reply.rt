@@ -1,11 +1,11 @@
 ghost use Rattle.std.specs.Prelude.{◌≡◌, ◌≢◌, ◌<◌, ◌^◌, ◌++◌, [], ℕ, List, Some, flat_map, length, IfOk, IfSome, IfNone};
 ghost use Rattle.codes.specs.KernReturn.{number_of};
-ghost use Rattle.ipc_model.specs.declared.call.NamedType.{NamedType};
-ghost use Rattle.ipc_model.specs.declared.call.Reply.{Reply};
-ghost use Rattle.ipc_model.specs.declared.call.Reply.TheVariants as reply;
-ghost use Rattle.ipc_model.specs.encodings.Encodings.{done_encoding, FitsReply};
+ghost use Rattle.ipc_model.specs.declared.plain_reply.NamedType.{NamedType};
+ghost use Rattle.ipc_model.specs.declared.plain_reply.PlainReply.{PlainReply};
+ghost use Rattle.ipc_model.specs.declared.plain_reply.PlainReply.TheVariants as reply;
+ghost use Rattle.ipc_model.specs.encodings.PlainCalls.{done_encoding, FitsReply};
 ghost use Rattle.words.specs.Words.{AreBytes, word};
-ghost use Rattle.calls.specs.Replies.{has_results, HasResults, Answers, IsWellFormed};
+ghost use Rattle.calls.specs.PlainReplies.{has_results, HasResults, Answers, IsWellFormed};
 ghost use Rattle.calls.specs.Rows.{names_encoding};
 
 use crate::reply_rows::{read_members, read_names, read_status};
@@ -13,9 +13,9 @@ use crate::word_rows::{one_word, two_words};
 use codes::{
     KernReturn, MACH_MSG, MACH_PORT_ALLOCATE, MACH_PORT_EXTRACT_RIGHT,
     MACH_PORT_GET_RECEIVE_STATUS, MACH_PORT_GET_REFS, MACH_PORT_GET_SET_STATUS, MACH_PORT_NAMES,
-    MACH_PORT_REQUEST_NOTIFICATION, MACH_PORT_TYPE, SPACE_CREATE,
+    MACH_PORT_REQUEST_NOTIFICATION, MACH_PORT_TYPE, NUMBERED, SPACE_CREATE,
 };
-use ipc_model::{NamedType, Reply, RightKind, Sequence};
+use ipc_model::{NamedType, PlainReply, RightKind, Sequence};
 use std::alloc::{AllocError, Global};
 use words::take_word;
 
@@ -60,71 +60,71 @@ fn read_member_row(alloc: Global, results: &[u8]) -> Result<Option<Sequence<u32>
 }
 
 /// The names of a space, as the reply to the call that asks for them.
-#[tactic(auto, unfolding(ipc_model::specs::encodings::Encodings::reply_encoding))]
-fn read_name_reply(alloc: Global, results: &[u8]) -> Result<Option<Reply>, AllocError>
+#[tactic(auto, unfolding(ipc_model::specs::encodings::PlainCalls::reply_encoding))]
+fn read_name_reply(alloc: Global, results: &[u8]) -> Result<Option<PlainReply>, AllocError>
     ensures found { IfOk result (λ found. IfSome found
         (Answers MACH_PORT_NAMES (done_encoding MACH_PORT_NAMES results.now))) }
-    ensures only { (answer : Reply) → HasResults MACH_PORT_NAMES results.now answer → 0 < length results.now
+    ensures only { (answer : PlainReply) → HasResults MACH_PORT_NAMES results.now answer → 0 < length results.now
         → IfOk result (λ found. found ≡ Some answer) }
 {
     let found = read_name_row(alloc, results)?;
     match found {
-        Some(names) => Ok(Some(Reply::Names { names })),
+        Some(names) => Ok(Some(PlainReply::Names { names })),
         None => Ok(None),
     }
 }
 
 /// The members of a set, as the reply to the call that asks for them.
-#[tactic(auto, unfolding(ipc_model::specs::encodings::Encodings::reply_encoding))]
-fn read_member_reply(alloc: Global, results: &[u8]) -> Result<Option<Reply>, AllocError>
+#[tactic(auto, unfolding(ipc_model::specs::encodings::PlainCalls::reply_encoding))]
+fn read_member_reply(alloc: Global, results: &[u8]) -> Result<Option<PlainReply>, AllocError>
     ensures found { IfOk result (λ found. IfSome found
         (Answers MACH_PORT_GET_SET_STATUS (done_encoding MACH_PORT_GET_SET_STATUS results.now))) }
-    ensures only { (answer : Reply) → HasResults MACH_PORT_GET_SET_STATUS results.now answer → 0 < length results.now
-        → IfOk result (λ found. found ≡ Some answer) }
+    ensures only { (answer : PlainReply) → HasResults MACH_PORT_GET_SET_STATUS results.now answer
+        → 0 < length results.now → IfOk result (λ found. found ≡ Some answer) }
 {
     let found = read_member_row(alloc, results)?;
     match found {
-        Some(members) => Ok(Some(Reply::SetStatus { members })),
+        Some(members) => Ok(Some(PlainReply::SetStatus { members })),
         None => Ok(None),
     }
 }
 
 /// The reply to a call with this number that was done, if its results are one number or two, or the state of a port.
-#[tactic(auto, unfolding(ipc_model::specs::encodings::Encodings::reply_encoding))]
-fn read_plain_reply(number: u32, results: &[u8]) -> Option<Reply>
+#[tactic(auto, unfolding(ipc_model::specs::encodings::PlainCalls::reply_encoding))]
+fn read_short_results(number: u32, results: &[u8]) -> Option<PlainReply>
     ensures found { IfSome result (Answers number (done_encoding number results.now)) }
-    ensures only { (answer : Reply) → HasResults number results.now answer → number ≢ MACH_PORT_NAMES
+    ensures only { (answer : PlainReply) → HasResults number results.now answer → number ≢ MACH_PORT_NAMES
         → number ≢ MACH_PORT_GET_SET_STATUS → 0 < length results.now → result ≡ Some answer }
 {
     match number {
         MACH_PORT_TYPE => {
             let bits = one_word(results)?;
-            Some(Reply::Type { bits })
+            Some(PlainReply::Type { bits })
         }
         MACH_PORT_ALLOCATE => {
             let name = one_word(results)?;
-            Some(Reply::Allocate { name })
+            Some(PlainReply::Allocate { name })
         }
         MACH_PORT_GET_REFS => {
             let count = one_word(results)?;
-            Some(Reply::References { count })
+            Some(PlainReply::References { count })
         }
         MACH_PORT_GET_RECEIVE_STATUS => {
             let status = read_status(results)?;
-            Some(Reply::ReceiveStatus { status })
+            Some(PlainReply::ReceiveStatus { status })
         }
         MACH_PORT_REQUEST_NOTIFICATION => {
             let name = one_word(results)?;
-            Some(Reply::PreviousTarget { name })
+            Some(PlainReply::PreviousTarget { name })
         }
         MACH_PORT_EXTRACT_RIGHT => {
             let (name, kind) = two_words(results)?;
             let kind = RightKind::from_number(kind)?;
-            Some(Reply::Extracted { name, kind })
+            Some(PlainReply::Extracted { name, kind })
         }
         SPACE_CREATE => {
             let (space, name) = two_words(results)?;
-            Some(Reply::SpaceCreated { space, name })
+            Some(PlainReply::SpaceCreated { space, name })
         }
         _ => None,
     }
@@ -146,26 +146,31 @@ fn has_results(number: u32) -> bool
             | MACH_PORT_EXTRACT_RIGHT
             | SPACE_CREATE
             | MACH_MSG
+            | NUMBERED
     )
 }
 
 /// The reply to a call with this number that was done, if it has no results.
-#[tactic(auto, unfolding(ipc_model::specs::encodings::Encodings::reply_encoding))]
-fn read_done(number: u32) -> Option<Reply>
+#[tactic(auto, unfolding(ipc_model::specs::encodings::PlainCalls::reply_encoding))]
+fn read_done(number: u32) -> Option<PlainReply>
     ensures found { IfSome result (Answers number (done_encoding number [])) }
-    ensures only { (answer : Reply) → HasResults number [] answer → IsWellFormed answer → result ≡ Some answer }
+    ensures only { (answer : PlainReply) → HasResults number [] answer → IsWellFormed answer → result ≡ Some answer }
 {
     if has_results(number) {
         None
     } else {
-        Some(Reply::Done { number })
+        Some(PlainReply::Done { number })
     }
 }
 
 /// The reply to a call with this number, any but `mach_msg`, that was done and has these results.
-fn read_results(alloc: Global, number: u32, results: &[u8]) -> Result<Option<Reply>, AllocError>
+fn read_results(
+    alloc: Global,
+    number: u32,
+    results: &[u8],
+) -> Result<Option<PlainReply>, AllocError>
     ensures found { IfOk result (λ found. IfSome found (Answers number (done_encoding number results.now))) }
-    ensures only { (answer : Reply) → HasResults number results.now answer → IsWellFormed answer
+    ensures only { (answer : PlainReply) → HasResults number results.now answer → IsWellFormed answer
         → IfOk result (λ found. found ≡ Some answer) }
 {
     if results.is_empty() {
@@ -174,21 +179,21 @@ fn read_results(alloc: Global, number: u32, results: &[u8]) -> Result<Option<Rep
     match number {
         MACH_PORT_NAMES => read_name_reply(alloc, results),
         MACH_PORT_GET_SET_STATUS => read_member_reply(alloc, results),
-        _ => Ok(read_plain_reply(number, results)),
+        _ => Ok(read_short_results(number, results)),
     }
 }
 
 /// The reply to a call with this number, any but `mach_msg`, that was refused.
-#[tactic(auto, unfolding(ipc_model::specs::encodings::Encodings::reply_encoding))]
-fn read_refusal(number: u32, code: KernReturn, results: &[u8]) -> Option<Reply>
+#[tactic(auto, unfolding(ipc_model::specs::encodings::PlainCalls::reply_encoding))]
+fn read_refusal(number: u32, code: KernReturn, results: &[u8]) -> Option<PlainReply>
     requires number { number ≢ MACH_MSG }
     requires code { code ≢ KernReturn.Success }
     ensures found { IfSome result (Answers number (word number ++ (word (number_of code) ++ results.now))) }
-    ensures only { (answer : Reply) → Answers number (word number ++ (word (number_of code) ++ results.now)) answer
+    ensures only { (answer : PlainReply) → Answers number (word number ++ (word (number_of code) ++ results.now)) answer
         → result ≡ Some answer }
 {
     if results.is_empty() {
-        return Some(Reply::Refused { number, code });
+        return Some(PlainReply::Refused { number, code });
     }
     None
 }
@@ -213,15 +218,15 @@ fn keep(alloc: Global, message: &[u8]) -> Result<Sequence<u8>, AllocError>
 }
 
 /// The reply to a `mach_msg`, after its code.
-#[tactic(auto, unfolding(ipc_model::specs::encodings::Encodings::reply_encoding))]
+#[tactic(auto, unfolding(ipc_model::specs::encodings::PlainCalls::reply_encoding))]
 fn read_message(
     alloc: Global,
     code: KernReturn,
     results: &[u8],
-) -> Result<Option<Reply>, AllocError>
+) -> Result<Option<PlainReply>, AllocError>
     ensures found { IfOk result (λ found. IfSome found
         (Answers MACH_MSG (word MACH_MSG ++ (word (number_of code) ++ results.now)))) }
-    ensures only { (answer : Reply)
+    ensures only { (answer : PlainReply)
         → Answers MACH_MSG (word MACH_MSG ++ (word (number_of code) ++ results.now)) answer
         → IfOk result (λ found. found ≡ Some answer) }
 {
@@ -229,7 +234,7 @@ fn read_message(
         return Ok(None);
     };
     let message = keep(alloc, message)?;
-    Ok(Some(Reply::Message {
+    Ok(Some(PlainReply::Message {
         code,
         size,
         member,
@@ -243,10 +248,10 @@ fn read_answer(
     number: u32,
     code: KernReturn,
     results: &[u8],
-) -> Result<Option<Reply>, AllocError>
+) -> Result<Option<PlainReply>, AllocError>
     ensures found { IfOk result (λ found. IfSome found
         (Answers number (word number ++ (word (number_of code) ++ results.now)))) }
-    ensures only { (answer : Reply) → Answers number (word number ++ (word (number_of code) ++ results.now)) answer
+    ensures only { (answer : PlainReply) → Answers number (word number ++ (word (number_of code) ++ results.now)) answer
         → IfOk result (λ found. found ≡ Some answer) }
 {
     if number == MACH_MSG {
@@ -260,9 +265,14 @@ fn read_answer(
 
 /// The reply to a call with this number that a frame's content encodes, if it encodes one. It can run out of memory
 /// only for a message, for names or for members.
-pub fn read_reply(alloc: Global, number: u32, content: &[u8]) -> Result<Option<Reply>, AllocError>
+pub(crate) fn read_plain_reply(
+    alloc: Global,
+    number: u32,
+    content: &[u8],
+) -> Result<Option<PlainReply>, AllocError>
     ensures found { IfOk result (λ found. IfSome found (Answers number content.now)) }
-    ensures only { (answer : Reply) → Answers number content.now answer → IfOk result (λ found. found ≡ Some answer) }
+    ensures only { (answer : PlainReply) → Answers number content.now answer
+        → IfOk result (λ found. found ≡ Some answer) }
 {
     let Some((front, rest)) = take_word(content) else {
         return Ok(None);

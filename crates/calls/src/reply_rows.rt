@@ -1,8 +1,8 @@
 ghost use Rattle.std.specs.Prelude.{◌≡◌, ◌<◌, ◌^◌, ◌++◌, All, flat_map, length, ℕ, List, Bool, IfSome, IfNone, IfOk};
-ghost use Rattle.ipc_model.specs.declared.call.NamedType.{NamedType};
-ghost use Rattle.ipc_model.specs.declared.call.ReceiveStatus.{ReceiveStatus};
-ghost use Rattle.ipc_model.specs.declared.call.Reply.TheVariants as reply;
-ghost use Rattle.ipc_model.specs.encodings.Encodings.{number_of_bool, status_encoding, FitsReply};
+ghost use Rattle.ipc_model.specs.declared.plain_reply.NamedType.{NamedType};
+ghost use Rattle.ipc_model.specs.declared.plain_reply.ReceiveStatus.{ReceiveStatus};
+ghost use Rattle.ipc_model.specs.declared.plain_reply.PlainReply.TheVariants as reply;
+ghost use Rattle.ipc_model.specs.encodings.PlainCalls.{number_of_bool, status_encoding, FitsReply};
 ghost use Rattle.words.specs.Words.{word};
 ghost use Rattle.calls.specs.Rows.{names_encoding};
 

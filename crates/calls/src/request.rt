@@ -5,9 +5,10 @@ ghost use Rattle.calls.specs.declared.request.Request.{Request};
 ghost use Rattle.calls.specs.Requests as requests;
 
 use crate::arguments::read_arguments;
+use crate::numbered::read_numbered;
 use bitflags::Flags;
-use codes::{KernReturn, MACH_MSG, MessageOptions};
-use ipc_model::{Call, Sequence};
+use codes::{KernReturn, MACH_MSG, MessageOptions, NUMBERED};
+use ipc_model::{Call, PlainCall, Sequence};
 use std::alloc::{AllocError, Global};
 use wire::Frame;
 use words::take_word;
@@ -29,7 +30,7 @@ pub struct MessageRequest {
 /// What a frame asks for.
 #[derive(Drop)]
 pub enum Request {
-    /// A call of any number but that of `mach_msg`.
+    /// A call of any number but that of `mach_msg`, which may be a numbered one.
     One(Call),
     /// A `mach_msg` that sends, receives or both.
     Message(MessageRequest),
@@ -68,7 +69,7 @@ fn asked_send(
         return Ok(None);
     }
     let message = Sequence::new(Vec::from_slice(alloc, message)?);
-    Ok(Some(Call::Send { message }))
+    Ok(Some(Call::Plain(PlainCall::Send { message })))
 }
 
 /// The receive that the options ask for.
@@ -78,12 +79,12 @@ fn asked_receive(options: MessageOptions, limit: u32, name: u32) -> Option<Call>
     if !options.contains(MessageOptions::RECEIVE) {
         return None;
     }
-    Some(Call::Receive {
+    Some(Call::Plain(PlainCall::Receive {
         limit,
         large: options.contains(MessageOptions::LARGE),
         name,
         waited: false,
-    })
+    }))
 }
 
 /// The bound on a wait, if the options have this one.
@@ -132,7 +133,7 @@ fn request_of(
 }
 
 /// The four numbers that stand in front, and the bytes after them.
-fn take_four(bytes: &[u8]) -> Option<(u32, u32, u32, u32, &[u8])>
+pub(crate) fn take_four(bytes: &[u8]) -> Option<(u32, u32, u32, u32, &[u8])>
     ensures found { IfSome result (λ r. bytes.now ≡ word r.0 ++ (word r.1 ++ (word r.2 ++ (word r.3 ++ r.4.now)))) }
     ensures fits { IfSome result (λ r. (r.0 < 2 ^ 32) × (r.1 < 2 ^ 32) × (r.2 < 2 ^ 32) × (r.3 < 2 ^ 32)) }
     ensures none { IfNone result (length bytes.now < 16) }
@@ -160,15 +161,16 @@ fn read_mach_msg(alloc: Global, arguments: &[u8]) -> Result<Request, CallFault>
     Ok(request)
 }
 
-/// What a frame asks for. `NoCall`: no call has this number and arguments of this length. `NoMemory`, only for a send:
-/// out of memory for its message.
-#[tactic(auto, unfolding(ipc_model::specs::encodings::Encodings::call_encoding))]
+/// What a frame asks for. `NoCall`: no call has this number and arguments of this length. `NoMemory`, only for a send,
+/// which may be numbered: out of memory for its message.
+#[tactic(auto, unfolding(ipc_model::specs::encodings::PlainCalls::call_encoding))]
 pub fn read_request(alloc: Global, frame: &Frame) -> Result<Request, CallFault>
     ensures found { IfOk result (λ request. requests.Asks frame.now.content request) }
     ensures only { (asks : Request) → requests.Asks frame.now.content asks
         → (result ≡ Ok asks) ⊎ (result ≡ Err CallFault.NoMemory) }
     ensures memory { IsErrOf result CallFault.NoMemory
-        → (arguments : List ℕ) × (frame.now.content ≡ word MACH_MSG ++ arguments) × requests.IsSend arguments }
+        → ((arguments : List ℕ) × (frame.now.content ≡ word MACH_MSG ++ arguments) × requests.IsSend arguments)
+        ⊎ requests.IsNumberedSend frame.now.content }
 {
     let Some((number, arguments)) = take_word(frame.content()) else {
         return Err(CallFault::NoCall);
@@ -176,8 +178,14 @@ pub fn read_request(alloc: Global, frame: &Frame) -> Result<Request, CallFault>
     if number == MACH_MSG {
         return read_mach_msg(alloc, arguments);
     }
+    if number == NUMBERED {
+        return match read_numbered(alloc, arguments) {
+            Ok(call) => Ok(Request::One(call)),
+            Err(fault) => Err(fault),
+        };
+    }
     match read_arguments(number, arguments) {
-        Some(call) => Ok(Request::One(call)),
+        Some(call) => Ok(Request::One(Call::Plain(call))),
         None => Err(CallFault::NoCall),
     }
 }

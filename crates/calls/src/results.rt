@@ -1,35 +1,35 @@
 ghost use Rattle.std.specs.Prelude.{true, false, ◌≡◌, ◌||◌, Some, IsTrue, IfOk, IfSome};
-ghost use Rattle.ipc_model.specs.declared.call.Reply.{Reply};
-ghost use Rattle.ipc_model.specs.calls.Step.{has_destroyed, is_success, succeeded, destroyed_message};
-ghost use Rattle.ipc_model.specs.encodings.Encodings.{reply_encoding, has_no_results, Brings, HasItsResults, IsOfReceive, IsRecordedReply};
+ghost use Rattle.ipc_model.specs.declared.plain_reply.PlainReply.{PlainReply};
+ghost use Rattle.ipc_model.specs.calls.PlainStep.{has_destroyed, is_success, succeeded, destroyed_message};
+ghost use Rattle.ipc_model.specs.encodings.PlainCalls.{reply_encoding, has_no_results, Brings, HasItsResults, IsOfReceive, IsRecordedReply};
 
-use crate::reply::read_reply;
+use crate::reply::read_plain_reply;
 use codes::{KernReturn, MACH_PORT_DEAD, MACH_PORT_NULL};
-use ipc_model::{Call, Reply, is_message_size};
+use ipc_model::{PlainCall, PlainReply, is_message_size};
 use std::alloc::{AllocError, Global};
 
 /// Whether the call is a receive that destroys a message that is too large.
-fn destroys(call: &Call) -> bool
+fn destroys(call: &PlainCall) -> bool
     ensures { result ≡ has_destroyed call.now KernReturn.RcvTooLarge }
 {
     match call {
-        Call::Receive { large, .. } => !*large,
+        PlainCall::Receive { large, .. } => !*large,
         _ => false,
     }
 }
 
 /// Whether the call has no results when it is done.
-fn has_no_results(call: &Call) -> bool
+fn has_no_results(call: &PlainCall) -> bool
     ensures { result ≡ has_no_results call.now }
 {
     !matches!(
         call,
-        Call::Allocate { .. }
-            | Call::RequestNotification { .. }
-            | Call::ExtractRight { .. }
-            | Call::Send { .. }
-            | Call::Receive { .. }
-            | Call::SpaceCreate { .. }
+        PlainCall::Allocate { .. }
+            | PlainCall::RequestNotification { .. }
+            | PlainCall::ExtractRight { .. }
+            | PlainCall::Send { .. }
+            | PlainCall::Receive { .. }
+            | PlainCall::SpaceCreate { .. }
     )
 }
 
@@ -50,19 +50,19 @@ fn is_of_receive(limit: u32, code: KernReturn, size: u32, member: u32, message: 
 }
 
 /// Whether a `mach_msg` returns these results: a send returns none.
-fn brings(call: &Call, code: KernReturn, size: u32, member: u32, message: &[u8]) -> bool
+fn brings(call: &PlainCall, code: KernReturn, size: u32, member: u32, message: &[u8]) -> bool
     ensures yes { result ≡ true → Brings call.now code size member message.now }
     ensures no { result ≡ false → Brings call.now code size member message.now → ⊥ }
 {
     match call {
-        Call::Send { .. } => size == 0 && member == MACH_PORT_NULL && message.is_empty(),
-        Call::Receive { limit, .. } => is_of_receive(*limit, code, size, member, message),
+        PlainCall::Send { .. } => size == 0 && member == MACH_PORT_NULL && message.is_empty(),
+        PlainCall::Receive { limit, .. } => is_of_receive(*limit, code, size, member, message),
         _ => false,
     }
 }
 
 /// Whether a record has a `mach_msg` with this code.
-fn has_recorded_code(call: &Call, code: KernReturn) -> bool
+fn has_recorded_code(call: &PlainCall, code: KernReturn) -> bool
     ensures { result ≡ (is_success code || has_destroyed call.now code) }
 {
     match code {
@@ -74,7 +74,7 @@ fn has_recorded_code(call: &Call, code: KernReturn) -> bool
 
 /// Whether a record has a `mach_msg` with these results.
 fn is_recorded_message(
-    call: &Call,
+    call: &PlainCall,
     code: KernReturn,
     size: u32,
     member: u32,
@@ -93,49 +93,49 @@ fn is_recorded_message(
 }
 
 /// Whether a record of this call, which has one, can have this reply to it.
-fn is_recorded_reply(call: &Call, answer: &Reply) -> bool
-    ensures yes { result ≡ true → HasItsResults call.now answer.now × IsTrue (succeeded call.now answer.now
+fn is_recorded_reply(call: &PlainCall, answer: &PlainReply) -> bool
+    ensures yes { result ≡ true → HasItsResults call.now answer.now × IsTrue (succeeded answer.now
         || destroyed_message call.now answer.now) }
-    ensures no { result ≡ false → HasItsResults call.now answer.now → IsTrue (succeeded call.now answer.now
+    ensures no { result ≡ false → HasItsResults call.now answer.now → IsTrue (succeeded answer.now
         || destroyed_message call.now answer.now) → ⊥ }
 {
     match answer {
-        Reply::Refused { .. } => false,
-        Reply::Done { .. } => has_no_results(call),
-        Reply::Message {
+        PlainReply::Refused { .. } => false,
+        PlainReply::Done { .. } => has_no_results(call),
+        PlainReply::Message {
             code,
             size,
             member,
             message,
         } => is_recorded_message(call, *code, *size, *member, message.as_slice()),
-        Reply::Names { .. }
-        | Reply::Type { .. }
-        | Reply::Allocate { .. }
-        | Reply::References { .. }
-        | Reply::ReceiveStatus { .. }
-        | Reply::SetStatus { .. }
-        | Reply::PreviousTarget { .. }
-        | Reply::Extracted { .. }
-        | Reply::SpaceCreated { .. } => true,
+        PlainReply::Names { .. }
+        | PlainReply::Type { .. }
+        | PlainReply::Allocate { .. }
+        | PlainReply::References { .. }
+        | PlainReply::ReceiveStatus { .. }
+        | PlainReply::SetStatus { .. }
+        | PlainReply::PreviousTarget { .. }
+        | PlainReply::Extracted { .. }
+        | PlainReply::SpaceCreated { .. } => true,
     }
 }
 
 /// The reply that these bytes encode, if they encode a reply in a record of this call. It can run out of memory only
 /// for a received message.
-pub fn read_recorded_reply(
+pub(crate) fn read_recorded_plain_reply(
     alloc: Global,
-    call: &Call,
+    call: &PlainCall,
     content: &[u8],
-) -> Result<Option<Reply>, AllocError>
+) -> Result<Option<PlainReply>, AllocError>
     ensures found { IfOk result (λ found. IfSome found (λ answer.
         (content.now ≡ reply_encoding answer) × IsRecordedReply call.now answer)) }
-    ensures only { (answer : Reply) → IsRecordedReply call.now answer → content.now ≡ reply_encoding answer
+    ensures only { (answer : PlainReply) → IsRecordedReply call.now answer → content.now ≡ reply_encoding answer
         → IfOk result (λ found. found ≡ Some answer) }
 {
     if !call.is_recorded() {
         return Ok(None);
     }
-    let found = read_reply(alloc, call.number(), content)?;
+    let found = read_plain_reply(alloc, call.number(), content)?;
     let Some(answer) = found else {
         return Ok(None);
     };

@@ -4,7 +4,7 @@ use Rattle.std.specs.Prelude.{Option, None, Some, map}
 use Rattle.codes.specs.declared.limits.TheConstants.{MAX_RECORDS}
 use Rattle.disk.specs.Moments.{View, MayLeave, Passes, Follows, IsSynced}
 use Rattle.disk.specs.Slots.{Slots, slot_of, with_slot}
-use Rattle.ipc_laws.specs.CanonicalLaws.{canonical_call_again}
+use Rattle.ipc_laws.specs.CanonicalRecords.{canonical_call_again}
 use Rattle.ipc_laws.specs.RunLaws.{run_as_canonical}
 use Rattle.ipc_laws.specs.StoreLaws.{in_use_encodes}
 use Rattle.ipc_model.specs.calls.Step.{Run}

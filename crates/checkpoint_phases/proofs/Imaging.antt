@@ -150,6 +150,7 @@ holds_image epoch encoding state image fits = record {
   acyclic = image.acyclic;
   short = image.short;
   limits = image.limits;
+  kept = image.kept;
 }
 
 -- the image is finished, and the store is in the next epoch

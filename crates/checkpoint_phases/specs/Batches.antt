@@ -1,7 +1,7 @@
 -- Batches that are about to be stored.
 use Rattle.std.specs.Prelude.{ℕ, ◌+◌, ◌<◌, ◌≤◌, List, length, map}
 use Rattle.codes.specs.declared.limits.TheConstants.{MAX_RECORDS}
-use Rattle.ipc_laws.specs.StepsKeep.{FitCalls}
+use Rattle.ipc_laws.specs.RunsKeep.{FitCalls}
 use Rattle.ipc_model.specs.calls.Step.{Run}
 use Rattle.ipc_model.specs.declared.record.Record.{Record}
 use Rattle.ipc_model.specs.state.State.{State}

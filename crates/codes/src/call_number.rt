@@ -45,3 +45,5 @@ pub const MACH_MSG: u32 = 19;
 pub const SPACE_CREATE: u32 = 20;
 /// Removes the caller's space with all its names.
 pub const SPACE_DESTROY: u32 = 21;
+/// Makes another call once, under a number that the task chooses.
+pub const NUMBERED: u32 = 22;

@@ -8,12 +8,12 @@ use Rattle.ipc_model.specs.effects.Effects.{Effect, dead_name_notices, effects_o
 use Rattle.ipc_model.specs.messages.Notices.{notice_message}
 use Rattle.ipc_model.specs.messages.Notices as notice
 use Rattle.ipc_model.specs.state.Placed.{send_count}
-use Rattle.ipc_model.specs.state.State.{State}
+use Rattle.ipc_model.specs.state.Ipc.{Ipc}
 
 abbrev messages_of : Option PortState → List Message
 messages_of o = elim o as (λ _. List Message) [ None ↦ [] | Some port ↦ port.messages ]
 
-pub all_released : {T E : Type 0} (r : Result T E) (state : State) (serial : ℕ) (target : Option ℕ)
+pub all_released : {T E : Type 0} (r : Result T E) (state : Ipc) (serial : ℕ) (target : Option ℕ)
     (old first second new : List Effect) → first ≡ old ++ flat_map releases_of (messages_of (get state.ports serial))
     → second ≡ first ++ dead_name_notices state serial → OnOk r (new ≡ second ++ release_of_target target)
     → OnOk r ((port : PortState) → get state.ports serial ≡ Some port → port.no_senders_target ≡ target
@@ -30,12 +30,12 @@ all_released (Ok v) state serial target old first second new released sent last 
     ∙ (append_assoc (old ++ rights) dead rest ∙ append_assoc old rights (dead ++ rest))))
 
 -- a send-once right's notice, which is dropped if the port is dead
-notified_is_released : (state : State) (serial : ℕ)
+notified_is_released : (state : Ipc) (serial : ℕ)
     → notified state serial notice.SendOnce ≡ (released_if_live state serial kind.SendOnce (get state.ports serial)).0
 notified_is_released state serial = by_case (get state.ports serial) refl
   where
-    queued_in : Option PortState → State
-    queued_in o = elim o as (λ _. State) [
+    queued_in : Option PortState → Ipc
+    queued_in o = elim o as (λ _. Ipc) [
       | None ↦ state
       | Some port ↦ record state {
         ports = insert state.ports serial
@@ -48,14 +48,14 @@ notified_is_released state serial = by_case (get state.ports serial) refl
     by_case None none = ap queued_in none
     by_case (Some port) at = refl
 
-pub notified_once : {T E : Type 0} (r : Result T E) (state new : State) (serial : ℕ)
+pub notified_once : {T E : Type 0} (r : Result T E) (state new : Ipc) (serial : ℕ)
     → OnOk r (new ≡ notified state serial notice.SendOnce)
     → OnOk r (new ≡ (released_if_live state serial kind.SendOnce (get state.ports serial)).0)
 notified_once (Err e) state new serial sent = tt
 notified_once (Ok v) state new serial sent = sent ∙ notified_is_released state serial
 
 -- while send rights are left, no notice is sent
-pub senders_left : (state : State) (serial : ℕ) (o : Option PortState) → not (send_count state serial == 0) ≡ true
+pub senders_left : (state : Ipc) (serial : ℕ) (o : Option PortState) → not (send_count state serial == 0) ≡ true
     → state ≡ (released_if_live state serial kind.Send o).0
 senders_left state serial None left = refl
 senders_left state serial (Some port) left =

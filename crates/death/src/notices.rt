@@ -1,7 +1,7 @@
 ghost use Rattle.std.specs.Prelude.{◌≡◌, true, OnOk};
 ghost use Rattle.ipc_model.specs.effects.Effects.{notified};
 ghost use Rattle.ipc_model.specs.messages.Notices as notice;
-ghost use Rattle.ipc_model.specs.state.State.{lives};
+ghost use Rattle.ipc_model.specs.state.Ipc.{lives};
 ghost use Rattle.effects.specs.Meaning.{notice_meant};
 
 use effects::Notice;

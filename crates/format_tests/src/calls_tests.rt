@@ -7,7 +7,9 @@ use calls::{
     read_recorded_reply, read_request, reply_frame,
 };
 use codes::{KernReturn, MAX_FRAME_CONTENT};
-use ipc_model::{Call, NamedType, ReceiveStatus, Reply, RightKind, Sequence};
+use ipc_model::{
+    Call, NamedType, PlainCall, PlainReply, ReceiveStatus, Reply, RightKind, Sequence,
+};
 use script::read_request_line;
 use std::alloc::Global;
 use std::process::Abort;
@@ -167,7 +169,7 @@ const SEND: [u8; 48] = [
 
 fn send_of(alloc: Global, message: &[u8]) -> Option<Call> {
     let message = Sequence::new(Vec::from_slice(alloc, message).ok()?);
-    Some(Call::Send { message })
+    Some(Call::Plain(PlainCall::Send { message }))
 }
 
 #[test]
@@ -392,38 +394,58 @@ fn is_encoded_in_words(alloc: Global, reply: &Reply, numbers: &[u32]) -> Encoded
 
 // Each reply has a function of its own: that it fits in a frame is proved there.
 
-#[tactic(auto, unfolding(ipc_model::specs::encodings::Encodings::reply_encoding))]
+#[tactic(auto, unfolding(ipc_model::specs::encodings::PlainCalls::reply_encoding))]
 fn encodes_refusal(alloc: Global) -> Encoded {
-    let full = Reply::Refused {
+    let full = Reply::Plain(PlainReply::Refused {
         number: 5,
         code: KernReturn::NoSpace,
-    };
+    });
     is_encoded_in_words(alloc, &full, &[5, 3])
 }
 
-#[tactic(auto, unfolding(ipc_model::specs::encodings::Encodings::reply_encoding))]
+#[tactic(auto, unfolding(ipc_model::specs::encodings::PlainCalls::reply_encoding))]
 fn encodes_done(alloc: Global) -> Encoded {
-    is_encoded_in_words(alloc, &Reply::Done { number: 7 }, &[7, 0])
+    is_encoded_in_words(
+        alloc,
+        &Reply::Plain(PlainReply::Done { number: 7 }),
+        &[7, 0],
+    )
 }
 
-#[tactic(auto, unfolding(ipc_model::specs::encodings::Encodings::reply_encoding))]
+#[tactic(auto, unfolding(ipc_model::specs::encodings::PlainCalls::reply_encoding))]
 fn encodes_type(alloc: Global) -> Encoded {
-    is_encoded_in_words(alloc, &Reply::Type { bits: 0x20000 }, &[2, 0, 0x20000])
+    is_encoded_in_words(
+        alloc,
+        &Reply::Plain(PlainReply::Type { bits: 0x20000 }),
+        &[2, 0, 0x20000],
+    )
 }
 
-#[tactic(auto, unfolding(ipc_model::specs::encodings::Encodings::reply_encoding))]
+#[tactic(auto, unfolding(ipc_model::specs::encodings::PlainCalls::reply_encoding))]
 fn encodes_new_name(alloc: Global) -> Encoded {
-    is_encoded_in_words(alloc, &Reply::Allocate { name: 0x100 }, &[5, 0, 0x100])
+    is_encoded_in_words(
+        alloc,
+        &Reply::Plain(PlainReply::Allocate { name: 0x100 }),
+        &[5, 0, 0x100],
+    )
 }
 
-#[tactic(auto, unfolding(ipc_model::specs::encodings::Encodings::reply_encoding))]
+#[tactic(auto, unfolding(ipc_model::specs::encodings::PlainCalls::reply_encoding))]
 fn encodes_references(alloc: Global) -> Encoded {
-    is_encoded_in_words(alloc, &Reply::References { count: 3 }, &[8, 0, 3])
+    is_encoded_in_words(
+        alloc,
+        &Reply::Plain(PlainReply::References { count: 3 }),
+        &[8, 0, 3],
+    )
 }
 
-#[tactic(auto, unfolding(ipc_model::specs::encodings::Encodings::reply_encoding))]
+#[tactic(auto, unfolding(ipc_model::specs::encodings::PlainCalls::reply_encoding))]
 fn encodes_previous_target(alloc: Global) -> Encoded {
-    is_encoded_in_words(alloc, &Reply::PreviousTarget { name: 9 }, &[16, 0, 9])
+    is_encoded_in_words(
+        alloc,
+        &Reply::Plain(PlainReply::PreviousTarget { name: 9 }),
+        &[16, 0, 9],
+    )
 }
 
 #[test]
@@ -440,22 +462,22 @@ fn replies_as_bytes(rt: HostRuntime) {
     same(&rt, seen, [ENCODED; 6]);
 }
 
-#[tactic(auto, unfolding(ipc_model::specs::encodings::Encodings::reply_encoding))]
+#[tactic(auto, unfolding(ipc_model::specs::encodings::PlainCalls::reply_encoding))]
 fn encodes_extracted(alloc: Global) -> Encoded {
-    let extracted = Reply::Extracted {
+    let extracted = Reply::Plain(PlainReply::Extracted {
         name: 9,
         kind: RightKind::SendOnce,
-    };
+    });
     is_encoded_in_words(alloc, &extracted, &[18, 0, 9, 18])
 }
 
-#[tactic(auto, unfolding(ipc_model::specs::encodings::Encodings::reply_encoding))]
+#[tactic(auto, unfolding(ipc_model::specs::encodings::PlainCalls::reply_encoding))]
 fn encodes_created_space(alloc: Global) -> Encoded {
-    let created = Reply::SpaceCreated { space: 2, name: 1 };
+    let created = Reply::Plain(PlainReply::SpaceCreated { space: 2, name: 1 });
     is_encoded_in_words(alloc, &created, &[20, 0, 2, 1])
 }
 
-#[tactic(auto, unfolding(ipc_model::specs::encodings::Encodings::reply_encoding))]
+#[tactic(auto, unfolding(ipc_model::specs::encodings::PlainCalls::reply_encoding))]
 fn encodes_status(alloc: Global) -> Encoded {
     let status = ReceiveStatus {
         set: 9,
@@ -468,7 +490,7 @@ fn encodes_status(alloc: Global) -> Encoded {
         has_port_destroyed_request: false,
         has_no_senders_request: true,
     };
-    let reported = Reply::ReceiveStatus { status };
+    let reported = Reply::Plain(PlainReply::ReceiveStatus { status });
     is_encoded_in_words(alloc, &reported, &[13, 0, 9, 1, 2, 5, 3, 4, 1, 0, 1])
 }
 
@@ -483,7 +505,7 @@ fn replies_with_more_results_as_bytes(rt: HostRuntime) {
     same(&rt, seen, [ENCODED; 3]);
 }
 
-#[tactic(auto, unfolding(ipc_model::specs::encodings::Encodings::reply_encoding))]
+#[tactic(auto, unfolding(ipc_model::specs::encodings::PlainCalls::reply_encoding))]
 fn encodes_names(alloc: Global) -> Encoded {
     let first = NamedType {
         name: 8,
@@ -495,30 +517,30 @@ fn encodes_names(alloc: Global) -> Encoded {
     };
     let names = Sequence::new(Vec::from_slice(alloc, &[first, second]).ok()?);
     let encoding = &[1, 0, 2, 8, 0x20000, 9, 0x10000];
-    let reported = Reply::Names { names };
+    let reported = Reply::Plain(PlainReply::Names { names });
     let encoded = is_encoded_in_words(alloc, &reported, encoding);
     drop(reported);
     encoded
 }
 
-#[tactic(auto, unfolding(ipc_model::specs::encodings::Encodings::reply_encoding))]
+#[tactic(auto, unfolding(ipc_model::specs::encodings::PlainCalls::reply_encoding))]
 fn encodes_members(alloc: Global) -> Encoded {
     let members = Sequence::new(Vec::from_slice(alloc, &[8_u32, 9]).ok()?);
-    let reported = Reply::SetStatus { members };
+    let reported = Reply::Plain(PlainReply::SetStatus { members });
     let encoded = is_encoded_in_words(alloc, &reported, &[14, 0, 2, 8, 9]);
     drop(reported);
     encoded
 }
 
-#[tactic(auto, unfolding(ipc_model::specs::encodings::Encodings::reply_encoding))]
+#[tactic(auto, unfolding(ipc_model::specs::encodings::PlainCalls::reply_encoding))]
 fn encodes_message(alloc: Global) -> Encoded {
     let message = Sequence::new(Vec::from_slice(alloc, b"abc").ok()?);
-    let received = Reply::Message {
+    let received = Reply::Plain(PlainReply::Message {
         code: KernReturn::Success,
         size: 3,
         member: 0x100,
         message,
-    };
+    });
     let encoding = b"\x13\0\0\0\0\0\0\0\x03\0\0\0\0\x01\0\0abc";
     let encoded = is_encoded(alloc, &received, encoding);
     drop(received);
@@ -544,14 +566,18 @@ fn reply_of_record(alloc: Global, call: &Call, encoding: &[u8]) -> Option<Option
 // The name that was allocated.
 fn allocated_name(reply: &Option<Reply>) -> Option<u32> {
     match reply {
-        Some(Reply::Allocate { name }) => Some(*name),
+        Some(Reply::Plain(PlainReply::Allocate { name })) => Some(*name),
         _ => None,
     }
 }
 
 // The name of an allocation's reply.
 fn name_of_record(alloc: Global, encoding: &[u8]) -> Option<u32> {
-    let reply = reply_of_record(alloc, &Call::Allocate { right: 1 }, encoding)?;
+    let reply = reply_of_record(
+        alloc,
+        &Call::Plain(PlainCall::Allocate { right: 1 }),
+        encoding,
+    )?;
     let name = allocated_name(&reply);
     drop(reply);
     name

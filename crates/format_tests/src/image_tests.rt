@@ -54,9 +54,10 @@ static EVERY_KIND_OF_ONE: [u8; 223] = [
 ];
 
 /// A byte of `EVERY_KIND` that is replaced: its place, and the new byte. What it encodes then is no image, in order:
-/// spaces that don't ascend; the number of a request, thrice; names that don't ascend; no kind of entry; no flag; a message by a receive right; a port where
-/// there is no reply; no kind of right; nothing that stands in a port's place; a dead port with a serial; a size below
-/// a header's; a body beyond the message; no flag; ports that don't ascend; a message that is missing.
+/// spaces that don't ascend; the number of a request, thrice; names that don't ascend; no kind of entry; no flag; a
+/// message by a receive right; a port where there is no reply; no kind of right; nothing that stands in a port's place;
+/// a dead port with a serial; a size below a header's; a body beyond the message; no flag; ports that don't ascend; a
+/// message that is missing.
 static OTHERWISE: [(usize, u8); 17] = [
     (12, 8),
     (16, 1),
@@ -162,8 +163,8 @@ fn refused_beginnings(alloc: Global, version: StoreVersion, encoding: &[u8]) -> 
     count
 }
 
-/// Whether the encodings of a state in version 1 and in version 2 are both read and written in version 2, whether each is no image of the other version, and how many of their
-/// prefixes are none.
+/// Whether the encodings of a state in version 1 and in version 2 are both read and written in version 2, whether each
+/// is no image of the other version, and how many of their prefixes are none.
 fn seen(alloc: Global, one: &[u8], two: &[u8]) -> ([bool; 4], [usize; 2]) {
     (
         [

@@ -1,6 +1,6 @@
 use crate::expect::{same, same_in_row};
 use codes::{KernReturn, MACH_MSG};
-use ipc_model::{Call, Reply, RightKind, Sequence};
+use ipc_model::{Call, PlainCall, PlainReply, Reply, RightKind, Sequence};
 use std::alloc::Global;
 
 /// Whether a sequence of these items lends them, and gives them back.
@@ -37,13 +37,17 @@ fn kinds_have_their_numbers(rt: HostRuntime) {
 
 #[test]
 fn what_changed_the_state_has_a_record(rt: HostRuntime) {
-    let call = Call::Allocate { right: 1 };
+    let call = Call::Plain(PlainCall::Allocate { right: 1 });
     same(&rt, call.number(), 5);
-    same(&rt, call.has_record(&Reply::Allocate { name: 0x100 }), true);
-    let full = Reply::Refused {
+    same(
+        &rt,
+        call.has_record(&Reply::Plain(PlainReply::Allocate { name: 0x100 })),
+        true,
+    );
+    let full = Reply::Plain(PlainReply::Refused {
         number: 5,
         code: KernReturn::NoSpace,
-    };
+    });
     same(&rt, call.has_record(&full), false);
 }
 
@@ -51,14 +55,14 @@ fn what_changed_the_state_has_a_record(rt: HostRuntime) {
 /// success.
 fn seen_of(reply: Reply) -> [bool; 3] {
     let seen = [
-        matches!(&reply, Reply::Refused { .. }),
+        matches!(&reply, Reply::Plain(PlainReply::Refused { .. })),
         matches!(
             &reply,
-            Reply::Message {
+            Reply::Plain(PlainReply::Message {
                 size: 0,
                 member: 0,
                 ..
-            }
+            })
         ),
         reply.is_success(),
     ];

@@ -3,7 +3,7 @@ ghost use Rattle.ipc_model.specs.encodings.Encodings.{call_encoding, reply_encod
 
 use crate::expect::{is_there, same, same_bytes, same_in_row};
 use codes::KernReturn;
-use ipc_model::{Call, Record, Reply, Sequence};
+use ipc_model::{Call, PlainCall, PlainReply, Record, Reply, Sequence};
 use record::{in_range, push_record, take_frame, take_record};
 use std::alloc::Global;
 
@@ -69,23 +69,23 @@ fn records_as_bytes(rt: HostRuntime) {
     }
 }
 
-#[tactic(auto, unfolding(ipc_model::specs::encodings::Encodings::call_encoding, ipc_model::specs::encodings::Encodings::reply_encoding))]
+#[tactic(auto, unfolding(ipc_model::specs::encodings::PlainCalls::call_encoding, ipc_model::specs::encodings::PlainCalls::reply_encoding))]
 fn receive_bytes(alloc: Global) -> Option<Vec<u8>> {
     let message = Sequence::new(Vec::from_slice(alloc, &RECEIPT[56..]).ok()?);
     let record = Record {
         space: 1,
-        call: Call::Receive {
+        call: Call::Plain(PlainCall::Receive {
             limit: 28,
             large: false,
             name: 0x100,
             waited: false,
-        },
-        reply: Reply::Message {
+        }),
+        reply: Reply::Plain(PlainReply::Message {
             code: KernReturn::Success,
             size: 28,
             member: 0x100,
             message,
-        },
+        }),
     };
     let written = record_bytes(alloc, 2, &record);
     drop(record);
@@ -93,16 +93,16 @@ fn receive_bytes(alloc: Global) -> Option<Vec<u8>> {
 }
 
 // The record holds a send without what it ignores: unused bits, a size and a sequence number.
-#[tactic(auto, unfolding(ipc_model::specs::encodings::Encodings::call_encoding, ipc_model::specs::encodings::Encodings::reply_encoding))]
+#[tactic(auto, unfolding(ipc_model::specs::encodings::PlainCalls::call_encoding, ipc_model::specs::encodings::PlainCalls::reply_encoding))]
 fn raw_send_bytes(alloc: Global) -> Option<Vec<u8>> {
     let sent = b"\x13\0\xff\x7f\xff\xff\xff\xff\0\x01\0\0\0\0\0\0\xff\xff\xff\xff\
         \x07\0\0\0\x44\x33\x22\x11";
     let record = Record {
         space: 1,
-        call: Call::Send {
+        call: Call::Plain(PlainCall::Send {
             message: Sequence::new(Vec::from_slice(alloc, sent).ok()?),
-        },
-        reply: Reply::without_message(alloc, KernReturn::Success, 0, 0),
+        }),
+        reply: Reply::Plain(PlainReply::without_message(alloc, KernReturn::Success, 0, 0)),
     };
     let written = record_bytes(alloc, 1, &record);
     drop(record);

@@ -3,7 +3,7 @@
 use ipc_model::{
     CarriedRight, Entry, Message, PortInMessage, PortRights, PortState, RightKind, Sequence,
 };
-use snapshot::{LivePort, NamedEntry, Snapshot, Space};
+use snapshot::{IpcSnapshot, LivePort, NamedEntry, Space};
 use std::alloc::Global;
 
 fn names(alloc: Global) -> Option<Sequence<NamedEntry>> {
@@ -95,8 +95,8 @@ fn ports(alloc: Global) -> Option<Sequence<LivePort>> {
     Some(Sequence::new(Vec::from_array(alloc, ports).ok()?))
 }
 
-pub(crate) fn sample(alloc: Global) -> Option<Snapshot> {
-    Some(Snapshot {
+pub(crate) fn sample(alloc: Global) -> Option<IpcSnapshot> {
+    Some(IpcSnapshot {
         next_serial: 3,
         spaces: spaces(alloc)?,
         ports: ports(alloc)?,

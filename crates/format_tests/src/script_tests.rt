@@ -1,6 +1,6 @@
 use crate::expect::{is_there, same, same_bytes, same_in_row};
 use codes::KernReturn;
-use ipc_model::{Call, ReceiveStatus, Reply, Sequence};
+use ipc_model::{Call, PlainCall, PlainReply, ReceiveStatus, Reply, Sequence};
 use script::{Exchange, Expected, Line, LineFault, read_line, read_request_line, read_script};
 use script_printing::{push_call, push_exchange, push_reply};
 use std::alloc::{AllocError, Global};
@@ -34,10 +34,10 @@ fn both_ways(alloc: Global, exchange: Option<Exchange>, line: &[u8]) -> Option<[
 
 fn send_of(alloc: Global, message: &[u8]) -> Option<Exchange> {
     Some(Exchange {
-        call: Call::Send {
+        call: Call::Plain(PlainCall::Send {
             message: Sequence::new(Vec::from_slice(alloc, message).ok()?),
-        },
-        reply: Reply::without_message(alloc, KernReturn::Success, 0, 0),
+        }),
+        reply: Reply::Plain(PlainReply::without_message(alloc, KernReturn::Success, 0, 0)),
     })
 }
 
@@ -54,8 +54,8 @@ fn state_of_a_port() -> Exchange {
         has_no_senders_request: false,
     };
     Exchange {
-        call: Call::GetReceiveStatus { name: 0x100 },
-        reply: Reply::ReceiveStatus { status },
+        call: Call::Plain(PlainCall::GetReceiveStatus { name: 0x100 }),
+        reply: Reply::Plain(PlainReply::ReceiveStatus { status }),
     }
 }
 
@@ -64,13 +64,13 @@ const STATE_OF_A_PORT: &[u8] =
 
 fn a_message_that_is_too_large(alloc: Global) -> Exchange {
     Exchange {
-        call: Call::Receive {
+        call: Call::Plain(PlainCall::Receive {
             limit: 24,
             large: true,
             name: 0x100,
             waited: false,
-        },
-        reply: Reply::without_message(alloc, KernReturn::RcvTooLarge, 28, 0x100),
+        }),
+        reply: Reply::Plain(PlainReply::without_message(alloc, KernReturn::RcvTooLarge, 28, 0x100)),
     }
 }
 

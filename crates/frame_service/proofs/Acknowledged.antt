@@ -2,7 +2,7 @@
 use Rattle.std.proofs.Common.{◌≡◌, inl, inr, List, ℕ, Option, Some, IfSome, Result, Ok, Err, refl, sym, subst}
 use Rattle.std.specs.Io.KnownBytes.{Appends, Keeps}
 use Rattle.ipc_model.specs.declared.call.Call.{Call}
-use Rattle.ipc_model.specs.declared.call.Reply.{Reply}
+use Rattle.ipc_model.specs.declared.reply.Reply.{Reply}
 use Rattle.ipc_model.specs.encodings.Encodings.{reply_encoding}
 use Rattle.store_fault.specs.declared.fault.StoreFault.{StoreFault}
 use Rattle.frame_service.proofs.Going.{appends_is, keeps_is}

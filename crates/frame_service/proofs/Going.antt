@@ -4,7 +4,7 @@ use Rattle.std.proofs.lemmas.List.{append-nil}
 use Rattle.std.proofs.Math.Dec.{eqb-suc-zero}
 use Rattle.std.specs.Io.KnownBytes.{Appends, Keeps}
 use Rattle.ipc_model.specs.declared.call.Call.{Call}
-use Rattle.ipc_model.specs.declared.call.Reply.{Reply}
+use Rattle.ipc_model.specs.declared.reply.Reply.{Reply}
 use Rattle.ipc_model.specs.encodings.Encodings.{reply_encoding}
 use Rattle.words.specs.Words.{frame_encoding}
 use Rattle.byteorder.specs.Endian.{little_number}

@@ -2,7 +2,7 @@
 use Rattle.std.specs.Prelude.{◌≡◌, true}
 use Rattle.ipc_model.specs.calls.Step.{succeeded}
 use Rattle.ipc_model.specs.declared.call.Call.{Call}
-use Rattle.ipc_model.specs.declared.call.Reply.{Reply}
+use Rattle.ipc_model.specs.declared.reply.Reply.{Reply}
 use Rattle.frame_service.specs.Asking.{AsksOne, is_sent}
 use Rattle.frame_service.specs.declared.asking.PendingFrame.TheVariants.{Settled}
 use Rattle.frame_service.specs.declared.asking.Ready.{Ready}
@@ -12,6 +12,6 @@ module _ {C T : Type 0} (answer : T → Reply) (makes : C → Call → T → C �
   -- a send that was done was made
   pub sent_is_made : (old new : C) (c : Call) (ready : Ready T) → AsksOne answer makes lacks old c ready new
       → is_sent answer makes lacks c (Settled ready) ≡ true → (ticket : T) × makes old c ticket new
-      × (succeeded c (answer ticket) ≡ true)
+      × (succeeded (answer ticket) ≡ true)
   sent_is_made old new c (Made ticket) made sent = (ticket, made, sent)
   sent_is_made old new c (Known known) made sent = absurd (cc sent)

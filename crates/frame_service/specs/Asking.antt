@@ -8,16 +8,16 @@ use Rattle.calls.specs.declared.request.Request.TheVariants as request
 use Rattle.codes.specs.declared.kern_return.KernReturn.{KernReturn}
 use Rattle.codes.specs.declared.kern_return.KernReturn.TheVariants.{Success, SendTimedOut, RcvTimedOut}
 use Rattle.codes.specs.declared.limits.TheConstants.{MIN_FRAME_CONTENT, MAX_FRAME_CONTENT}
-use Rattle.codes.specs.declared.name.TheConstants.{MACH_PORT_NULL}
 use Rattle.ipc_model.specs.calls.Step.{succeeded}
 use Rattle.ipc_model.specs.declared.call.Call.{Call}
-use Rattle.ipc_model.specs.declared.call.Call.TheVariants as call
-use Rattle.ipc_model.specs.declared.call.Reply.{Reply}
-use Rattle.ipc_model.specs.declared.call.Reply.TheVariants as reply
-use Rattle.ipc_model.specs.messages.Receiving.{without_message}
+use Rattle.ipc_model.specs.declared.call.Call.TheVariants.{Plain}
+use Rattle.ipc_model.specs.declared.plain_call.PlainCall.TheVariants as call
+use Rattle.ipc_model.specs.declared.plain_reply.PlainReply.TheVariants.{Message}
+use Rattle.ipc_model.specs.declared.reply.Reply.{Reply}
+use Rattle.ipc_model.specs.declared.reply.Reply.TheVariants as reply
 use Rattle.ipc_model.specs.encodings.Encodings.{reply_encoding}
 use Rattle.store_fault.specs.declared.fault.StoreFault.{StoreFault}
-use Rattle.frame_service.specs.Serving.{IsRefused, LacksMemory, shortage_of}
+use Rattle.frame_service.specs.Serving.{IsRefused, LacksMemory, only_code, shortage_of}
 use Rattle.frame_service.specs.declared.asking.PendingFrame.{PendingFrame}
 use Rattle.frame_service.specs.declared.asking.PendingFrame.TheVariants.{Settled, Waits}
 use Rattle.frame_service.specs.declared.asking.Ready.{Ready}
@@ -30,19 +30,19 @@ use Rattle.wire.specs.declared.fault.WireFault.{WireFault}
 use Rattle.wire.specs.declared.fault.WireFault.TheVariants.{Device, NoMemory}
 use Rattle.words.specs.Words.{frame_encoding}
 
--- Whether a call found nothing to do: there was no message, or no room in the queue.
+-- Whether a call found nothing to do: there was no message, or no room in the queue. One that is numbered never waits.
 abbrev pub is_timeout : KernReturn → Bool
 is_timeout SendTimedOut = true
 is_timeout RcvTimedOut = true
 is_timeout code = false
 
 abbrev pub timed_out : Reply → Bool
-timed_out (reply.Message code size member message) = is_timeout code
+timed_out (reply.Plain (Message code size member message)) = is_timeout code
 timed_out answer = false
 
 -- a call as it is made again after a wait
 abbrev pub again : Call → Call
-again (call.Receive limit large name waited) = call.Receive limit large name true
+again (Plain (call.Receive limit large name waited)) = Plain (call.Receive limit large name true)
 again c = c
 
 -- whether a call with this bound may wait: it may if it has none, or one above 0
@@ -88,13 +88,13 @@ module _ {C T : Type 0} (answer : T → Reply) (makes : C → Call → T → C �
 
   -- whether a send that was done is in hand
   abbrev pub is_sent : Call → PendingFrame T → Bool
-  is_sent c (Settled (Made ticket)) = succeeded c (answer ticket)
+  is_sent c (Settled (Made ticket)) = succeeded (answer ticket)
   is_sent c pending = false
 
   -- The calls of a mach_msg as far as they can be made now: a send, and after a send that was done a receive.
   abbrev pub Proceeds : C → MessageRequest → Option Call → Option Call → PendingFrame T → C → Type 0
   Proceeds old m None None pending new =
-      (pending ≡ Settled (Known (without_message Success 0 MACH_PORT_NULL))) × (new ≡ old)
+      (pending ≡ Settled (Known (only_code Success))) × (new ≡ old)
   Proceeds old m (Some send) None pending new =
       Tries old send m.send_timeout (left_of (Some (again send)) m.receive m.send_timeout m.receive_timeout) pending new
   Proceeds old m None (Some receive) pending new =
@@ -104,7 +104,7 @@ module _ {C T : Type 0} (answer : T → Reply) (makes : C → Call → T → C �
       (Tries old send m.send_timeout
       (left_of (Some (again send)) m.receive m.send_timeout m.receive_timeout) pending new
       × (is_sent send pending ≡ false))
-      ⊎ ((ticket : T) × (mid : C) × makes old send ticket mid × (succeeded send (answer ticket) ≡ true)
+      ⊎ ((ticket : T) × (mid : C) × makes old send ticket mid × (succeeded (answer ticket) ≡ true)
       × Tries mid receive m.receive_timeout
       (left_of None (Some (again receive)) m.send_timeout m.receive_timeout) pending new)
 
@@ -117,7 +117,7 @@ module _ {C T : Type 0} (answer : T → Reply) (makes : C → Call → T → C �
   TakesRequest old (request.One c) pending new = TakesOne old c pending new
   TakesRequest old (request.Message m) pending new = Proceeds old m m.send m.receive pending new
   TakesRequest old (request.Answered code) pending new =
-      (pending ≡ Settled (Known (without_message code 0 MACH_PORT_NULL))) × (new ≡ old)
+      (pending ≡ Settled (Known (only_code code))) × (new ≡ old)
 
   -- A frame of this content was taken in hand.
   abbrev pub IsTaken : C → List ℕ → PendingFrame T → C → Type 0
@@ -254,8 +254,8 @@ module _ {C T : Type 0} (answer : T → Reply) (makes : C → Call → T → C �
       pub unread : IsLeft rest left
       pub written_is : written ≡ Some sent
 
-    -- The first frame in hand waits no longer, though it found nothing to do, and isn't answered; nothing is written for
-    -- it, and nothing more is read.
+    -- The first frame in hand waits no longer, though it found nothing to do, and isn't answered; nothing is written
+    -- for it, and nothing more is read.
     pub record StopsWaiting (fault : WireFault) : Type 0 where
       pub fault_is : fault ≡ Device
       pub mid : C

@@ -1,19 +1,26 @@
 -- What a caller may answer, and what is written for what is read.
 use Rattle.std.specs.Prelude.{◌≡◌, ◌⊎◌, ℕ, ◌-◌, ◌^◌, true, List, [], ◌∷◌, ◌++◌, length, Option, None, Some, Result, Ok, Err, MatchBool}
 use Rattle.byteorder.specs.Endian.{little_number}
-use Rattle.calls.specs.Requests.{Asks, IsSend}
+use Rattle.calls.specs.Requests.{Asks, IsNumberedSend, IsSend}
 use Rattle.calls.specs.declared.request.Request.{Request}
 use Rattle.calls.specs.declared.request.Request.TheVariants as request
+use Rattle.codes.specs.declared.call_number.TheConstants.{MACH_MSG, NUMBERED}
+use Rattle.codes.specs.declared.kern_return.KernReturn.{KernReturn}
 use Rattle.codes.specs.declared.kern_return.KernReturn.TheVariants.{Success, InvalidArgument, ResourceShortage, SendNoBuffer, RcvHeaderErrorKernel}
 use Rattle.codes.specs.declared.name.TheConstants.{MACH_PORT_NULL}
 use Rattle.ipc_model.specs.declared.call.Call.{Call}
-use Rattle.ipc_model.specs.declared.call.Call.TheVariants as call
-use Rattle.ipc_model.specs.declared.call.Reply.{Reply}
-use Rattle.ipc_model.specs.declared.call.Reply.TheVariants as reply
+use Rattle.ipc_model.specs.declared.call.Call.TheVariants.{Plain, Numbered, Unnumberable}
+use Rattle.ipc_model.specs.declared.plain_call.PlainCall.{PlainCall}
+use Rattle.ipc_model.specs.declared.plain_call.PlainCall.TheVariants as call
+use Rattle.ipc_model.specs.declared.plain_reply.PlainReply.{PlainReply}
+use Rattle.ipc_model.specs.declared.plain_reply.PlainReply.TheVariants.{Refused}
+use Rattle.ipc_model.specs.declared.reply.Reply.{Reply}
+use Rattle.ipc_model.specs.declared.reply.Reply.TheVariants as reply
 use Rattle.ipc_model.specs.messages.Receiving.{without_message}
 use Rattle.ipc_model.specs.calls.Refusals.{refused_of}
 use Rattle.ipc_model.specs.state.State.{State}
-use Rattle.ipc_model.specs.calls.Step.{Step, number_of_call, succeeded}
+use Rattle.ipc_model.specs.calls.PlainStep as plain
+use Rattle.ipc_model.specs.calls.Step.{Step, succeeded}
 use Rattle.ipc_model.specs.encodings.Encodings.{reply_encoding}
 use Rattle.store_fault.specs.declared.fault.StoreFault.{StoreFault}
 use Rattle.frame_service.specs.declared.service.ServeFault.{ServeFault}
@@ -24,11 +31,20 @@ use Rattle.wire.specs.declared.fault.WireFault.{WireFault}
 use Rattle.wire.specs.declared.fault.WireFault.TheVariants.{Device, NoMemory}
 use Rattle.words.specs.Words.{word, frame_encoding}
 
+-- the answer of mach_msg that has only a code
+abbrev pub only_code : KernReturn → Reply
+only_code code = reply.Plain (without_message code 0 MACH_PORT_NULL)
+
 -- how a call is refused where memory, or room for its record, runs out
+abbrev pub plain_shortage_of : PlainCall → PlainReply
+plain_shortage_of (call.Send message) = without_message SendNoBuffer 0 MACH_PORT_NULL
+plain_shortage_of (call.Receive limit large name waited) = without_message RcvHeaderErrorKernel 0 MACH_PORT_NULL
+plain_shortage_of c = Refused (plain.number_of_call c) ResourceShortage
+
 abbrev pub shortage_of : Call → Reply
-shortage_of (call.Send message) = without_message SendNoBuffer 0 MACH_PORT_NULL
-shortage_of (call.Receive limit large name waited) = without_message RcvHeaderErrorKernel 0 MACH_PORT_NULL
-shortage_of c = reply.Refused (number_of_call c) ResourceShortage
+shortage_of (Plain c) = reply.Plain (plain_shortage_of c)
+shortage_of (Numbered numbered) = reply.Plain (Refused NUMBERED ResourceShortage)
+shortage_of Unnumberable = reply.Plain (Refused NUMBERED ResourceShortage)
 
 -- a step of the machine, or, where memory or room for a record runs out, nothing but that refusal
 abbrev pub StepOrShortage : State → ℕ → Call → Reply → State → Type 0
@@ -39,12 +55,12 @@ StepOrShortage old space c answer new =
 abbrev pub AnswersBoth : {C : Type 0} → (C → Call → Reply → C → Type 0) → C → Call → Call → Reply → C → Type 0
 AnswersBoth {C} answers old send receive answer new =
     (sent : Reply) × (mid : C) × answers old send sent mid
-    × MatchBool (succeeded send sent) (answers mid receive answer new) ((answer ≡ sent) × (new ≡ mid))
+    × MatchBool (succeeded sent) (answers mid receive answer new) ((answer ≡ sent) × (new ≡ mid))
 
 -- a mach_msg that asks for a send, a receive, both or neither got this answer
 abbrev pub AnswersMessage : {C : Type 0} → (C → Call → Reply → C → Type 0) → C → Option Call → Option Call → Reply → C
     → Type 0
-AnswersMessage answers old None None answer new = (answer ≡ without_message Success 0 MACH_PORT_NULL) × (new ≡ old)
+AnswersMessage answers old None None answer new = (answer ≡ only_code Success) × (new ≡ old)
 AnswersMessage answers old (Some send) None answer new = answers old send answer new
 AnswersMessage answers old None (Some receive) answer new = answers old receive answer new
 AnswersMessage answers old (Some send) (Some receive) answer new = AnswersBoth answers old send receive answer new
@@ -54,7 +70,7 @@ abbrev pub AnswersRequest : {C : Type 0} → (C → Call → Reply → C → Typ
 AnswersRequest answers old (request.One c) answer new = answers old c answer new
 AnswersRequest answers old (request.Message m) answer new = AnswersMessage answers old m.send m.receive answer new
 AnswersRequest answers old (request.Answered code) answer new =
-    (answer ≡ without_message code 0 MACH_PORT_NULL) × (new ≡ old)
+    (answer ≡ only_code code) × (new ≡ old)
 
 -- a frame whose content asks for something got this answer
 abbrev pub IsServed : {C : Type 0} → (C → Call → Reply → C → Type 0) → C → List ℕ → Reply → C → Type 0
@@ -67,11 +83,16 @@ IsRefused old content answer new =
     ((asks : Request) → Asks content asks → ⊥) × (answer ≡ refused_of (little_number 4 content) InvalidArgument)
     × (new ≡ old)
 
--- a send for whose message there is no memory gets this answer, and nothing changes
+-- the answer to a send, which may be numbered, for whose message there is no memory
+abbrev pub IsLacking : List ℕ → Reply → Type 0
+IsLacking content answer =
+    (((arguments : List ℕ) × (content ≡ word MACH_MSG ++ arguments) × IsSend arguments)
+    × (answer ≡ only_code SendNoBuffer))
+    ⊎ (IsNumberedSend content × (answer ≡ refused_of NUMBERED ResourceShortage))
+
+-- it gets this answer, and nothing changes
 abbrev pub LacksMemory : {C : Type 0} → C → List ℕ → Reply → C → Type 0
-LacksMemory old content answer new =
-    ((arguments : List ℕ) × (content ≡ word 19 ++ arguments) × IsSend arguments)
-    × (answer ≡ without_message SendNoBuffer 0 MACH_PORT_NULL) × (new ≡ old)
+LacksMemory old content answer new = IsLacking content answer × (new ≡ old)
 
 -- A frame with this content got this answer.
 abbrev pub IsAnswered : {C : Type 0} → (C → Call → Reply → C → Type 0) → C → List ℕ → Reply → C → Type 0
@@ -113,7 +134,7 @@ pub record ServesAll {C : Type 0} (answers : C → Call → Reply → C → Type
 abbrev pub FailsBoth : {C : Type 0} → (C → Call → Reply → C → Type 0) → (C → Call → StoreFault → C → Type 0) → C → Call
     → Call → StoreFault → C → Type 0
 FailsBoth {C} answers fails old send receive fault new =
-    fails old send fault new ⊎ ((sent : Reply) × (mid : C) × answers old send sent mid × (succeeded send sent ≡ true)
+    fails old send fault new ⊎ ((sent : Reply) × (mid : C) × answers old send sent mid × (succeeded sent ≡ true)
     × fails mid receive fault new)
 
 abbrev pub FailsMessage : {C : Type 0} → (C → Call → Reply → C → Type 0) → (C → Call → StoreFault → C → Type 0) → C

@@ -2,7 +2,7 @@ ghost use Rattle.std.specs.Prelude.{◌≡◌, ◌≤◌, length, IfErr, IfNone,
 ghost use Rattle.codes.specs.declared.limits.TheConstants.{MAX_FRAME_CONTENT};
 ghost use Rattle.ipc_model.specs.calls.Step.{succeeded};
 ghost use Rattle.ipc_model.specs.declared.call.Call.{Call};
-ghost use Rattle.ipc_model.specs.declared.call.Reply.{Reply};
+ghost use Rattle.ipc_model.specs.declared.reply.Reply.{Reply};
 ghost use Rattle.ipc_model.specs.encodings.Encodings.{reply_encoding};
 ghost use Rattle.store_fault.specs.declared.fault.StoreFault.{StoreFault};
 ghost use Rattle.frame_service.specs.Asking.{timed_out};
@@ -61,7 +61,7 @@ pub trait Asker {
 
     /// Whether a ticket's call was done, which is code 0.
     fn is_done(&self, ticket: &Self::Ticket) -> bool
-        ensures { (call : Call) → result ≡ succeeded call (answer ticket.now) };
+        ensures { result ≡ succeeded (answer ticket.now) };
 
     /// Whether a ticket's call found nothing to do: there was no message, or no room in the queue.
     fn is_timed_out(&self, ticket: &Self::Ticket) -> bool

@@ -1,13 +1,15 @@
 ghost use Rattle.std.specs.Prelude.{◌≡◌, ◌≤◌, false, length, IfErr, IfOk, OnOk};
+ghost use Rattle.ipc_model.specs.calls.PlainStep as plain;
 ghost use Rattle.ipc_model.specs.calls.Step.{has_record};
+ghost use Rattle.ipc_model.specs.encodings.PlainCalls as plain_calls;
 ghost use Rattle.ipc_model.specs.declared.call.Call.{Call};
-ghost use Rattle.ipc_model.specs.declared.call.Reply.{Reply};
+ghost use Rattle.ipc_model.specs.declared.reply.Reply.{Reply};
 ghost use Rattle.ipc_model.specs.encodings.Encodings.{reply_encoding};
 ghost use Rattle.store_fault.specs.declared.fault.StoreFault.{StoreFault};
-ghost use Rattle.frame_service.specs.Serving.{shortage_of};
+ghost use Rattle.frame_service.specs.Serving.{plain_shortage_of, shortage_of};
 
-use codes::{KernReturn, MACH_PORT_NULL, MAX_FRAME_CONTENT};
-use ipc_model::{Call, Reply};
+use codes::{KernReturn, MACH_PORT_NULL, MAX_FRAME_CONTENT, NUMBERED};
+use ipc_model::{Call, PlainCall, PlainReply, Reply};
 use std::alloc::Global;
 use store_fault::StoreFault;
 
@@ -38,23 +40,39 @@ pub trait Caller {
         ensures breaks { IfErr result (λ fault. breaks self.old fault self.new) };
 }
 
-/// The answer to a call for which memory or room for the record ran out. It takes no memory.
+/// The answer to a call without a number of its task's for which memory or room for the record ran out.
 #[tactic(auto, using(crate::proofs::Answered::message_fits, crate::proofs::Answered::refused_fits))]
+fn plain_shortage(alloc: Global, call: &PlainCall) -> PlainReply
+    ensures answer { result ≡ plain_shortage_of call.now }
+    ensures unrecorded { plain.has_record call.now result ≡ false }
+    ensures fits { length (plain_calls.reply_encoding result) ≤ MAX_FRAME_CONTENT }
+{
+    match call {
+        PlainCall::Send { .. } => {
+            PlainReply::without_message(alloc, KernReturn::SendNoBuffer, 0, MACH_PORT_NULL)
+        }
+        PlainCall::Receive { .. } => {
+            PlainReply::without_message(alloc, KernReturn::RcvHeaderErrorKernel, 0, MACH_PORT_NULL)
+        }
+        _ => PlainReply::Refused {
+            number: call.number(),
+            code: KernReturn::ResourceShortage,
+        },
+    }
+}
+
+/// The answer to a call for which memory or room for the record ran out. It takes no memory.
+#[tactic(auto, using(crate::proofs::Answered::refused_fits))]
 pub fn shortage(alloc: Global, call: &Call) -> Reply
     ensures answer { result ≡ shortage_of call.now }
     ensures unrecorded { has_record call.now result ≡ false }
     ensures fits { length (reply_encoding result) ≤ MAX_FRAME_CONTENT }
 {
     match call {
-        Call::Send { .. } => {
-            Reply::without_message(alloc, KernReturn::SendNoBuffer, 0, MACH_PORT_NULL)
-        }
-        Call::Receive { .. } => {
-            Reply::without_message(alloc, KernReturn::RcvHeaderErrorKernel, 0, MACH_PORT_NULL)
-        }
-        _ => Reply::Refused {
-            number: call.number(),
+        Call::Plain(call) => Reply::Plain(plain_shortage(alloc, call)),
+        Call::Numbered(_) | Call::Unnumberable => Reply::Plain(PlainReply::Refused {
+            number: NUMBERED,
             code: KernReturn::ResourceShortage,
-        },
+        }),
     }
 }

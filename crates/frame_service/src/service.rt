@@ -1,13 +1,12 @@
-ghost use Rattle.std.specs.Prelude.{◌≡◌, ◌≤◌, ◌<◌, length, IfErr, IfOk, IfSome, OnOk};
-ghost use Rattle.ipc_model.specs.messages.Receiving as receiving;
+ghost use Rattle.std.specs.Prelude.{◌≡◌, ◌≢◌, ◌≤◌, ◌<◌, length, IfErr, IfOk, IfSome, OnOk};
 ghost use Rattle.ipc_model.specs.calls.Refusals.{refused_of};
 ghost use Rattle.ipc_model.specs.encodings.Encodings.{reply_encoding};
-ghost use Rattle.frame_service.specs.Serving.{AnswersBoth, AnswersMessage, AnswersRequest, Ends, FailsBoth, FailsMessage, FailsRequest, IsAnswered, IsFailed};
+ghost use Rattle.frame_service.specs.Serving.{AnswersBoth, AnswersMessage, AnswersRequest, Ends, FailsBoth, FailsMessage, FailsRequest, IsAnswered, IsFailed, only_code};
 
 use crate::Caller;
 use calls::{CallFault, Request, read_request, reply_frame};
-use codes::{KernReturn, MACH_PORT_NULL, MAX_FRAME_CONTENT};
-use ipc_model::{Call, Reply};
+use codes::{KernReturn, MACH_PORT_NULL, MAX_FRAME_CONTENT, NUMBERED};
+use ipc_model::{Call, PlainReply, Reply};
 use std::alloc::Global;
 use std::io::{Read, Write};
 use store_fault::StoreFault;
@@ -106,7 +105,7 @@ fn answer_of<C: Caller>(alloc: Global, caller: &mut C, request: &Frame) -> Resul
     match read_request(alloc, request) {
         Ok(asked) => answer_request(alloc, caller, asked),
         Err(CallFault::NoCall) => Ok(no_call(alloc, request.number())),
-        Err(CallFault::NoMemory) => Ok(without_message(alloc, KernReturn::SendNoBuffer)),
+        Err(CallFault::NoMemory) => Ok(no_memory(alloc, request.number())),
     }
 }
 
@@ -123,7 +122,7 @@ fn answer_request<C: Caller>(
     match asked {
         Request::One(call) => caller.call(call),
         Request::Message(message) => answer_message(alloc, caller, message.send, message.receive),
-        Request::Answered(code) => Ok(without_message(alloc, code)),
+        Request::Answered(code) => Ok(only_code(alloc, code)),
     }
 }
 
@@ -141,7 +140,7 @@ fn answer_message<C: Caller>(
     match (send, receive) {
         (Some(send), Some(receive)) => send_and_receive(caller, send, receive),
         (Some(call), None) | (None, Some(call)) => caller.call(call),
-        (None, None) => Ok(without_message(alloc, KernReturn::Success)),
+        (None, None) => Ok(only_code(alloc, KernReturn::Success)),
     }
 }
 
@@ -172,10 +171,23 @@ pub(crate) fn no_call(alloc: Global, number: u32) -> Reply
     Reply::refused(alloc, number, KernReturn::InvalidArgument)
 }
 
-/// The answer of `mach_msg` that reports no message.
-pub(crate) fn without_message(alloc: Global, code: KernReturn) -> Reply
-    ensures answer { result ≡ receiving.without_message code 0 MACH_PORT_NULL }
+/// The answer to a send with this number, 22 if it is numbered, for whose message there is no memory.
+pub(crate) fn no_memory(alloc: Global, number: u32) -> Reply
+    ensures numbered { number ≡ NUMBERED → result ≡ refused_of NUMBERED KernReturn.ResourceShortage }
+    ensures other { number ≢ NUMBERED → result ≡ only_code KernReturn.SendNoBuffer }
     ensures fits { length (reply_encoding result) ≤ MAX_FRAME_CONTENT }
 {
-    Reply::without_message(alloc, code, 0, MACH_PORT_NULL)
+    if number == NUMBERED {
+        Reply::refused(alloc, NUMBERED, KernReturn::ResourceShortage)
+    } else {
+        only_code(alloc, KernReturn::SendNoBuffer)
+    }
+}
+
+/// The answer of `mach_msg` that has only a code.
+pub(crate) fn only_code(alloc: Global, code: KernReturn) -> Reply
+    ensures answer { result ≡ only_code code }
+    ensures fits { length (reply_encoding result) ≤ MAX_FRAME_CONTENT }
+{
+    Reply::Plain(PlainReply::without_message(alloc, code, 0, MACH_PORT_NULL))
 }

@@ -14,8 +14,8 @@ pub struct ShortReply {
 impl Model for ShortReply {
     ghost use Rattle.std.specs.Prelude.{◌≤◌, length};
     ghost use Rattle.codes.specs.declared.limits.TheConstants.{MAX_FRAME_CONTENT};
-    ghost use Rattle.ipc_model.specs.declared.call.Reply.{Reply};
-    ghost use Rattle.ipc_model.specs.contracts.call.Reply as encoded;
+    ghost use Rattle.ipc_model.specs.declared.reply.Reply.{Reply};
+    ghost use Rattle.ipc_model.specs.contracts.reply.Reply as encoded;
     ghost use Rattle.ipc_model.specs.encodings.Encodings.{reply_encoding};
 
     ghost Value = { Reply };

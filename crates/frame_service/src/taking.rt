@@ -1,19 +1,18 @@
 ghost use Rattle.std.specs.Prelude.{◌≡◌, ◌⊎◌, true, false, None, Some, IfErr, IfOk};
 ghost use Rattle.ipc_model.specs.calls.Step.{succeeded};
 ghost use Rattle.ipc_model.specs.declared.call.Call.{Call};
-ghost use Rattle.ipc_model.specs.messages.Receiving as receiving;
 ghost use Rattle.frame_service.specs.Asking.{AsksOne, IsTaken, Proceeds, TakesRequest, Tries, again, found_nothing, is_patient, is_sent, left_of, timed_out};
-ghost use Rattle.frame_service.specs.Serving.{shortage_of};
+ghost use Rattle.frame_service.specs.Serving.{only_code, shortage_of};
 ghost use Rattle.frame_service.specs.declared.asking.PendingFrame.TheVariants.{Settled, Waits};
 ghost use Rattle.frame_service.specs.declared.asking.Ready.TheVariants as ready;
 
 use crate::asking::{Asker, PendingFrame, Ready};
 use crate::caller::shortage;
-use crate::service::{no_call, without_message};
+use crate::service::{no_call, no_memory, only_code};
 use crate::short_reply::ShortReply;
 use calls::{CallFault, MessageRequest, Request, read_request};
-use codes::{KernReturn, MACH_PORT_NULL};
-use ipc_model::Call;
+use codes::KernReturn;
+use ipc_model::{Call, PlainCall};
 use std::alloc::Global;
 use wire::Frame;
 
@@ -32,18 +31,18 @@ pub(crate) fn take_frame<A: Asker>(
             alloc,
             request.number(),
         )))),
-        Err(CallFault::NoMemory) => PendingFrame::Settled(known_code(
+        Err(CallFault::NoMemory) => PendingFrame::Settled(Ready::Known(ShortReply::new(no_memory(
             alloc,
-            KernReturn::SendNoBuffer,
-        )),
+            request.number(),
+        )))),
     }
 }
 
 /// The answer of a `mach_msg` that has only a code and reports no message.
 fn known_code<T>(alloc: Global, code: KernReturn) -> Ready<T>
-    ensures { result ≡ ready.Known (receiving.without_message code 0 MACH_PORT_NULL) }
+    ensures { result ≡ ready.Known (only_code code) }
 {
-    Ready::Known(ShortReply::new(without_message(alloc, code)))
+    Ready::Known(ShortReply::new(only_code(alloc, code)))
 }
 
 /// The answer to a call for which memory or room for the record ran out.
@@ -158,7 +157,7 @@ fn send_and_receive<A: Asker>(
         (left_of (Some (again send)) (Some receive) bounds.send bounds.receive) result asker.new
         × (is_sent A.answer A.makes A.lacks send result ≡ false))
         ⊎ ((ticket : A.Ticket) × (mid : A) × A.makes asker.old send ticket mid
-        × (succeeded send (A.answer ticket) ≡ true)
+        × (succeeded (A.answer ticket) ≡ true)
         × Tries A.answer A.makes A.lacks mid receive bounds.receive
         (left_of None (Some (again receive)) bounds.send bounds.receive) result asker.new) }
 {
@@ -240,17 +239,19 @@ fn again(call: Call) -> Call
     ensures { result ≡ again call }
 {
     match call {
-        Call::Receive {
-            limit,
-            large,
-            name,
-            ..
-        } => Call::Receive {
+        Call::Plain(
+            PlainCall::Receive {
+                limit,
+                large,
+                name,
+                ..
+            },
+        ) => Call::Plain(PlainCall::Receive {
             limit,
             large,
             name,
             waited: true,
-        },
+        }),
         call => call,
     }
 }

@@ -7,7 +7,7 @@ use Rattle.ipc_model.specs.declared.entry.Entry.{Entry}
 use Rattle.ipc_model.specs.declared.entry.Entry.TheVariants.{Port, SendOnce, Set, Dead}
 use Rattle.ipc_model.specs.declared.entry.PortRights.{PortRights}
 use Rattle.ipc_model.specs.encodings.Images.{entry_encoding, number_or_0}
-use Rattle.ipc_model.specs.encodings.Encodings.{number_of_bool}
+use Rattle.ipc_model.specs.encodings.PlainCalls.{number_of_bool}
 use Rattle.words.specs.Words.{word, long_word}
 use Rattle.words.specs.WordLaws.{length-word, length-long_word}
 

@@ -1,16 +1,21 @@
 -- The snapshots that an image can encode: their numbers fit their words, and their rows ascend.
-use Rattle.std.specs.Prelude.{◌≢◌, ◌^◌, ◌<◌, length, map, All}
+use Rattle.std.specs.Prelude.{◌≡◌, ◌≢◌, ◌^◌, ◌<◌, length, map, All, Option, None, Some}
+use Rattle.codes.specs.declared.store_version.StoreVersion.{StoreVersion}
+use Rattle.codes.specs.declared.store_version.StoreVersion.TheVariants.{One, Two}
 use Rattle.ipc_laws.specs.ImageLaws.{EncodableNamed, EncodableReplyRight, EncodableRight, EncodableSet, EncodableTarget}
 use Rattle.ipc_model.specs.declared.message.Message.{Message}
 use Rattle.ipc_model.specs.declared.message.RightKind.TheVariants as kind
 use Rattle.ipc_model.specs.declared.port.PortState.{PortState}
+use Rattle.ipc_model.specs.declared.reply.NumberedReply.{NumberedReply}
+use Rattle.ipc_model.specs.state.LawfulState.{IsKeptReply}
 use Rattle.ipc_model.specs.messages.Receiving.{message_size}
-use Rattle.ipc_model.specs.encodings.Encodings.{IsMessageSize}
+use Rattle.ipc_model.specs.encodings.PlainCalls.{IsMessageSize}
 pub use Rattle.snapshot.specs.Ascending.{AscendsFrom, name_of, number_of, serial_of}
 use Rattle.snapshot.specs.declared.rows.LivePort.{LivePort}
 use Rattle.snapshot.specs.declared.rows.NamedEntry.{NamedEntry}
 use Rattle.snapshot.specs.declared.rows.Snapshot.{Snapshot}
 use Rattle.snapshot.specs.declared.rows.Space.{Space}
+use Rattle.image.specs.Rows.{Row, rows_of}
 use Rattle.words.specs.Words.{AreBytes}
 
 -- a queued message: sent by a send right or a send-once right, of a size that messages may have, with bytes for its
@@ -46,16 +51,27 @@ pub record FitsSpace (space : Space) : Type 0 where
   pub names : All FitsNamed space.names
   pub names_ascend : AscendsFrom 0 (map name_of space.names)
 
+-- what a space keeps; nothing, in version 1
+abbrev pub FitsKept : StoreVersion → Option NumberedReply → Type 0
+FitsKept version None = Unit {0}
+FitsKept One (Some kept) = ⊥
+FitsKept Two (Some kept) = IsKeptReply kept
+
+-- a space with what it keeps
+abbrev pub FitsRow : StoreVersion → Row → Type 0
+FitsRow version row = FitsSpace row.space × FitsKept version row.kept
+
 -- a live port by its serial
 abbrev pub FitsLivePort : LivePort → Type 0
 FitsLivePort port = (port.serial < 2 ^ 64) × FitsPort port.state
 
--- A snapshot that an image can encode.
-pub record FitsImage (snapshot : Snapshot) : Type 0 where
-  pub next_serial : snapshot.next_serial < 2 ^ 64
-  pub few_spaces : length snapshot.spaces < 2 ^ 32
-  pub spaces : All FitsSpace snapshot.spaces
-  pub spaces_ascend : AscendsFrom 0 (map number_of snapshot.spaces)
-  pub few_ports : length snapshot.ports < 2 ^ 32
-  pub ports : All FitsLivePort snapshot.ports
-  pub ports_ascend : AscendsFrom 0 (map serial_of snapshot.ports)
+-- A snapshot that an image of a version can encode.
+pub record FitsImage (version : StoreVersion) (snapshot : Snapshot) : Type 0 where
+  pub next_serial : snapshot.ipc.next_serial < 2 ^ 64
+  pub few_spaces : length snapshot.ipc.spaces < 2 ^ 32
+  pub spaces : All (FitsRow version) (rows_of snapshot.ipc.spaces snapshot.kept)
+  pub spaces_ascend : AscendsFrom 0 (map number_of snapshot.ipc.spaces)
+  pub each_kept : length snapshot.kept ≡ length snapshot.ipc.spaces
+  pub few_ports : length snapshot.ipc.ports < 2 ^ 32
+  pub ports : All FitsLivePort snapshot.ipc.ports
+  pub ports_ascend : AscendsFrom 0 (map serial_of snapshot.ipc.ports)

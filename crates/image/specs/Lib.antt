@@ -3,4 +3,5 @@ pub mod Fitting
 pub mod Parts
 pub mod RowLaws
 pub mod Taking
+pub mod Kept
 pub mod LawfulFits

@@ -10,8 +10,8 @@ use Rattle.ipc_model.specs.declared.port.PortState.{PortState}
 use Rattle.ipc_model.specs.messages.Receiving.{message_size}
 use Rattle.ipc_model.specs.rights.Dispositions.{number_of_kind}
 use Rattle.ipc_model.specs.encodings.Images.{carried_encoding, message_image, number_or_0, port_encoding, reply_right_encoding}
-use Rattle.ipc_model.specs.encodings.Encodings.{number_of_bool}
-use Rattle.image.specs.Rows.{live_port_encoding, snapshot_encoding, snapshot_encoding_of, space_encoding_of}
+use Rattle.ipc_model.specs.encodings.PlainCalls.{number_of_bool}
+use Rattle.image.specs.Rows.{live_port_encoding, row_encoding_of, rows_of, snapshot_encoding, snapshot_encoding_of}
 use Rattle.snapshot.specs.declared.rows.Snapshot.{Snapshot}
 use Rattle.words.specs.Words.{word, long_word}
 
@@ -43,20 +43,22 @@ port_apart port rest = simp append_assoc
 
 -- after a snapshot's spaces: its ports
 abbrev pub after_spaces : Snapshot → List ℕ
-after_spaces snapshot = word (length snapshot.ports) ++ (flat_map live_port_encoding snapshot.ports ++ [])
+after_spaces snapshot = word (length snapshot.ipc.ports) ++ (flat_map live_port_encoding snapshot.ipc.ports ++ [])
 
 abbrev pub after_next : StoreVersion → Snapshot → List ℕ
 after_next version snapshot =
-    word (length snapshot.spaces) ++ (flat_map (space_encoding_of version) snapshot.spaces ++ after_spaces snapshot)
+    word (length snapshot.ipc.spaces)
+    ++ (flat_map (row_encoding_of version) (rows_of snapshot.ipc.spaces snapshot.kept) ++ after_spaces snapshot)
 
 pub snapshot_apart : (version : StoreVersion) (snapshot : Snapshot)
-    → snapshot_encoding_of version snapshot ≡ long_word snapshot.next_serial ++ after_next version snapshot
+    → snapshot_encoding_of version snapshot ≡ long_word snapshot.ipc.next_serial ++ after_next version snapshot
 unfolding snapshot_encoding_of
 snapshot_apart version snapshot =
-    ap (λ (l : List ℕ). long_word snapshot.next_serial
-    ++ (word (length snapshot.spaces)
-    ++ (flat_map (space_encoding_of version) snapshot.spaces ++ (word (length snapshot.ports) ++ l))))
-    (sym (append-nil (flat_map live_port_encoding snapshot.ports)))
+    ap (λ (l : List ℕ). long_word snapshot.ipc.next_serial
+    ++ (word (length snapshot.ipc.spaces)
+    ++ (flat_map (row_encoding_of version) (rows_of snapshot.ipc.spaces snapshot.kept)
+    ++ (word (length snapshot.ipc.ports) ++ l))))
+    (sym (append-nil (flat_map live_port_encoding snapshot.ipc.ports)))
 
 -- the number that encodes a target or a set fits its word
 pub target_fits : (target : Option ℕ) → EncodableTarget target → number_or_0 target < 2 ^ 64
@@ -104,14 +106,14 @@ message_found bytes message size count beyond counted after rest is count_is rig
 
 -- a snapshot that was found part by part
 pub snapshot_found : (version : StoreVersion) (bytes : List ℕ) (snapshot : Snapshot) (beyond after rest : List ℕ)
-    → bytes ≡ long_word snapshot.next_serial ++ beyond
-    → beyond ≡ word (length snapshot.spaces) ++ (flat_map (space_encoding_of version) snapshot.spaces ++ after)
-    → after ≡ word (length snapshot.ports) ++ (flat_map live_port_encoding snapshot.ports ++ rest) → rest ≡ []
+    → bytes ≡ long_word snapshot.ipc.next_serial ++ beyond
+    → beyond ≡ word (length snapshot.ipc.spaces) ++ (flat_map (row_encoding_of version) (rows_of snapshot.ipc.spaces snapshot.kept) ++ after)
+    → after ≡ word (length snapshot.ipc.ports) ++ (flat_map live_port_encoding snapshot.ipc.ports ++ rest) → rest ≡ []
     → bytes ≡ snapshot_encoding_of version snapshot
 snapshot_found version bytes snapshot beyond after rest is spaces_are ports_are ended =
-    is ∙ ap (λ (l : List ℕ). long_word snapshot.next_serial ++ l)
-    (spaces_are ∙ ap (λ (l : List ℕ). word (length snapshot.spaces) ++ (flat_map (space_encoding_of version) snapshot.spaces ++ l))
-    (ports_are ∙ ap (λ (l : List ℕ). word (length snapshot.ports) ++ (flat_map live_port_encoding snapshot.ports ++ l))
+    is ∙ ap (λ (l : List ℕ). long_word snapshot.ipc.next_serial ++ l)
+    (spaces_are ∙ ap (λ (l : List ℕ). word (length snapshot.ipc.spaces) ++ (flat_map (row_encoding_of version) (rows_of snapshot.ipc.spaces snapshot.kept) ++ l))
+    (ports_are ∙ ap (λ (l : List ℕ). word (length snapshot.ipc.ports) ++ (flat_map live_port_encoding snapshot.ipc.ports ++ l))
     ended))
     ∙ sym (snapshot_apart version snapshot)
 
@@ -164,18 +166,18 @@ port_added port o a b c d e f g end is_a is_b is_c is_d is_e is_f is_g is_end =
     added o a (word port.limit) (word port.sequence_number
     ++ (word port.make_send_count ++ (word (number_or_0 port.set) ++ after_set))) end is_a to_b
 
-pub snapshot_added : (snapshot : Snapshot) (o a b c d end : List ℕ) → a ≡ o ++ long_word snapshot.next_serial
-    → b ≡ a ++ word (length snapshot.spaces) → c ≡ b ++ flat_map (space_encoding_of current) snapshot.spaces
-    → d ≡ c ++ word (length snapshot.ports) → end ≡ d ++ flat_map live_port_encoding snapshot.ports
+pub snapshot_added : (snapshot : Snapshot) (o a b c d end : List ℕ) → a ≡ o ++ long_word snapshot.ipc.next_serial
+    → b ≡ a ++ word (length snapshot.ipc.spaces) → c ≡ b ++ flat_map (row_encoding_of current) (rows_of snapshot.ipc.spaces snapshot.kept)
+    → d ≡ c ++ word (length snapshot.ipc.ports) → end ≡ d ++ flat_map live_port_encoding snapshot.ipc.ports
     → end ≡ o ++ snapshot_encoding snapshot
 unfolding snapshot_encoding_of
 snapshot_added snapshot o a b c d end is_a is_b is_c is_d is_end =
-    let ports : List ℕ = word (length snapshot.ports) ++ flat_map live_port_encoding snapshot.ports in
+    let ports : List ℕ = word (length snapshot.ipc.ports) ++ flat_map live_port_encoding snapshot.ipc.ports in
     let to_d : end ≡ c ++ ports =
-    added c d (word (length snapshot.ports)) (flat_map live_port_encoding snapshot.ports) end is_d is_end in
-    let to_c : end ≡ b ++ (flat_map (space_encoding_of current) snapshot.spaces ++ ports) =
-    added b c (flat_map (space_encoding_of current) snapshot.spaces) ports end is_c to_d in
-    let to_b : end ≡ a ++ (word (length snapshot.spaces) ++ (flat_map (space_encoding_of current) snapshot.spaces ++ ports)) =
-    added a b (word (length snapshot.spaces)) (flat_map (space_encoding_of current) snapshot.spaces ++ ports) end is_b to_c in
-    added o a (long_word snapshot.next_serial)
-    (word (length snapshot.spaces) ++ (flat_map (space_encoding_of current) snapshot.spaces ++ ports)) end is_a to_b
+    added c d (word (length snapshot.ipc.ports)) (flat_map live_port_encoding snapshot.ipc.ports) end is_d is_end in
+    let to_c : end ≡ b ++ (flat_map (row_encoding_of current) (rows_of snapshot.ipc.spaces snapshot.kept) ++ ports) =
+    added b c (flat_map (row_encoding_of current) (rows_of snapshot.ipc.spaces snapshot.kept)) ports end is_c to_d in
+    let to_b : end ≡ a ++ (word (length snapshot.ipc.spaces) ++ (flat_map (row_encoding_of current) (rows_of snapshot.ipc.spaces snapshot.kept) ++ ports)) =
+    added a b (word (length snapshot.ipc.spaces)) (flat_map (row_encoding_of current) (rows_of snapshot.ipc.spaces snapshot.kept) ++ ports) end is_b to_c in
+    added o a (long_word snapshot.ipc.next_serial)
+    (word (length snapshot.ipc.spaces) ++ (flat_map (row_encoding_of current) (rows_of snapshot.ipc.spaces snapshot.kept) ++ ports)) end is_a to_b

@@ -6,13 +6,14 @@ use Rattle.std.specs.FinMap.{len-entries}
 use Rattle.codes.specs.declared.store_version.StoreVersion.{StoreVersion}
 use Rattle.ipc_model.specs.declared.entry.Entry.{Entry}
 use Rattle.ipc_model.specs.declared.port.PortState.{PortState}
-use Rattle.ipc_model.specs.state.State.{Names, State}
-use Rattle.ipc_model.specs.encodings.Images.{entry_encoding, image_encoding_of, names_encoding, port_encoding, request_encoding, space_encoding}
-use Rattle.image.specs.Rows.{live_port_encoding, named_encoding, snapshot_encoding_of, space_encoding_of}
-use Rattle.snapshot.specs.Snapshots.{names_of, snapshot_of}
+use Rattle.ipc_model.specs.state.Ipc.{Names}
+use Rattle.ipc_model.specs.state.State.{KeptReplies, State}
+use Rattle.ipc_model.specs.encodings.Images.{entry_encoding, image_encoding_of, names_encoding, port_encoding, kept_encoding, space_encoding}
+use Rattle.image.specs.Rows.{live_port_encoding, named_encoding, row_encoding_of, rows_of, snapshot_encoding_of, Row}
+use Rattle.snapshot.specs.Rows.{space_row}
+use Rattle.snapshot.specs.Snapshots.{names_of, ipc_snapshot_of, snapshot_of}
 use Rattle.snapshot.specs.declared.rows.LivePort.{LivePort}
 use Rattle.snapshot.specs.declared.rows.NamedEntry.{NamedEntry}
-use Rattle.snapshot.specs.declared.rows.Space.{Space}
 use Rattle.words.specs.Words.{word, long_word}
 
 module _ {A B : Type 0} where
@@ -37,21 +38,33 @@ names_same names = λ i.
     ++ encodings_of named named_encoding (λ (e : ℕ × Entry). word e.0 ++ entry_encoding e.1)
     (λ e. refl) (finmap.entries names) i
 
-space_row : ℕ × Names → Space
-space_row e = record { number = e.0; names = names_of e.1 }
-
 port_row : ℕ × PortState → LivePort
 port_row e = record { serial = e.0; state = e.1 }
 
+abbrev pub kept_row : KeptReplies → ℕ × Names → Row
+kept_row kept e = record { space = record { number = e.0; names = names_of e.1 }; kept = finmap.get kept e.0 }
+
+-- the rows of a state's snapshot
+pub rows_same : (kept : KeptReplies) (es : List (ℕ × Names))
+    → rows_of (map space_row es) (map (λ (e : ℕ × Names). finmap.get kept e.0) es) ≡ map (kept_row kept) es
+rows_same kept [] = refl
+rows_same kept (e ∷ es) = ap (λ (l : List Row). kept_row kept e ∷ l) (rows_same kept es)
+
 pub image_of_state : (version : StoreVersion) (state : State)
     → snapshot_encoding_of version (snapshot_of state) ≡ image_encoding_of version state
-unfolding snapshot_encoding_of snapshot_of image_encoding_of space_row port_row
-image_of_state version state = λ i.
-    long_word state.next
-    ++ (word ((length-map space_row (finmap.entries state.spaces) ∙ sym (len-entries state.spaces)) i)
-    ++ (encodings_of space_row (space_encoding_of version) (space_encoding version)
-    (λ (e : ℕ × Names). ap (λ (l : List ℕ). word e.0 ++ (request_encoding version ++ l)) (names_same e.1))
-    (finmap.entries state.spaces) i
-    ++ (word ((length-map port_row (finmap.entries state.ports) ∙ sym (len-entries state.ports)) i)
+unfolding snapshot_encoding_of snapshot_of ipc_snapshot_of image_encoding_of port_row
+image_of_state version state =
+    let es : List (ℕ × Names) = finmap.entries state.ipc.spaces in
+    let spaces : flat_map (row_encoding_of version)
+    (rows_of (map space_row es) (map (λ (e : ℕ × Names). finmap.get state.kept e.0) es))
+    ≡ flat_map (space_encoding version state.kept) es =
+    ap (flat_map (row_encoding_of version)) (rows_same state.kept es)
+    ∙ encodings_of (kept_row state.kept) (row_encoding_of version) (space_encoding version state.kept)
+    (λ (e : ℕ × Names). ap (λ (l : List ℕ). word e.0 ++ (kept_encoding version (finmap.get state.kept e.0) ++ l))
+    (names_same e.1)) es in
+    λ i. long_word state.ipc.next
+    ++ (word ((length-map space_row es ∙ sym (len-entries state.ipc.spaces)) i)
+    ++ (spaces i
+    ++ (word ((length-map port_row (finmap.entries state.ipc.ports) ∙ sym (len-entries state.ipc.ports)) i)
     ++ encodings_of port_row live_port_encoding (λ (e : ℕ × PortState). long_word e.0 ++ port_encoding e.1)
-    (λ e. refl) (finmap.entries state.ports) i)))
+    (λ e. refl) (finmap.entries state.ipc.ports) i)))

@@ -6,7 +6,7 @@ ghost use Rattle.ipc_model.specs.declared.entry.Entry.{Entry};
 ghost use Rattle.ipc_model.specs.declared.entry.Entry.TheVariants as entry_variants;
 ghost use Rattle.ipc_model.specs.declared.entry.PortRights.{PortRights};
 ghost use Rattle.ipc_model.specs.encodings.Images.{entry_encoding, number_or_0};
-ghost use Rattle.ipc_model.specs.encodings.Encodings.{number_of_bool};
+ghost use Rattle.ipc_model.specs.encodings.PlainCalls.{number_of_bool};
 ghost use Rattle.snapshot.specs.declared.rows.NamedEntry.{NamedEntry};
 ghost use Rattle.words.specs.Words.{word, long_word};
 

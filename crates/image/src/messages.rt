@@ -6,7 +6,7 @@ ghost use Rattle.ipc_model.specs.declared.message.RightKind.{RightKind};
 ghost use Rattle.ipc_model.specs.declared.message.RightKind.TheVariants as kind_variants;
 ghost use Rattle.ipc_model.specs.rights.Dispositions.{number_of_kind};
 ghost use Rattle.ipc_model.specs.encodings.Images.{carried_encoding, place_encoding, reply_right_encoding};
-ghost use Rattle.ipc_model.specs.encodings.Encodings.{number_of_bool, IsMessageSize};
+ghost use Rattle.ipc_model.specs.encodings.PlainCalls.{number_of_bool, IsMessageSize};
 ghost use Rattle.words.specs.Words.{AreBytes, word, long_word};
 
 use crate::encoded::{Encoded, push_length, push_rows, take_rows};

@@ -1,5 +1,5 @@
 -- What stands on the disk of a copy.
-use Rattle.std.proofs.Common.{◌≡◌, inl, [], Result, Ok, Err, refl, sym, ap, subst, ◌∙◌, arith}
+use Rattle.std.proofs.Common.{◌≡◌, inl, ℕ, [], Result, Ok, Err, refl, sym, ap, subst, ◌∙◌, arith}
 use Rattle.disk.specs.Moments.{View}
 use Rattle.disk.specs.Slots.{Slots}
 use Rattle.checkpoint.specs.Images.{ImageValue, open_image, unwritten}
@@ -8,6 +8,8 @@ use Rattle.inspect.specs.declared.copying.CopyStoreFault.{CopyStoreFault}
 use Rattle.inspect.specs.declared.copying.CopyStoreFault.TheVariants as copied
 use Rattle.inspect.specs.declared.fault.ListFault.{ListFault}
 use Rattle.inspect.specs.declared.fault.ListFault.TheVariants as list
+use Rattle.ipc_laws.specs.RecoveryLaws.{recovers_lawful}
+use Rattle.ipc_model.specs.state.LawfulState.{LawfulState}
 use Rattle.ipc_model.specs.state.State.{State}
 use Rattle.ipc_model.specs.store.Recovery.{HoldsImage}
 use Rattle.ipc_model.specs.encodings.Images.{image_encoding}
@@ -16,12 +18,13 @@ use Rattle.store_fault.specs.declared.fault.StoreFault.TheVariants as fault
 use Rattle.recover.proofs.Gates.{empty_has_gate}
 use Rattle.recover.proofs.Stages.{empty_encodes, one_stands}
 use Rattle.recover.specs.AtRest.{IsAtRest}
+use Rattle.recover.specs.Found.{Reads}
 use Rattle.recover.specs.Looked.{IsLook}
 use Rattle.recover.specs.Making.{empty_segment}
 use Rattle.recover.specs.declared.looking.Looked.{Looked}
-use Rattle.snapshot.specs.Rows.{one_state}
+use Rattle.kernel.specs.Restoring.{one_snapshot}
 use Rattle.store_layout.specs.Gates.{StandForState}
-use Rattle.store_layout.specs.Standing.{InOne}
+use Rattle.store_layout.specs.Standing.{InOne, as_written}
 
 -- the store's fault in a fault of copying
 abbrev store_in : CopyStoreFault → StoreFault
@@ -59,11 +62,19 @@ copy_stands state holds =
     } in
     one_stands slots 0 state state [] one refl (empty_has_gate 0 (empty_segment 0) refl)
 
+-- what is read of slots is a lawful state
+lawful_read : (slots : Slots) (epoch records : ℕ) (state : State) → Reads slots epoch records state
+    → LawfulState state
+lawful_read slots epoch records state reads =
+    (recovers_lawful (as_written slots) state
+    (record { base = reads.base; records = reads.records; encoded = reads.encoded; run = reads.run })).0
+
 pub is_copy : (honest : Type 0) (slots : Slots) (look : Looked) (image : ImageValue) (new : View) → honest
     → IsLook honest slots look → IsImageOfRows look.snapshot image → new.seen ≡ store_of image → IsAtRest new
     → IsCopyOf slots new
 is_copy honest slots look image new given looked imaged made rest =
-    let same : imaged.state ≡ looked.state = one_state imaged.state looked.state (sym imaged.same ∙ looked.rows) in
+    let same : imaged.state ≡ looked.state = one_snapshot imaged.state looked.state imaged.holds.lawful
+    (lawful_read slots look.epoch look.records looked.state (looked.reads given)) (sym imaged.same ∙ looked.rows) in
     record {
       state = looked.state;
       epoch = look.epoch;

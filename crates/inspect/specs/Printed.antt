@@ -10,6 +10,7 @@ use Rattle.ipc_model.specs.store.Recovery.{IsDamaged, IsOtherVersion}
 use Rattle.store_fault.specs.declared.fault.StoreFault.TheVariants.{Damaged, Device, NoMemory, Version}
 use Rattle.store_layout.specs.Standing.{as_written}
 use Rattle.listing.specs.Drawing.{drawing}
+use Rattle.listing.specs.Listing.{listing}
 use Rattle.recover.specs.Found.{Reads}
 use Rattle.wire.specs.Writing.{AppendsPart}
 
@@ -23,9 +24,12 @@ pub record IsTextOf (text_of : ℕ → ℕ → State → List ℕ) (honest : Typ
   pub reads : honest → Reads slots epoch records state
   pub is : text ≡ text_of epoch records state
 
--- a drawing shows the state alone
+-- Lines and a drawing show names and ports, and not what spaces keep. A drawing shows neither epoch nor records.
+abbrev pub listing_of : ℕ → ℕ → State → List ℕ
+listing_of epoch records state = listing epoch records state.ipc
+
 abbrev pub drawing_of : ℕ → ℕ → State → List ℕ
-drawing_of epoch records state = drawing state
+drawing_of epoch records state = drawing state.ipc
 
 -- A whole text was written; or, if the writer failed, a prefix of one; or, if the store can't be read, nothing.
 pub record PrintsText (IsText : List ℕ → Type 0) (old new : Option (List ℕ))

@@ -1,10 +1,9 @@
 ghost use Rattle.std.specs.Prelude.{◌≡◌, ◌≢◌, ◌++◌, ℕ, List, Err, IfErr, IfOk, IsErrOf, OnErr, OnOk};
 ghost use Rattle.disk.specs.Moments.{ReadsOnly, one_more};
 ghost use Rattle.std.specs.Io.KnownBytes.{Appends, Keeps};
-ghost use Rattle.inspect.specs.Printed.{IsOfLook, IsTextOf, PrintsText, ReadsStore, drawing_of};
+ghost use Rattle.inspect.specs.Printed.{IsOfLook, IsTextOf, PrintsText, ReadsStore, drawing_of, listing_of};
 ghost use Rattle.ipc_model.specs.state.State.{State};
 ghost use Rattle.ipc_model.specs.store.Recovery.{IsDamaged, IsOtherVersion};
-ghost use Rattle.listing.specs.Listing.{listing};
 ghost use Rattle.snapshot.specs.Snapshots.{snapshot_of};
 ghost use Rattle.store_layout.specs.Standing.{as_written};
 ghost use Rattle.wire.specs.Writing.{AppendsPart};
@@ -35,12 +34,12 @@ pub(crate) trait Form {
 pub(crate) struct Lines;
 
 impl Form for Lines {
-    ghost use Rattle.listing.specs.Listing.{listing};
+    ghost use Rattle.inspect.specs.Printed.{listing_of};
 
-    ghost text_of = { listing };
+    ghost text_of = { listing_of };
 
     fn append(&self, alloc: Global, look: &Looked, text: &mut Vec<u8>) -> Result<(), AllocError> {
-        listing::list(alloc, look.epoch, look.records, &look.snapshot, text)
+        listing::list(alloc, look.epoch, look.records, &look.snapshot.ipc, text)
     }
 }
 
@@ -54,7 +53,7 @@ impl Form for Drawing {
     ghost text_of = { drawing_of };
 
     fn append(&self, alloc: Global, look: &Looked, text: &mut Vec<u8>) -> Result<(), AllocError> {
-        listing::draw(alloc, &look.snapshot, text)
+        listing::draw(alloc, &look.snapshot.ipc, text)
     }
 }
 
@@ -67,7 +66,7 @@ impl Form for Drawing {
 /// nothing was written. `Busy`: no copy of it could be made (`still_disk::still_copy`), and nothing was written.
 /// `Write`: the writer failed, and some first bytes of the lines may have been written.
 pub fn list<D: Disk, W: Write>(alloc: Global, disk: &mut D, writer: &mut W) -> Result<(), ListFault>
-    ensures prints { PrintsText (IsTextOf listing D.honest (D.view disk.old).seen) (W.contents writer.old)
+    ensures prints { PrintsText (IsTextOf listing_of D.honest (D.view disk.old).seen) (W.contents writer.old)
         (W.contents writer.new) result }
     ensures reads { ReadsStore D.honest (D.view disk.old) (D.view disk.new) (D.failed_calls disk.old)
         (D.failed_calls disk.new) result }

@@ -1,8 +1,7 @@
 ghost use Rattle.std.specs.Prelude.{◌≡◌, ◌++◌, codes, length, option_map, IfErr, OnErr, OnOk};
 ghost use Rattle.std.specs.Io.KnownBytes.{Appends};
-ghost use Rattle.inspect.specs.Printed.{PrintsText, drawing_of};
+ghost use Rattle.inspect.specs.Printed.{PrintsText, drawing_of, listing_of};
 ghost use Rattle.inspect.specs.Program.{IsOfDisk, Prints, line_of, status_of, words_of};
-ghost use Rattle.listing.specs.Listing.{listing};
 ghost use Rattle.wire.specs.Writing.{AppendsPart};
 
 use crate::ListFault;
@@ -91,7 +90,7 @@ pub fn show<'a, F: Files, W: Write, E: Write>(
 ) -> u8
     ensures ended { (end : ShowEnd) × (result ≡ status_of end)
         × AppendsPart (E.contents errors.old) (E.contents errors.new) (line_of (codes "machls: ") end)
-        × Prints (IsOfDisk listing ⟦<FileDisk<HostFolder<&'a F>> as Disk>⟧.honest
+        × Prints (IsOfDisk listing_of ⟦<FileDisk<HostFolder<&'a F>> as Disk>⟧.honest
         ⟦<FileDisk<HostFolder<&'a F>> as Disk>⟧.view) (option_map (λ texts. length texts.now) words.entry)
         (W.contents output.old) (W.contents output.new) end }
 {
@@ -107,7 +106,7 @@ pub fn run_show<'a, F: Files, W: Write>(
     words: Option<&[String]>,
     output: &mut W,
 ) -> ShowEnd
-    ensures ended { Prints (IsOfDisk listing ⟦<FileDisk<HostFolder<&'a F>> as Disk>⟧.honest
+    ensures ended { Prints (IsOfDisk listing_of ⟦<FileDisk<HostFolder<&'a F>> as Disk>⟧.honest
         ⟦<FileDisk<HostFolder<&'a F>> as Disk>⟧.view) (option_map (λ texts. length texts.now) words.entry)
         (W.contents output.old) (W.contents output.new) result }
 {

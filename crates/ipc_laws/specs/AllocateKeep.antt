@@ -30,14 +30,14 @@ use Rattle.ipc_laws.specs.MapLaws.{get-here, get-there}
 use Rattle.ipc_laws.specs.MapSums.{total-new}
 use Rattle.ipc_laws.specs.NameChanges.{names_move_lawfully, insert_lawful}
 use Rattle.ipc_laws.specs.Others.{number_decided}
-use Rattle.ipc_model.specs.state.State.{State, Names, IsUnused, new_port, with_names, lives, port_held, ports_are_used_up, is_null_or_dead}
+use Rattle.ipc_model.specs.state.Ipc.{Ipc, Names, IsUnused, new_port, with_names, lives, port_held, ports_are_used_up, is_null_or_dead}
 use Rattle.ipc_laws.specs.Weights.{Weight, entry_weigh, target_weigh, port_weigh, state_weigh, receive_of, any_of, count-receive, count-any}
 
 -- the state with one more port, whose only right is the one that waits
-abbrev pub with_new_port : State → State
+abbrev pub with_new_port : Ipc → Ipc
 with_new_port state = record state { ports = finmap.insert state.ports state.next new_port; next = state.next + 1 }
 
-new_serial : (state : State) (effects : List Effect) → LawfulBut state effects
+new_serial : (state : Ipc) (effects : List Effect) → LawfulBut state effects
     → finmap.get state.ports state.next ≡ None
 new_serial state effects lawful =
     elim (finmap.get state.ports state.next)
@@ -46,7 +46,7 @@ new_serial state effects lawful =
       | Some port ↦ λ (there : _). absurd (omega (arith, (lawful.ports state.next port there).1))
     ] refl
 
-same_total : (w : Weight) (state : State) → finmap.get state.ports state.next ≡ None
+same_total : (w : Weight) (state : Ipc) → finmap.get state.ports state.next ≡ None
     → state_weigh w (with_new_port state) ≡ state_weigh w state
 unfolding state_weigh
 same_total w state fresh = omega (arith, total-new (port_weigh w) state.ports state.next new_port fresh)
@@ -70,7 +70,7 @@ none_released : (serial : ℕ) → IsReleased [] serial → ⊥
 none_released serial (k, less, is) = absurd (omega (arith, less))
 
 -- A port exists before its receive right has a name: the right waits.
-pub new_port_kept : (old : State) → LawfulAtRest old → Acyclic old → finmap.len old.ports < MAX_PORTS
+pub new_port_kept : (old : Ipc) → LawfulAtRest old → Acyclic old → finmap.len old.ports < MAX_PORTS
     → old.next < 2 ^ 64 - 1 → Kept (with_new_port old) (release kind.Receive old.next ∷ [])
 new_port_kept old lawful acyclic few next =
     let fresh : finmap.get old.ports old.next ≡ None = new_serial old [] lawful in
@@ -176,7 +176,7 @@ unnamed_lawful names name entry lawful unused few fits alone =
     held_too)
 
 -- a set or a dead name
-plain_kept : (old : State) (space name : ℕ) (names : Names) (entry : Entry) → LawfulAtRest old → Acyclic old
+plain_kept : (old : Ipc) (space name : ℕ) (names : Names) (entry : Entry) → LawfulAtRest old → Acyclic old
     → finmap.get old.spaces space ≡ Some names → IsUnused names name → finmap.len names < MAX_NAMES
     → LawfulEntry entry → port_held entry ≡ None → ((w : Weight) → entry_weigh w entry ≡ 0)
     → Kept (with_names old space (finmap.insert names name entry)) []
@@ -239,7 +239,7 @@ held_weighs serial Set lawful is = absurd (cc is)
 held_weighs serial (Dead references) lawful is = absurd (cc is)
 
 -- the port whose right waits is in no set
-new_in_no_set : (old : State) (serial set : ℕ) (port : PortState)
+new_in_no_set : (old : Ipc) (serial set : ℕ) (port : PortState)
     → finmap.get (with_new_port old).ports serial ≡ Some port → port.set ≡ Some set
     → IsReleased (release kind.Receive old.next ∷ []) serial → ⊥
 unfolding serial_of
@@ -251,7 +251,7 @@ new_in_no_set old serial set port at is (zero, less, same) =
     cc (ap (λ (p : PortState). p.set) new ∙ is)
 new_in_no_set old serial set port at is (suc k, less, same) = absurd (omega (arith, less))
 
-held_live : (old : State) (space other serial : ℕ) (names : Names) (e : Entry) → LawfulAtRest old
+held_live : (old : Ipc) (space other serial : ℕ) (names : Names) (e : Entry) → LawfulAtRest old
     → finmap.get old.spaces space ≡ Some names → finmap.get names other ≡ Some e → port_held e ≡ Some serial
     → lives old serial ≡ true
 held_live old space other serial names e lawful there at held =
@@ -266,7 +266,7 @@ held_live old space other serial names e lawful there at held =
           ))
     ] refl
 
-receive_kept : (old : State) (space name : ℕ) (names : Names) → LawfulAtRest old → Acyclic old
+receive_kept : (old : Ipc) (space name : ℕ) (names : Names) → LawfulAtRest old → Acyclic old
     → finmap.get old.spaces space ≡ Some names → IsUnused names name → finmap.len names < MAX_NAMES
     → finmap.len old.ports < MAX_PORTS → old.next < 2 ^ 64 - 1
     → Kept (with_names (with_new_port old) space (finmap.insert names name (receive_entry old.next))) []
@@ -313,7 +313,7 @@ abbrev other_entry : ℕ → Entry
 other_entry which = if is_right which right.PortSet then Set else Dead 1
 
 -- whichever right is allocated
-pub allocated_kept : (old : State) (space : ℕ) (names : Names) (which name : ℕ) → LawfulAtRest old → Acyclic old
+pub allocated_kept : (old : Ipc) (space : ℕ) (names : Names) (which name : ℕ) → LawfulAtRest old → Acyclic old
     → finmap.get old.spaces space ≡ Some names → IsUnused names name → names_are_used_up names ≡ false
     → (is_right which right.Receive && ports_are_used_up old) ≡ false
     → Kept (actions.allocated old space names which name) []

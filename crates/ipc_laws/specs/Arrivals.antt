@@ -26,7 +26,7 @@ use Rattle.ipc_laws.specs.NameChanges.{insert_lawful}
 use Rattle.ipc_laws.specs.Others.{number_same, number_decided}
 use Rattle.ipc_laws.specs.Ranks.{found_by, finds_one}
 use Rattle.ipc_laws.specs.ReferencesKeep.{not_set}
-use Rattle.ipc_model.specs.state.State.{State, Names, IsUnused, with_names, lives, port_held, name_of_port, is_number}
+use Rattle.ipc_model.specs.state.Ipc.{Ipc, Names, IsUnused, with_names, lives, port_held, name_of_port, is_number}
 use Rattle.ipc_laws.specs.Takes.{with_right, port_live}
 use Rattle.ipc_laws.specs.Weights.{Weight, target_weigh, entry_weigh, carried_weigh, receive_of, any_of}
 
@@ -49,7 +49,7 @@ new_lawful kind.SendOnce serial = tt
 new_is_no_set : (what : RightKind) (serial : ℕ) → None ≡ Some Set → Some (new_entry what serial) ≡ Some Set
 new_is_no_set what serial e = absurd (cc e)
 
-pub fresh_mid : (state : State) (hand : Hand) (space name : ℕ) (names : Names) (what : RightKind) (serial : ℕ)
+pub fresh_mid : (state : Ipc) (hand : Hand) (space name : ℕ) (names : Names) (what : RightKind) (serial : ℕ)
     → MidCall state (with_one hand what serial) → finmap.get state.spaces space ≡ Some names → IsUnused names name
     → finmap.len names < MAX_NAMES
     → ((other port : ℕ) (e : Entry) → finmap.get names other ≡ Some e → port_held (new_entry what serial) ≡ Some port
@@ -79,7 +79,7 @@ same_held names name rights entry lawful at same fits =
     (λ (other serial : ℕ) (e : Entry) (apart : _) (there : _) (held : _) (held_too : _). apart
     (lawful.one_name other name serial e (Port rights) there at held_too (sym same ∙ held)))
 
-merged_receive_mid : (state : State) (hand : Hand) (space name : ℕ) (names : Names) (rights : PortRights)
+merged_receive_mid : (state : Ipc) (hand : Hand) (space name : ℕ) (names : Names) (rights : PortRights)
     → MidCall state (with_one hand kind.Receive rights.port) → finmap.get state.spaces space ≡ Some names
     → finmap.get names name ≡ Some (Port rights)
     → MidCall (with_names state space (finmap.insert names name (Port (merged_rights kind.Receive rights)))) hand
@@ -134,7 +134,7 @@ send_none : (q : ℕ) (b : Bool) (serial : ℕ) → (if b then 0 else receive_of
 send_none q true serial = refl
 send_none q false serial = refl
 
-merged_send_mid : (state : State) (hand : Hand) (space name : ℕ) (names : Names) (rights : PortRights)
+merged_send_mid : (state : Ipc) (hand : Hand) (space name : ℕ) (names : Names) (rights : PortRights)
     → MidCall state (with_one hand kind.Send rights.port) → finmap.get state.spaces space ≡ Some names
     → finmap.get names name ≡ Some (Port rights)
     → MidCall (with_names state space (finmap.insert names name (Port (merged_rights kind.Send rights)))) hand
@@ -234,7 +234,7 @@ merged_holds kind.Receive rights = refl
 merged_holds kind.Send rights = refl
 merged_holds kind.SendOnce rights = refl
 
-merged_mid : (state : State) (hand : Hand) (space name : ℕ) (names : Names) (what : RightKind) (rights : PortRights)
+merged_mid : (state : Ipc) (hand : Hand) (space name : ℕ) (names : Names) (what : RightKind) (rights : PortRights)
     → what ≢ kind.SendOnce → MidCall state (with_one hand what rights.port) → finmap.get state.spaces space ≡ Some names
     → finmap.get names name ≡ Some (Port rights)
     → MidCall (with_names state space (finmap.insert names name (Port (merged_rights what rights)))) hand
@@ -246,7 +246,7 @@ merged_mid state hand space name names kind.SendOnce rights apart mid there at =
 
 -- what is shown of it: it has left the hand, ports keep their names, and its own port has one; there is one more name
 -- only where its port had none
-pub record MidArrived (state : State) (space : ℕ) (names after : Names) (hand : Hand) (what : RightKind)
+pub record MidArrived (state : Ipc) (space : ℕ) (names after : Names) (hand : Hand) (what : RightKind)
     (port : PortInMessage) : Type 0 where
   pub mid : MidCall (with_names state space after) hand
   pub still : (serial : ℕ) → HasName names serial → HasName after serial
@@ -288,7 +288,7 @@ not_used : (names : Names) (name : ℕ) (what : RightKind) (serial : ℕ) → fi
     → port_held (new_entry what serial) ≡ Some other
 not_used names name what serial free other e at held = absurd (cc (sym free ∙ at))
 
-pub fresh_arrived : (state : State) (space : ℕ) (names : Names) (hand : Hand) (what : RightKind) (serial name : ℕ)
+pub fresh_arrived : (state : Ipc) (space : ℕ) (names : Names) (hand : Hand) (what : RightKind) (serial name : ℕ)
     → MidCall state (with_one hand what serial) → finmap.get state.spaces space ≡ Some names → IsUnused names name
     → finmap.len names < MAX_NAMES
     → (what ≢ kind.SendOnce → HasName names serial → ⊥)
@@ -313,7 +313,7 @@ fresh_arrived state space names hand what serial name mid there unused few alone
   same = λ (has : _). absurd (alone (has serial refl).0 (has serial refl).1);
 }
 
-pub merged_arrived : (state : State) (space : ℕ) (names : Names) (hand : Hand) (what : RightKind) (name : ℕ)
+pub merged_arrived : (state : Ipc) (space : ℕ) (names : Names) (hand : Hand) (what : RightKind) (name : ℕ)
     (rights : PortRights) → what ≢ kind.SendOnce → MidCall state (with_one hand what rights.port)
     → finmap.get state.spaces space ≡ Some names
     → finmap.get names name ≡ Some (Port rights)
@@ -349,7 +349,7 @@ entry_of_port (Dead references) serial is = absurd (cc is)
 abbrev pub after_of : Names → RightKind → ℕ → ℕ → Names
 after_of names what serial name = finmap.insert names name (merged_entry what serial (finmap.get names name))
 
-fresh_after : (state : State) (space : ℕ) (names : Names) (hand : Hand) (what : RightKind) (serial name : ℕ)
+fresh_after : (state : Ipc) (space : ℕ) (names : Names) (hand : Hand) (what : RightKind) (serial name : ℕ)
     → MidCall state (with_one hand what serial) → finmap.get state.spaces space ≡ Some names → IsUnused names name
     → finmap.len names < MAX_NAMES
     → (what ≢ kind.SendOnce → HasName names serial → ⊥)
@@ -360,7 +360,7 @@ fresh_after state space names hand what serial name mid there unused few alone =
     (fresh_arrived state space names hand what serial name mid there unused few alone)
 
 -- a right that isn't send-once comes under a name that holds its port
-pub merged_after : (state : State) (space : ℕ) (names : Names) (hand : Hand) (what : RightKind) (serial name : ℕ)
+pub merged_after : (state : Ipc) (space : ℕ) (names : Names) (hand : Hand) (what : RightKind) (serial name : ℕ)
     (entry : Entry) → what ≢ kind.SendOnce → MidCall state (with_one hand what serial)
     → finmap.get state.spaces space ≡ Some names
     → finmap.get names name ≡ Some entry → port_held entry ≡ Some serial
@@ -375,7 +375,7 @@ merged_after state space names hand what serial name entry apart mid there at he
     (merged_arrived state space names hand what name rights apart
     (subst (λ (k : ℕ). MidCall state (with_one hand what k)) (sym port) mid) there at_rights))
 
-port_after : (state : State) (space : ℕ) (names : Names) (hand : Hand) (what : RightKind) (serial name : ℕ)
+port_after : (state : Ipc) (space : ℕ) (names : Names) (hand : Hand) (what : RightKind) (serial name : ℕ)
     → what ≢ kind.SendOnce → MidCall state (with_one hand what serial) → finmap.get state.spaces space ≡ Some names
     → MatchOption (name_of_port names serial) (IsUnused names name) (λ there. name ≡ there)
     → (is_none (name_of_port names serial) ≡ true → finmap.len names < MAX_NAMES)
@@ -394,7 +394,7 @@ port_after state space names hand what serial name apart mid there may room =
           (ap (finmap.get names) same ∙ at.1) at.2
     ] refl may room
 
-nothing_arrived : (state : State) (space : ℕ) (names : Names) (hand : Hand) (what : RightKind) (port : PortInMessage)
+nothing_arrived : (state : Ipc) (space : ℕ) (names : Names) (hand : Hand) (what : RightKind) (port : PortInMessage)
     → ((serial : ℕ) → port ≡ in_message.Live serial → ⊥) → MidCall state hand
     → finmap.get state.spaces space ≡ Some names
     → MidArrived state space names names hand what port
@@ -408,7 +408,7 @@ nothing_arrived state space names hand what port none mid there = record {
   same = λ (_ : _). refl;
 }
 
-lighter : (state : State) (hand : Hand) (what : RightKind) (port : PortInMessage)
+lighter : (state : Ipc) (hand : Hand) (what : RightKind) (port : PortInMessage)
     → ((w : Weight) → carried_weigh w (record { kind = what; port = port }) ≡ 0)
     → MidCall state (with_right hand (record { kind = what; port = port })) → MidCall state hand
 lighter state hand what port none mid =
@@ -416,7 +416,7 @@ lighter state hand what port none mid =
     (λ (q : ℕ). omega (arith, none (receive_of q))) (λ (q : ℕ) (dead : _). omega arith)
 
 -- One right arrives in a space that has room for the name that it needs.
-pub arrived_mid : (state : State) (space : ℕ) (names : Names) (hand : Hand) (what : RightKind) (port : PortInMessage)
+pub arrived_mid : (state : Ipc) (space : ℕ) (names : Names) (hand : Hand) (what : RightKind) (port : PortInMessage)
     (name : ℕ) → MidCall state (with_right hand (record { kind = what; port = port }))
     → finmap.get state.spaces space ≡ Some names
     → MayArrive names what port name → (wants_name names [] what port ≡ true → finmap.len names < MAX_NAMES)

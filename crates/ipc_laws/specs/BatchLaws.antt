@@ -5,8 +5,9 @@ use Rattle.codes.specs.declared.limits.TheConstants.{MAX_RECORDS}
 use Rattle.ipc_model.specs.declared.record.Record.{Record}
 use Rattle.ipc_laws.specs.ListLaws.{same_back}
 use Rattle.ipc_model.specs.store.Store.{open_gate, batch_encoding, batches_encoding, all_records, segment_header_of, IsClosed, AreRecords, EncodesBatches, EncodesSegment}
-use Rattle.ipc_laws.specs.EncodingLaws.{word_once, long_word_once, records_once}
-use Rattle.ipc_laws.specs.CanonicalLaws.{canonical_call_long}
+use Rattle.ipc_laws.specs.EncodingLaws.{word_once, long_word_once}
+use Rattle.ipc_laws.specs.RecordEncodings.{records_once}
+use Rattle.ipc_laws.specs.CanonicalRecords.{canonical_call_long}
 use Rattle.ipc_model.specs.encodings.Encodings.{call_encoding, canonical_call, reply_encoding, record_encoding, records_encoding, IsRecord}
 use Rattle.words.specs.WordLaws.{length-word, length-long_word}
 use Rattle.words.specs.Words.{word, long_word, frame_encoding}

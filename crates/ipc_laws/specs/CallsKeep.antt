@@ -8,9 +8,9 @@ use Rattle.codes.specs.declared.kern_return.KernReturn.{KernReturn}
 use Rattle.codes.specs.declared.kern_return.KernReturn.TheVariants.{InvalidName, InvalidRight, InvalidValue, NotInSet}
 use Rattle.codes.specs.declared.limits.TheConstants.{MAX_QUEUE_LIMIT}
 use Rattle.codes.specs.declared.name.TheConstants.{MACH_PORT_NULL}
-use Rattle.ipc_model.specs.declared.call.Call.{Call}
-use Rattle.ipc_model.specs.declared.call.Call.TheVariants as call
-use Rattle.ipc_model.specs.declared.call.Reply.{Reply}
+use Rattle.ipc_model.specs.declared.plain_call.PlainCall.{PlainCall}
+use Rattle.ipc_model.specs.declared.plain_call.PlainCall.TheVariants as call
+use Rattle.ipc_model.specs.declared.plain_reply.PlainReply.{PlainReply}
 use Rattle.ipc_model.specs.declared.entry.Entry.{Entry}
 use Rattle.ipc_model.specs.declared.entry.Entry.TheVariants.{Port, SendOnce, Set, Dead}
 use Rattle.ipc_model.specs.declared.message.RightKind.TheVariants as kind
@@ -25,20 +25,20 @@ use Rattle.ipc_laws.specs.LawfulLaws.{LawfulAtRest}
 use Rattle.ipc_laws.specs.ListLaws.{some_same}
 use Rattle.ipc_model.specs.calls.PortCalls.{tests_of, name_is, entry_is, is_set, is_no_name, has_receive, is_in_some_set}
 use Rattle.ipc_laws.specs.PortChanges.{PortMove, port_moves_lawfully}
-use Rattle.ipc_model.specs.state.State.{State, Names, with_port, received_port}
+use Rattle.ipc_model.specs.state.Ipc.{Ipc, Names, with_port, received_port}
 use Rattle.ipc_model.specs.calls.Tests.{Tests, first_failing}
-use Rattle.ipc_model.specs.encodings.Encodings.{FitsCall}
+use Rattle.ipc_model.specs.encodings.PlainCalls.{FitsCall}
 use Rattle.ipc_laws.specs.Weights.{Weight, target_weigh, entry_weigh, any_of}
 
 -- what is shown: the state that a call's own action leaves is lawful with the effects, and acyclic
-pub record Kept (new : State) (effects : List Effect) : Type 0 where
+pub record Kept (new : Ipc) (effects : List Effect) : Type 0 where
   pub lawful : LawfulBut new effects
   pub acyclic : Acyclic new
 
-pub kept_as : (old new : State) (effects : List Effect) → LawfulAtRest old → Acyclic old → new ≡ old → effects ≡ []
+pub kept_as : (old new : Ipc) (effects : List Effect) → LawfulAtRest old → Acyclic old → new ≡ old → effects ≡ []
     → Kept new effects
 kept_as old new effects lawful acyclic same none =
-    subst (λ (s : State). Kept s effects) (sym same)
+    subst (λ (s : Ipc). Kept s effects) (sym same)
     (subst (λ (l : List Effect). Kept old l) (sym none) (record { lawful = lawful; acyclic = acyclic }))
 
 -- a port whose receive right stands under a name is live
@@ -60,7 +60,7 @@ received_weighs serial (SendOnce port target) is = absurd (cc is)
 received_weighs serial Set is = absurd (cc is)
 received_weighs serial (Dead references) is = absurd (cc is)
 
-pub received_lives : (state : State) (effects : List Effect) (space name serial : ℕ) (names : Names) (entry : Entry)
+pub received_lives : (state : Ipc) (effects : List Effect) (space name serial : ℕ) (names : Names) (entry : Entry)
     → LawfulBut state effects → finmap.get state.spaces space ≡ Some names → finmap.get names name ≡ Some entry
     → received_port entry ≡ Some serial → (port : PortState) × (finmap.get state.ports serial ≡ Some port)
 received_lives state effects space name serial names entry lawful there at is =
@@ -76,7 +76,7 @@ received_lives state effects space name serial names entry lawful there at is =
     ] refl
 
 -- a call that sets what the port keeps whose receive right a name holds
-set_kept : (old new : State) (space name : ℕ) (names : Names) (entry : Entry) (change : PortState → PortState)
+set_kept : (old new : Ipc) (space name : ℕ) (names : Names) (entry : Entry) (change : PortState → PortState)
     (effects : List Effect) → LawfulAtRest old → Acyclic old
     → finmap.get old.spaces space ≡ Some names → finmap.get names name ≡ Some entry
     → ((serial : ℕ) (port : PortState) → received_port entry ≡ Some serial → finmap.get old.ports serial ≡ Some port
@@ -84,12 +84,12 @@ set_kept : (old new : State) (space name : ℕ) (names : Names) (entry : Entry) 
     → new ≡ actions.with_received old entry change → effects ≡ [] → Kept new effects
 set_kept old new space name names entry change effects lawful acyclic there at moves is none =
     elim (received_port entry) as (λ (o : Option ℕ). received_port entry ≡ o
-    → new ≡ (elim o as (λ _. State) [ None ↦ old | Some serial ↦ with_port old serial change ]) → Kept new effects) [
+    → new ≡ (elim o as (λ _. Ipc) [ None ↦ old | Some serial ↦ with_port old serial change ]) → Kept new effects) [
       | None ↦ λ (absent : _) (same : _). kept_as old new effects lawful acyclic same none
       | Some serial ↦ λ (held : _) (same : _).
           let live = received_lives old [] space name serial names entry lawful there at held in
           let kept = port_moves_lawfully old [] serial change (moves serial live.0 held live.1) lawful acyclic in
-          subst (λ (s : State). Kept s effects) (sym same)
+          subst (λ (s : Ipc). Kept s effects) (sym same)
           (subst (λ (l : List Effect). Kept (with_port old serial change) l) (sym none)
           (record { lawful = kept.0; acyclic = kept.1 }))
     ] refl is
@@ -108,8 +108,8 @@ first_passes test tests none =
 limit_fits : (limit : ℕ) → nat_lt MAX_QUEUE_LIMIT limit ≡ false → limit ≤ MAX_QUEUE_LIMIT
 limit_fits limit passes = ltb-false MAX_QUEUE_LIMIT limit passes
 
-by_entry_kept : (old new : State) (space name : ℕ) (names : Names) (change : PortState → PortState) (number : ℕ)
-    (answer : Reply) (effects : List Effect) → LawfulAtRest old → Acyclic old → finmap.get old.spaces space ≡ Some names
+by_entry_kept : (old new : Ipc) (space name : ℕ) (names : Names) (change : PortState → PortState) (number : ℕ)
+    (answer : PlainReply) (effects : List Effect) → LawfulAtRest old → Acyclic old → finmap.get old.spaces space ≡ Some names
     → ((entry : Entry) (serial : ℕ) (port : PortState) → finmap.get names name ≡ Some entry
     → received_port entry ≡ Some serial → finmap.get old.ports serial ≡ Some port → PortMove old [] serial change)
     → ActsOn (finmap.get names name)
@@ -126,7 +126,7 @@ by_entry_kept old new space name names change number answer effects lawful acycl
 
 -- each of the calls that set what a port keeps
 
-limit_move : (old : State) (serial limit : ℕ) (port : PortState) → LawfulAtRest old
+limit_move : (old : Ipc) (serial limit : ℕ) (port : PortState) → LawfulAtRest old
     → finmap.get old.ports serial ≡ Some port → limit ≤ MAX_QUEUE_LIMIT
     → PortMove old [] serial (λ p. record p { limit = limit })
 limit_move old serial limit port lawful there fits = record {
@@ -144,7 +144,7 @@ limit_move old serial limit port lawful there fits = record {
   member = λ (set : ℕ) (is : _). lawful.sets serial set port there is;
 }
 
-make_send_move : (old : State) (serial count : ℕ) (port : PortState) → LawfulAtRest old
+make_send_move : (old : Ipc) (serial count : ℕ) (port : PortState) → LawfulAtRest old
     → finmap.get old.ports serial ≡ Some port → count < 2 ^ 32
     → PortMove old [] serial (λ p. record p { make_send_count = count })
 make_send_move old serial count port lawful there fits = record {
@@ -162,7 +162,7 @@ make_send_move old serial count port lawful there fits = record {
   member = λ (set : ℕ) (is : _). lawful.sets serial set port there is;
 }
 
-sequence_move : (old : State) (serial seqno : ℕ) (port : PortState) → LawfulAtRest old
+sequence_move : (old : Ipc) (serial seqno : ℕ) (port : PortState) → LawfulAtRest old
     → finmap.get old.ports serial ≡ Some port → seqno < 2 ^ 32
     → PortMove old [] serial (λ p. record p { sequence_number = seqno })
 sequence_move old serial seqno port lawful there fits = record {
@@ -181,7 +181,7 @@ sequence_move old serial seqno port lawful there fits = record {
 }
 
 -- the port gets a set that stands in the space which holds its receive right, or none
-set_move : (old : State) (space member serial after : ℕ) (names : Names) (entry : Entry) (port : PortState)
+set_move : (old : Ipc) (space member serial after : ℕ) (names : Names) (entry : Entry) (port : PortState)
     → LawfulAtRest old → finmap.get old.spaces space ≡ Some names → finmap.get names member ≡ Some entry
     → received_port entry ≡ Some serial
     → finmap.get old.ports serial ≡ Some port → ((after == MACH_PORT_NULL) ≡ false → finmap.get names after ≡ Some Set)
@@ -228,7 +228,7 @@ not_not true e = refl
 not_not false e = absurd (cc e)
 
 -- The calls that change nothing, or only what a port keeps besides its rights.
-abbrev pub is_simple : Call → Bool
+abbrev pub is_simple : PlainCall → Bool
 is_simple (call.Attach space) = true
 is_simple call.Names = true
 is_simple (call.Type name) = true
@@ -241,36 +241,36 @@ is_simple (call.SetSeqno name seqno) = true
 is_simple (call.MoveMember member after) = true
 is_simple c = false
 
-same_kept : (old new : State) (action : Action) (answer : Reply) (effects : List Effect) → LawfulAtRest old
+same_kept : (old new : Ipc) (action : Action) (answer : PlainReply) (effects : List Effect) → LawfulAtRest old
     → Acyclic old → action.state ≡ old → action.effects ≡ [] → Acts action answer new effects → Kept new effects
 same_kept old new action answer effects lawful acyclic same none acts =
     kept_as old new effects lawful acyclic (acts.1 ∙ same) (acts.2 ∙ none)
 
-same_on_kept : (old new : State) (o : Option Entry) (action : Entry → Action) (answer : Reply) (effects : List Effect)
+same_on_kept : (old new : Ipc) (o : Option Entry) (action : Entry → Action) (answer : PlainReply) (effects : List Effect)
     → LawfulAtRest old → Acyclic old → ((e : Entry) → (action e).state ≡ old) → ((e : Entry) → (action e).effects ≡ [])
     → ActsOn o action answer new effects → Kept new effects
 same_on_kept old new None action answer effects lawful acyclic same none acts = absurd acts
 same_on_kept old new (Some entry) action answer effects lawful acyclic same none acts =
     same_kept old new (action entry) answer effects lawful acyclic (same entry) (none entry) acts
 
-status_same : (old : State) (o : Option ℕ) → (actions.status_action_of old o).state ≡ old
+status_same : (old : Ipc) (o : Option ℕ) → (actions.status_action_of old o).state ≡ old
 status_same old None = refl
 status_same old (Some serial) =
     elim (finmap.get old.ports serial) as (λ (o : Option PortState). (actions.status_action old o serial).state ≡ old)
     [ None ↦ refl | Some port ↦ refl ]
 
-status_none : (old : State) (o : Option ℕ) → (actions.status_action_of old o).effects ≡ []
+status_none : (old : Ipc) (o : Option ℕ) → (actions.status_action_of old o).effects ≡ []
 status_none old None = refl
 status_none old (Some serial) =
     elim (finmap.get old.ports serial) as (λ (o : Option PortState). (actions.status_action old o serial).effects ≡ [])
     [ None ↦ refl | Some port ↦ refl ]
 
-tests_of_after : State → Names → ℕ → Bool → ℕ → Tests
+tests_of_after : Ipc → Names → ℕ → Bool → ℕ → Tests
 tests_of_after old names member null after =
     if null then (not (name_is (is_in_some_set old) names member), NotInSet) ∷ []
     else (is_no_name names after, InvalidName) ∷ (not (name_is is_set names after), InvalidRight) ∷ []
 
-after_is_set : (old : State) (names : Names) (member after : ℕ)
+after_is_set : (old : Ipc) (names : Names) (member after : ℕ)
     → first_failing ((is_no_name names member, InvalidName) ∷
     (not (name_is has_receive names member), InvalidRight) ∷ tests_of_after old names member
     (after == MACH_PORT_NULL) after) ≡ None
@@ -293,7 +293,7 @@ after_is_set old names member after passes named =
     (first_passes (not (name_is is_set names after), InvalidRight) [] second).0)
 
 -- Such a call's own action leaves a state that is lawful with its effects, and acyclic.
-pub simple_kept : (old : State) (space : ℕ) (names : Names) (c : Call) (answer : Reply) (new : State)
+pub simple_kept : (old : Ipc) (space : ℕ) (names : Names) (c : PlainCall) (answer : PlainReply) (new : Ipc)
     (effects : List Effect) → is_simple c ≡ true → FitsCall c → LawfulAtRest old → Acyclic old
     → finmap.get old.spaces space ≡ Some names
     → first_failing (tests_of old space names c) ≡ None → Done old space names c answer new effects → Kept new effects

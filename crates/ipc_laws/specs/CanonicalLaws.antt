@@ -7,21 +7,19 @@ use Rattle.std.proofs.lemmas.Nat.{and_assoc, and_le_l, and_le_r, and_mask}
 use Rattle.std.proofs.lemmas.Nat.Bits.{and_pow}
 use Rattle.words.specs.Numbers.{little_number}
 use Rattle.codes.specs.declared.kern_return.KernReturn.TheVariants.{Success}
-use Rattle.codes.specs.declared.limits.TheConstants.{MAX_FRAME_CONTENT}
 use Rattle.codes.specs.declared.name.TheConstants.{MACH_PORT_NULL}
-use Rattle.ipc_model.specs.calls.Step.{Step, ActsFrom, IsRefusedWith}
-use Rattle.ipc_model.specs.declared.call.Call.{Call}
-use Rattle.ipc_model.specs.declared.call.Call.TheVariants as call
-use Rattle.ipc_model.specs.declared.call.Reply.{Reply}
-use Rattle.ipc_model.specs.declared.call.Reply.TheVariants as reply
-use Rattle.ipc_model.specs.declared.record.Record.{Record}
+use Rattle.ipc_model.specs.calls.PlainStep.{PlainStep, ActsFrom, IsRefusedWith}
+use Rattle.ipc_model.specs.declared.plain_call.PlainCall.{PlainCall}
+use Rattle.ipc_model.specs.declared.plain_call.PlainCall.TheVariants as call
+use Rattle.ipc_model.specs.declared.plain_reply.PlainReply.{PlainReply}
+use Rattle.ipc_model.specs.declared.plain_reply.PlainReply.TheVariants as reply
 use Rattle.ipc_model.specs.effects.Effects.{Effect}
 use Rattle.ipc_model.specs.messages.Kept.{canonical_message, masked, used_bits}
 use Rattle.ipc_model.specs.messages.Messages.{UsedParts, used_parts, bits_of, is_complex, remote_disposition, local_disposition, remote_of, local_of, id_of, body_of}
 use Rattle.ipc_model.specs.messages.Receiving.{without_message}
 use Rattle.ipc_model.specs.messages.Sending.{Ready, ready_by_parts, ready_to_send, sent}
-use Rattle.ipc_model.specs.state.State.{State, Names}
-use Rattle.ipc_model.specs.encodings.Encodings.{call_encoding, reply_encoding, canonical_call, canonical_record, FitsCall, IsMessageSize, IsWholeCall, IsCanonicalCall, IsRecord, IsRecordedReply}
+use Rattle.ipc_model.specs.state.Ipc.{Ipc, Names}
+use Rattle.ipc_model.specs.encodings.PlainCalls.{call_encoding, canonical_call, FitsCall, IsMessageSize, IsWholeCall, IsCanonicalCall, IsRecordedReply}
 use Rattle.words.specs.Words.{AreBytes}
 
 pub length-masked : (masks bytes : List ℕ) → length (masked masks bytes) ≡ length bytes
@@ -156,7 +154,7 @@ canonical_parts message are =
     }
 
 -- messages of the same parts are sent alike
-acts_alike : (a b : List ℕ) (old : State) (space : ℕ) (o : Option Names) (answer : Reply) (acted : State)
+acts_alike : (a b : List ℕ) (old : Ipc) (space : ℕ) (o : Option Names) (answer : PlainReply) (acted : Ipc)
     (effects : List Effect) → used_parts a ≡ used_parts b → ActsFrom old space o (call.Send a) answer acted effects
     → ActsFrom old space o (call.Send b) answer acted effects
 unfolding ready_to_send
@@ -167,17 +165,17 @@ acts_alike a b old space (Some names) answer acted effects same acts =
     × (effects ≡ (sent ready).1))
     (λ code. IsRefusedWith (without_message code 0 MACH_PORT_NULL) old answer acted effects)) same acts
 
-sent_alike : (a b : List ℕ) (old : State) (space : ℕ) (answer : Reply) (new : State) → used_parts a ≡ used_parts b
-    → Step old space (call.Send a) answer new → Step old space (call.Send b) answer new
-unfolding Step
+sent_alike : (a b : List ℕ) (old : Ipc) (space : ℕ) (answer : PlainReply) (new : Ipc) → used_parts a ≡ used_parts b
+    → PlainStep old space (call.Send a) answer new → PlainStep old space (call.Send b) answer new
+unfolding PlainStep
 sent_alike a b old space answer new same (acted, effects, acts, settles) =
     (acted, effects, acts_alike a b old space (finmap.get old.spaces space) answer acted effects same acts, settles)
 
 -- A message and what is kept of it are sent alike.
 abbrev pub MessagesAreSentAsCanonical : Type 0
 MessagesAreSentAsCanonical =
-    (old : State) (space : ℕ) (message : List ℕ) (answer : Reply) (new : State) → AreBytes message
-    → Step old space (call.Send (canonical_message message)) answer new ↔ Step old space (call.Send message) answer new
+    (old : Ipc) (space : ℕ) (message : List ℕ) (answer : PlainReply) (new : Ipc) → AreBytes message
+    → PlainStep old space (call.Send (canonical_message message)) answer new ↔ PlainStep old space (call.Send message) answer new
 
 pub sent_as_canonical : MessagesAreSentAsCanonical
 sent_as_canonical old space message answer new are = (
@@ -187,55 +185,43 @@ sent_as_canonical old space message answer new are = (
 
 -- What is kept of a call: the call itself, unless it is a send.
 
-pub canonical_call_again : (c : Call) → canonical_call (canonical_call c) ≡ canonical_call c
+pub canonical_call_again : (c : PlainCall) → canonical_call (canonical_call c) ≡ canonical_call c
 canonical_call_again (call.Send message) = ap (λ (m : List ℕ). call.Send m) (canonical_again message)
 canonical_call_again c = refl
 
-pub canonical_fits : (c : Call) → FitsCall c → FitsCall (canonical_call c)
+pub canonical_fits : (c : PlainCall) → FitsCall c → FitsCall (canonical_call c)
 canonical_fits (call.Send message) fits = canonical_bytes message fits
 canonical_fits c fits = fits
 
 -- its encoding is as long
-pub canonical_call_long : (c : Call) → length (call_encoding (canonical_call c)) ≡ length (call_encoding c)
+pub canonical_call_long : (c : PlainCall) → length (call_encoding (canonical_call c)) ≡ length (call_encoding c)
 unfolding call_encoding
 canonical_call_long (call.Send message) = let same = canonical_long message in omega (arith, same)
 canonical_call_long c = refl
 
 -- so what is kept of a call is a call that a record can hold
-pub canonical_is_canonical : (c : Call) → FitsCall c → IsWholeCall c → IsCanonicalCall (canonical_call c)
+pub canonical_is_canonical : (c : PlainCall) → FitsCall c → IsWholeCall c → IsCanonicalCall (canonical_call c)
 canonical_is_canonical c fits whole =
     record { fits = canonical_fits c fits; whole = whole_kept c whole; kept = canonical_call_again c }
   where
-    whole_kept : (d : Call) → IsWholeCall d → IsWholeCall (canonical_call d)
+    whole_kept : (d : PlainCall) → IsWholeCall d → IsWholeCall (canonical_call d)
     whole_kept (call.Send message) whole = subst IsMessageSize (sym (canonical_long message)) whole
     whole_kept d whole = whole
 
 -- a reply is one to what is kept of its call
-kept_replied : (c : Call) (r : Reply) → IsRecordedReply c r → IsRecordedReply (canonical_call c) r
+pub kept_replied : (c : PlainCall) (r : PlainReply) → IsRecordedReply c r → IsRecordedReply (canonical_call c) r
 kept_replied (call.Send message) (reply.Done number) is =
     record { fits = is.fits; of_one_call = is.of_one_call; results = is.results; recorded = is.recorded }
 kept_replied (call.Send message) r is =
     record { fits = is.fits; of_one_call = is.of_one_call; results = is.results; recorded = is.recorded }
 kept_replied c r is = is
 
--- What is kept of a record is one that a segment may hold, if its call is whole and its frames aren't too long.
-pub canonical_is_record : (entry : Record) → entry.space < 2 ^ 32 → FitsCall entry.call → IsWholeCall entry.call
-    → IsRecordedReply entry.call entry.reply
-    → length (call_encoding entry.call) ≤ MAX_FRAME_CONTENT → length (reply_encoding entry.reply) ≤ MAX_FRAME_CONTENT
-    → IsRecord (canonical_record entry)
-canonical_is_record entry space fits whole answered calls replies = record {
-  space = space;
-  call = canonical_is_canonical entry.call fits whole;
-  reply = kept_replied entry.call entry.reply answered;
-  frames = (omega (arith, calls, canonical_call_long entry.call), replies);
-}
-
 -- A call and what is kept of it are made alike.
-abbrev pub CallsAreMadeAsCanonical : Type 0
-CallsAreMadeAsCanonical =
-    (old : State) (space : ℕ) (c : Call) (answer : Reply) (new : State) → FitsCall c
-    → Step old space (canonical_call c) answer new ↔ Step old space c answer new
+abbrev pub PlainCallsAreMadeAsCanonical : Type 0
+PlainCallsAreMadeAsCanonical =
+    (old : Ipc) (space : ℕ) (c : PlainCall) (answer : PlainReply) (new : Ipc) → FitsCall c
+    → PlainStep old space (canonical_call c) answer new ↔ PlainStep old space c answer new
 
-pub made_as_canonical : CallsAreMadeAsCanonical
-made_as_canonical old space (call.Send message) answer new fits = sent_as_canonical old space message answer new fits
-made_as_canonical old space c answer new fits = ((λ step. step), (λ step. step))
+pub plain_made_as_canonical : PlainCallsAreMadeAsCanonical
+plain_made_as_canonical old space (call.Send message) answer new fits = sent_as_canonical old space message answer new fits
+plain_made_as_canonical old space c answer new fits = ((λ step. step), (λ step. step))

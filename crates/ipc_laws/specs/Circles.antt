@@ -4,13 +4,13 @@ use Rattle.std.proofs.Common.{refl, subst}
 use Rattle.std.specs.FinMap as finmap
 use Rattle.ipc_model.specs.state.Circular.{carrier_of, meets, is_circular, Carries, Acyclic, LeadsUp, IsCircular}
 use Rattle.ipc_model.specs.state.Lawful.{Lawful}
-use Rattle.ipc_model.specs.state.State.{State}
+use Rattle.ipc_model.specs.state.Ipc.{Ipc}
 use Rattle.ipc_laws.specs.EffectRanks.{travels_once}
 use Rattle.ipc_laws.specs.LawfulLaws.{lawful_is_at_rest}
 use Rattle.ipc_laws.specs.Others.{number_same}
 use Rattle.ipc_laws.specs.Ranks.{carrier_carries, few_above, meets_itself, met_more, one_carrier, TravelsOnce}
 
-leads : (state : State) (hops top serial : ℕ) → meets state hops top serial ≡ true → IsCircular state top serial
+leads : (state : Ipc) (hops top serial : ℕ) → meets state hops top serial ≡ true → IsCircular state top serial
 leads state zero top serial met = (zero, number_same serial top met)
 leads state (suc hops) top serial met =
     elim (serial == top) as (λ (b : Bool). (serial == top) ≡ b
@@ -29,7 +29,7 @@ leads state (suc hops) top serial met =
           ] refl later
     ] refl met
 
-module _ (rank : ℕ → ℕ) (state : State) (once : TravelsOnce state)
+module _ (rank : ℕ → ℕ) (state : Ipc) (once : TravelsOnce state)
     (grows : (outer inner : ℕ) → Carries state outer inner → rank inner < rank outer) where
   -- if a port is met, so is what hops from it lead to
   climbed : (from hops top serial : ℕ) → meets state (finmap.len state.ports) serial from ≡ true
@@ -44,7 +44,7 @@ module _ (rank : ℕ → ℕ) (state : State) (once : TravelsOnce state)
 -- from which a path leads up to its port, and it can be put into any other.
 abbrev pub CirclesLeadUp : Type 0
 CirclesLeadUp =
-    (state : State) (serial queue : ℕ) → Lawful state → Acyclic state
+    (state : Ipc) (serial queue : ℕ) → Lawful state → Acyclic state
     → (is_circular state serial queue ≡ true) ↔ IsCircular state serial queue
 
 pub circles_lead_up : CirclesLeadUp

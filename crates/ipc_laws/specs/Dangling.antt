@@ -27,11 +27,11 @@ use Rattle.ipc_model.specs.messages.Notices.{Notice, notice_message}
 use Rattle.ipc_model.specs.messages.Notices as notice
 use Rattle.ipc_laws.specs.Others.{number_same, number_decided}
 use Rattle.ipc_model.specs.state.Placed.{send_count}
-use Rattle.ipc_model.specs.state.State.{State, Names, with_port, lives}
+use Rattle.ipc_model.specs.state.Ipc.{Ipc, Names, with_port, lives}
 use Rattle.ipc_laws.specs.Weights.{Weight, target_weigh, entry_weigh, place_weigh, carried_weigh, reply_weigh, message_weigh, port_weigh, names_weigh, state_weigh, any_of}
 
 -- no right names a port that isn't live
-abbrev pub NoneDangles : State → Type 0
+abbrev pub NoneDangles : Ipc → Type 0
 NoneDangles state = (q : ℕ) → lives state q ≡ false → state_weigh (any_of q) state ≡ 0
 
 pub not_equal : (m n : ℕ) → m ≢ n → (m == n) ≡ false
@@ -40,14 +40,14 @@ not_equal m n apart =
     [ true ↦ λ (e : _). absurd (apart (number_same m n e)) | false ↦ λ (e : _). refl ] refl
 
 -- a live port isn't a dead one
-pub live_apart : (state : State) (live dead : ℕ) → lives state live ≡ true → lives state dead ≡ false → live ≢ dead
+pub live_apart : (state : Ipc) (live dead : ℕ) → lives state live ≡ true → lives state dead ≡ false → live ≢ dead
 live_apart state live dead alive gone same = absurd (cc (sym alive ∙ ap (lives state) same ∙ gone))
 
 pub apart_zero : (q serial : ℕ) (kind : RightKind) → serial ≢ q → any_of q kind serial ≡ 0
 apart_zero q serial what apart = ap (λ (b : Bool). cond b 1 0) (not_equal serial q apart)
 
 -- a port's own part of the weight
-pub port_part : (w : Weight) (state : State) (serial : ℕ) (port : PortState) → finmap.get state.ports serial ≡ Some port
+pub port_part : (w : Weight) (state : Ipc) (serial : ℕ) (port : PortState) → finmap.get state.ports serial ≡ Some port
     → port_weigh w serial port ≤ state_weigh w state
 unfolding state_weigh
 port_part w state serial port there =
@@ -59,7 +59,7 @@ port_part w state serial port there =
     omega (arith, taken)
 
 -- a live port changes, and its rights don't grow
-changed_none : (q : ℕ) (state : State) (serial : ℕ) (change : PortState → PortState) (port : PortState)
+changed_none : (q : ℕ) (state : Ipc) (serial : ℕ) (change : PortState → PortState) (port : PortState)
     → finmap.get state.ports serial ≡ Some port → state_weigh (any_of q) state ≡ 0
     → port_weigh (any_of q) serial (change port) ≤ port_weigh (any_of q) serial port
     → state_weigh (any_of q) (with_port state serial change) ≡ 0
@@ -72,7 +72,7 @@ changed_none q state serial change port there none less =
       less,
     )
 
-pub dead_before : (state : State) (serial q : ℕ) (change : PortState → PortState)
+pub dead_before : (state : Ipc) (serial q : ℕ) (change : PortState → PortState)
     → lives (with_port state serial change) q ≡ false → lives state q ≡ false
 dead_before state serial q change dead = elim (lives state q) as (λ (b : Bool). lives state q ≡ b → b ≡ false) [
   | true ↦ λ (live : _). absurd (cc (sym (still_lives state serial q change live) ∙ dead))
@@ -80,7 +80,7 @@ dead_before state serial q change dead = elim (lives state q) as (λ (b : Bool).
 ] refl
 
 -- a message that carries no right to the port is queued
-queued_none : (q : ℕ) (state : State) (serial : ℕ) (message : Message) → lives state q ≡ false
+queued_none : (q : ℕ) (state : Ipc) (serial : ℕ) (message : Message) → lives state q ≡ false
     → state_weigh (any_of q) state ≡ 0
     → reply_weigh (any_of q) message.reply + weigh (carried_weigh (any_of q)) message.rights ≡ 0
     → state_weigh (any_of q) (queued state serial message) ≡ 0
@@ -108,7 +108,7 @@ notice_carries w target (notice.NoSenders count) waits = refl
 notice_carries w target notice.SendOnce waits = refl
 notice_carries w target (notice.DeadName name) waits = refl
 
-notified_leaves : (state : State) (target : ℕ) (what : Notice) → IsWaiting (notify target what) → NoneDangles state
+notified_leaves : (state : Ipc) (target : ℕ) (what : Notice) → IsWaiting (notify target what) → NoneDangles state
     → NoneDangles (notified state target what)
 notified_leaves state target what waits none q dead =
     let before : lives state q ≡ false =
@@ -117,14 +117,14 @@ notified_leaves state target what waits none q dead =
     queued_none q state target (notice_message what) before (none q before)
     (notice_carries (any_of q) target what waits)
 
-changed_leaves : (state : State) (serial : ℕ) (change : PortState → PortState) (port : PortState)
+changed_leaves : (state : Ipc) (serial : ℕ) (change : PortState → PortState) (port : PortState)
     → finmap.get state.ports serial ≡ Some port
     → ((w : Weight) → port_weigh w serial (change port) ≤ port_weigh w serial port) → NoneDangles state
     → NoneDangles (with_port state serial change)
 changed_leaves state serial change port there less none q dead =
     changed_none q state serial change port there (none q (dead_before state serial q change dead)) (less (any_of q))
 
-no_senders_leaves : (state : State) (serial : ℕ) (port : PortState) (target : Option ℕ)
+no_senders_leaves : (state : Ipc) (serial : ℕ) (port : PortState) (target : Option ℕ)
     → finmap.get state.ports serial ≡ Some port → NoneDangles state
     → NoneDangles (notified_no_senders state serial port target)
 no_senders_leaves state serial port None there none = none
@@ -135,10 +135,10 @@ no_senders_leaves state serial port (Some target) there none =
     (λ (w : Weight). omega arith) none)
 
 -- a receive right in a notice is to a live port
-sent_leaves : (state : State) (serial target : ℕ) (port : PortState) → finmap.get state.ports serial ≡ Some port
+sent_leaves : (state : Ipc) (serial target : ℕ) (port : PortState) → finmap.get state.ports serial ≡ Some port
     → NoneDangles state → NoneDangles (sent_to_target state serial target)
 sent_leaves state serial target port there none q dead =
-    let moved : State = with_port state serial moved_out in
+    let moved : Ipc = with_port state serial moved_out in
     let message : Message = notice_message (notice.PortDestroyed serial) in
     let gone : lives moved q ≡ false =
     dead_before moved target q (λ (p : PortState). record p { messages = p.messages ++ message ∷ [] }) dead in
@@ -289,7 +289,7 @@ pub left_apart : {X : Type 0} (m : FinMap nat_cmp X) (k q : ℕ) (x : X) → fin
 left_apart m k q x there same =
     absurd (cc (sym (get-gone m k) ∙ ap (finmap.get (finmap.remove m k)) (sym same) ∙ there))
 
-gone_after_death : (state : State) (serial : ℕ) → state_weigh (any_of serial) (after_death state serial) ≡ 0
+gone_after_death : (state : Ipc) (serial : ℕ) → state_weigh (any_of serial) (after_death state serial) ≡ 0
 unfolding state_weigh
 gone_after_death state serial =
     let w : Weight = any_of serial in
@@ -375,7 +375,7 @@ port_fewer w serial queue port =
           (message_fewer w serial queue) port.messages,
     )
 
-fewer_after_death : (w : Weight) (state : State) (serial : ℕ)
+fewer_after_death : (w : Weight) (state : Ipc) (serial : ℕ)
     → state_weigh w (after_death state serial) ≤ state_weigh w state
 unfolding state_weigh
 fewer_after_death w state serial =
@@ -404,7 +404,7 @@ mapped_dead : (change : PortState → PortState) (o : Option PortState) → is_s
 mapped_dead change None dead = refl
 mapped_dead change (Some port) dead = dead
 
-death_leaves : (state : State) (serial : ℕ) → NoneDangles state → NoneDangles (after_death state serial)
+death_leaves : (state : Ipc) (serial : ℕ) → NoneDangles state → NoneDangles (after_death state serial)
 death_leaves state serial none q dead =
     elim (number_decided q serial) as (λ _. state_weigh (any_of q) (after_death state serial) ≡ 0) [
       | inl apart ↦
@@ -417,7 +417,7 @@ death_leaves state serial none q dead =
           (gone_after_death state serial)
     ]
 
-receive_leaves : (state : State) (serial : ℕ) (port : PortState) (target : Option ℕ)
+receive_leaves : (state : Ipc) (serial : ℕ) (port : PortState) (target : Option ℕ)
     → finmap.get state.ports serial ≡ Some port → NoneDangles state
     → NoneDangles (receive_released_to state serial port target).0
 receive_leaves state serial port None there none = death_leaves state serial none
@@ -428,7 +428,7 @@ receive_leaves state serial port (Some target) there none =
       | false ↦ death_leaves state serial none
     ]
 
-release_leaves : (state : State) (serial : ℕ) (port : PortState) (kind : RightKind)
+release_leaves : (state : Ipc) (serial : ℕ) (port : PortState) (kind : RightKind)
     → finmap.get state.ports serial ≡ Some port → NoneDangles state → NoneDangles (released state serial port kind).0
 release_leaves state serial port kind.Send there none =
     elim (send_count state serial == 0)
@@ -442,7 +442,7 @@ release_leaves state serial port kind.Receive there none =
     receive_leaves state serial port port.port_destroyed_target there none
 
 -- No effect leaves a right to a port that isn't live.
-pub effect_leaves : (state : State) (first : Effect) → IsWaiting first → NoneDangles state
+pub effect_leaves : (state : Ipc) (first : Effect) → IsWaiting first → NoneDangles state
     → NoneDangles (effect state first).0
 unfolding effect
 effect_leaves state (release kind serial) waits none =

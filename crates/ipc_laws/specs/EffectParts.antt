@@ -30,11 +30,11 @@ use Rattle.ipc_model.specs.messages.Notices.{Notice, notice_message}
 use Rattle.ipc_model.specs.messages.Notices as notice
 use Rattle.ipc_laws.specs.Others.{number_same, number_decided}
 use Rattle.ipc_model.specs.state.Placed.{send_count}
-use Rattle.ipc_model.specs.state.State.{State, Names, with_port, lives, port_held}
+use Rattle.ipc_model.specs.state.Ipc.{Ipc, Names, with_port, lives, port_held}
 use Rattle.words.specs.Words.{AreBytes, word}
 
 -- the parts of being lawful that don't concern counts of rights or sets
-pub record Parts (state : State) : Type 0 where
+pub record Parts (state : Ipc) : Type 0 where
   pub first_space : (names : Names) × (finmap.get state.spaces 1 ≡ Some names)
   pub spaces : (space : ℕ) (names : Names) → finmap.get state.spaces space ≡ Some names → (0 < space)
       × (space ≤ MAX_SPACES) × LawfulNames names
@@ -45,14 +45,14 @@ pub record Parts (state : State) : Type 0 where
 
 -- a live port changes
 
-pub with_port_there : (state : State) (serial : ℕ) (change : PortState → PortState) (port : PortState)
+pub with_port_there : (state : Ipc) (serial : ℕ) (change : PortState → PortState) (port : PortState)
     → finmap.get state.ports serial ≡ Some port
     → with_port state serial change ≡ record state { ports = finmap.insert state.ports serial (change port) }
 with_port_there state serial change port there =
-    ap (λ (o : Option PortState). elim o as (λ _. State)
+    ap (λ (o : Option PortState). elim o as (λ _. Ipc)
     [ None ↦ state | Some p ↦ record state { ports = finmap.insert state.ports serial (change p) } ]) there
 
-pub inserted_parts : (state : State) (serial : ℕ) (port changed : PortState) → finmap.get state.ports serial ≡ Some port
+pub inserted_parts : (state : Ipc) (serial : ℕ) (port changed : PortState) → finmap.get state.ports serial ≡ Some port
     → LawfulPort changed → Parts state → Parts (record state { ports = finmap.insert state.ports serial changed })
 inserted_parts state serial port changed there lawful parts = record {
   first_space = parts.first_space;
@@ -81,7 +81,7 @@ inserted_parts state serial port changed there lawful parts = record {
   next = parts.next;
 }
 
-pub changed_parts : (state : State) (serial : ℕ) (change : PortState → PortState) (port : PortState)
+pub changed_parts : (state : Ipc) (serial : ℕ) (change : PortState → PortState) (port : PortState)
     → finmap.get state.ports serial ≡ Some port → ((p : PortState) → LawfulPort p → LawfulPort (change p)) → Parts state
     → Parts (with_port state serial change)
 changed_parts state serial change port there keeps parts =
@@ -89,13 +89,13 @@ changed_parts state serial change port there keeps parts =
     (inserted_parts state serial port (change port) there (keeps port (parts.ports serial port there).2) parts)
 
 -- whether the port lives or not
-pub any_changed_parts : (state : State) (serial : ℕ) (change : PortState → PortState)
+pub any_changed_parts : (state : Ipc) (serial : ℕ) (change : PortState → PortState)
     → ((p : PortState) → LawfulPort p → LawfulPort (change p)) → Parts state → Parts (with_port state serial change)
 any_changed_parts state serial change keeps parts =
     elim (finmap.get state.ports serial)
     as (λ (o : Option PortState). finmap.get state.ports serial ≡ o → Parts (with_port state serial change)) [
       | None ↦ λ (none : _). subst Parts
-          (sym (ap (λ (o : Option PortState). elim o as (λ _. State)
+          (sym (ap (λ (o : Option PortState). elim o as (λ _. Ipc)
           [ None ↦ state | Some p ↦ record state { ports = finmap.insert state.ports serial (change p) } ]) none))
           parts
       | Some port ↦ λ (there : _). changed_parts state serial change port there keeps parts
@@ -206,7 +206,7 @@ queued_lawful message lawful port is = record {
   messages = All-push LawfulMessage port.messages message is.messages lawful;
 }
 
-notified_parts : (state : State) (target : ℕ) (what : Notice) → Parts state → Parts (notified state target what)
+notified_parts : (state : Ipc) (target : ℕ) (what : Notice) → Parts state → Parts (notified state target what)
 notified_parts state target what parts =
     any_changed_parts state target
     (λ (p : PortState). record p { messages = p.messages ++ notice_message what ∷ [] })
@@ -229,7 +229,7 @@ mapped_some g None y e = absurd (cc e)
 mapped_some g (Some x) y e = (x, refl, some_same (g x) y e)
 
 -- no name holds the port's receive right
-abbrev pub NotReceived : State → ℕ → Type 0
+abbrev pub NotReceived : Ipc → ℕ → Type 0
 NotReceived state serial =
     (space name : ℕ) (names : Names) (rights : PortRights) → finmap.get state.spaces space ≡ Some names
     → finmap.get names name ≡ Some (Port rights) → rights.port ≡ serial → rights.receive ≡ false
@@ -285,7 +285,7 @@ held_after serial other (SendOnce port target) is =
 held_after serial other Set is = is
 held_after serial other (Dead references) is = is
 
-names_after_death : (state : State) (serial space : ℕ) (names : Names) → NotReceived state serial
+names_after_death : (state : Ipc) (serial space : ℕ) (names : Names) → NotReceived state serial
     → finmap.get state.spaces space ≡ Some names → LawfulNames names
     → LawfulNames (map_values (entry_after_death serial) names)
 names_after_death state serial space names none there lawful = record {
@@ -363,7 +363,7 @@ port_lawful_after serial port lawful = record {
       (λ (k : ℕ) (d : Message) (less : _). message_lawful_after serial _ (lawful.messages k d less));
 }
 
-dead_parts : (state : State) (serial : ℕ) → NotReceived state serial → Parts state → Parts (after_death state serial)
+dead_parts : (state : Ipc) (serial : ℕ) → NotReceived state serial → Parts state → Parts (after_death state serial)
 dead_parts state serial none parts = record {
   first_space = (
     map_values (entry_after_death serial) parts.first_space.0,
@@ -396,7 +396,7 @@ dead_parts state serial none parts = record {
 
 -- one effect
 
-no_senders_parts : (state : State) (serial : ℕ) (port : PortState) (target : Option ℕ) → Parts state
+no_senders_parts : (state : Ipc) (serial : ℕ) (port : PortState) (target : Option ℕ) → Parts state
     → Parts (notified_no_senders state serial port target)
 no_senders_parts state serial port None parts = parts
 no_senders_parts state serial port (Some target) parts =
@@ -419,7 +419,7 @@ moved_lawful p lawful =
       messages = lawful.messages;
     }
 
-receive_parts : (state : State) (serial : ℕ) (port : PortState) (target : Option ℕ) → NotReceived state serial
+receive_parts : (state : Ipc) (serial : ℕ) (port : PortState) (target : Option ℕ) → NotReceived state serial
     → Parts state → Parts (receive_released_to state serial port target).0
 receive_parts state serial port None none parts = dead_parts state serial none parts
 receive_parts state serial port (Some target) none parts =
@@ -430,7 +430,7 @@ receive_parts state serial port (Some target) none parts =
       | false ↦ dead_parts state serial none parts
     ]
 
-release_parts : (state : State) (serial : ℕ) (port : PortState) (what : RightKind)
+release_parts : (state : Ipc) (serial : ℕ) (port : PortState) (what : RightKind)
     → (what ≡ kind.Receive → NotReceived state serial) → Parts state → Parts (released state serial port what).0
 release_parts state serial port kind.Send none parts =
     elim (send_count state serial == 0)
@@ -441,7 +441,7 @@ release_parts state serial port kind.Receive none parts =
     receive_parts state serial port port.port_destroyed_target (none refl) parts
 
 -- An effect keeps these parts lawful, if a receive right that is released stands under no name.
-pub effect_parts : (state : State) (first : Effect)
+pub effect_parts : (state : Ipc) (first : Effect)
     → ((serial : ℕ) (port : PortState) → first ≡ release kind.Receive serial → finmap.get state.ports serial ≡ Some port
     → NotReceived state serial) → Parts state → Parts (effect state first).0
 unfolding effect

@@ -31,23 +31,23 @@ use Rattle.ipc_model.specs.messages.Notices as notice
 use Rattle.ipc_laws.specs.Others.{number_same, number_decided}
 use Rattle.ipc_model.specs.state.Placed.{send_count, same_kind}
 use Rattle.ipc_laws.specs.Ranks.{met_more, one_carrier, few_above, meets_itself, TravelsOnce, no_and}
-use Rattle.ipc_model.specs.state.State.{State, Names, with_port, lives}
+use Rattle.ipc_model.specs.state.Ipc.{Ipc, Names, with_port, lives}
 use Rattle.ipc_laws.specs.Weights.{Weight, target_weigh, place_weigh, carried_weigh, reply_weigh, message_weigh, port_weigh, state_weigh, effect_weigh, receive_of, any_of, count-receive, entry_weigh, names_weigh}
 
 -- with fewer edges the ranks still fit
 
-pub fewer_edges : (old new : State) → ((outer inner : ℕ) → Carries new outer inner → Carries old outer inner)
+pub fewer_edges : (old new : Ipc) → ((outer inner : ℕ) → Carries new outer inner → Carries old outer inner)
     → Acyclic old → Acyclic new
 fewer_edges old new less (rank, grows) =
     (rank, λ (outer inner : ℕ) (carries : Carries new outer inner). grows outer inner (less outer inner carries))
 
 -- a live port changes, and carries nothing more
-pub changed_edges : (state : State) (serial : ℕ) (change : PortState → PortState)
+pub changed_edges : (state : Ipc) (serial : ℕ) (change : PortState → PortState)
     → ((inner : ℕ) (p : PortState) → carries inner (change p) ≡ true → carries inner p ≡ true)
     → (outer inner : ℕ) → Carries (with_port state serial change) outer inner → Carries state outer inner
 changed_edges state serial change less outer inner edge =
     elim (finmap.get state.ports serial) as (λ (o : Option PortState). finmap.get state.ports serial ≡ o
-    → Carries (elim o as (λ _. State)
+    → Carries (elim o as (λ _. Ipc)
     [ None ↦ state | Some p ↦ record state { ports = finmap.insert state.ports serial (change p) } ]) outer inner
     → Carries state outer inner) [
       | None ↦ λ (none : _) (e : _). e
@@ -77,13 +77,13 @@ any_more test (x ∷ xs) y is =
     ] is
 
 -- a message is queued: at most the edges of its receive rights are new
-pub queued_edges : (state : State) (serial : ℕ) (message : Message) (outer inner : ℕ)
+pub queued_edges : (state : Ipc) (serial : ℕ) (message : Message) (outer inner : ℕ)
     → Carries (queued state serial message) outer inner → Carries state outer inner
     ⊎ ((outer ≡ serial) × (list_any (is_receive_right inner) message.rights ≡ true))
 queued_edges state serial message outer inner edge =
     let change : PortState → PortState = λ p. record p { messages = p.messages ++ message ∷ [] } in
     elim (finmap.get state.ports serial) as (λ (o : Option PortState). finmap.get state.ports serial ≡ o
-    → Carries (elim o as (λ _. State)
+    → Carries (elim o as (λ _. Ipc)
     [ None ↦ state | Some p ↦ record state { ports = finmap.insert state.ports serial (change p) } ]) outer inner
     → Carries state outer inner ⊎ ((outer ≡ serial) × (list_any (is_receive_right inner) message.rights ≡ true))) [
       | None ↦ λ (none : _) (e : _). inl e
@@ -115,7 +115,7 @@ notice_edges inner target (notice.NoSenders count) waits e = cc e
 notice_edges inner target notice.SendOnce waits e = cc e
 notice_edges inner target (notice.DeadName name) waits e = cc e
 
-notified_acyclic : (state : State) (target : ℕ) (what : Notice) → IsWaiting (notify target what) → Acyclic state
+notified_acyclic : (state : Ipc) (target : ℕ) (what : Notice) → IsWaiting (notify target what) → Acyclic state
     → Acyclic (notified state target what)
 notified_acyclic state target what waits acyclic =
     fewer_edges state (notified state target what)
@@ -125,7 +125,7 @@ notified_acyclic state target what waits acyclic =
       | inr new ↦ absurd (notice_edges inner target what waits new.1)
     ]) acyclic
 
-no_senders_acyclic : (state : State) (serial : ℕ) (port : PortState) (target : Option ℕ) → Acyclic state
+no_senders_acyclic : (state : Ipc) (serial : ℕ) (port : PortState) (target : Option ℕ) → Acyclic state
     → Acyclic (notified_no_senders state serial port target)
 no_senders_acyclic state serial port None acyclic = acyclic
 no_senders_acyclic state serial port (Some target) acyclic =
@@ -175,7 +175,7 @@ port_edge serial inner port is =
     any_mapped (is_receive_right inner) (right_after_death serial) (right_edge serial inner) m.rights e) port.messages
     is
 
-death_edges : (state : State) (serial outer inner : ℕ) → Carries (after_death state serial) outer inner
+death_edges : (state : Ipc) (serial outer inner : ℕ) → Carries (after_death state serial) outer inner
     → Carries state outer inner
 death_edges state serial outer inner (port, at, is) =
     let was =
@@ -188,14 +188,14 @@ death_edges state serial outer inner (port, at, is) =
 
 -- a receive right goes to the target of its request if it makes no circle: the ports above the target are raised
 
-raise : State → (ℕ → ℕ) → ℕ → ℕ → ℕ → ℕ
+raise : Ipc → (ℕ → ℕ) → ℕ → ℕ → ℕ → ℕ
 raise state rank serial target x = rank x + cond (meets state (finmap.len state.ports) x target) (rank serial + 1) 0
 
 only_one : (b : Bool) → (b || false) ≡ true → b ≡ true
 only_one true e = refl
 only_one false e = e
 
-sent_edges : (state : State) (serial target outer inner : ℕ) → Carries (sent_to_target state serial target) outer inner
+sent_edges : (state : Ipc) (serial target outer inner : ℕ) → Carries (sent_to_target state serial target) outer inner
     → Carries state outer inner ⊎ ((outer ≡ target) × (inner ≡ serial))
 sent_edges state serial target outer inner edge =
     elim (queued_edges (with_port state serial moved_out) target
@@ -206,7 +206,7 @@ sent_edges state serial target outer inner edge =
       | inr new ↦ inr (new.0, sym (number_same serial inner (only_one (serial == inner) new.1)))
     ]
 
-sent_acyclic : (state : State) (serial target : ℕ) → TravelsOnce state → is_circular state serial target ≡ false
+sent_acyclic : (state : Ipc) (serial target : ℕ) → TravelsOnce state → is_circular state serial target ≡ false
     → Acyclic state → Acyclic (sent_to_target state serial target)
 unfolding raise is_circular
 sent_acyclic state serial target once free (rank, grows) =
@@ -316,7 +316,7 @@ entry_less w v less Set = omega arith
 entry_less w v less (Dead references) = omega arith
 
 -- a lighter weight of each right is a lighter weight of the state
-pub state_less : (w v : Weight) → ((k : RightKind) (s : ℕ) → w k s ≤ v k s) → (state : State)
+pub state_less : (w v : Weight) → ((k : RightKind) (s : ℕ) → w k s ≤ v k s) → (state : Ipc)
     → state_weigh w state ≤ state_weigh v state
 unfolding state_weigh
 state_less w v less state =
@@ -328,11 +328,11 @@ state_less w v less state =
           (λ (e : ℕ × Entry). entry_less w v less e.1) (finmap.entries s.1)) (finmap.entries state.spaces),
     )
 
-pub ports_in_state : (w : Weight) (state : State) → total (port_weigh w) state.ports ≤ state_weigh w state
+pub ports_in_state : (w : Weight) (state : Ipc) → total (port_weigh w) state.ports ≤ state_weigh w state
 unfolding state_weigh
 ports_in_state w state = omega arith
 
-pub travels_once : (state : State) (effects : List Effect) → LawfulBut state effects → TravelsOnce state
+pub travels_once : (state : Ipc) (effects : List Effect) → LawfulBut state effects → TravelsOnce state
 travels_once state effects lawful q =
     elim (lives state q) as (λ (b : Bool). lives state q ≡ b → total (port_weigh (receive_of q)) state.ports ≤ 1) [
       | true ↦ λ (live : _).
@@ -354,7 +354,7 @@ not_false : (b : Bool) → not b ≡ true → b ≡ false
 not_false true e = absurd (cc e)
 not_false false e = refl
 
-receive_acyclic : (state : State) (serial : ℕ) (port : PortState) (target : Option ℕ) → TravelsOnce state
+receive_acyclic : (state : Ipc) (serial : ℕ) (port : PortState) (target : Option ℕ) → TravelsOnce state
     → Acyclic state → Acyclic (receive_released_to state serial port target).0
 receive_acyclic state serial port None once acyclic =
     fewer_edges state (after_death state serial) (death_edges state serial) acyclic
@@ -371,7 +371,7 @@ receive_acyclic state serial port (Some target) once acyclic =
       | false ↦ fewer_edges state (after_death state serial) (death_edges state serial) acyclic
     ]
 
-released_acyclic : (state : State) (serial : ℕ) (port : PortState) (what : RightKind) → TravelsOnce state
+released_acyclic : (state : Ipc) (serial : ℕ) (port : PortState) (what : RightKind) → TravelsOnce state
     → Acyclic state → Acyclic (released state serial port what).0
 released_acyclic state serial port kind.Send once acyclic =
     elim (send_count state serial == 0)
@@ -381,7 +381,7 @@ released_acyclic state serial port kind.SendOnce once acyclic = notified_acyclic
 released_acyclic state serial port kind.Receive once acyclic =
     receive_acyclic state serial port port.port_destroyed_target once acyclic
 
-effect_acyclic : (state : State) (first : Effect) → IsWaiting first → TravelsOnce state → Acyclic state
+effect_acyclic : (state : Ipc) (first : Effect) → IsWaiting first → TravelsOnce state → Acyclic state
     → Acyclic (effect state first).0
 unfolding effect
 effect_acyclic state (release what serial) waits once acyclic =
@@ -392,7 +392,7 @@ effect_acyclic state (notify target what) waits once acyclic = notified_acyclic 
 -- Each effect keeps a lawful state acyclic.
 abbrev pub EffectsKeepAcyclic : Type 0
 EffectsKeepAcyclic =
-    (state : State) (first : Effect) (rest : List Effect) → LawfulBut state (first ∷ rest) → Acyclic state
+    (state : Ipc) (first : Effect) (rest : List Effect) → LawfulBut state (first ∷ rest) → Acyclic state
     → Acyclic (effect state first).0
 
 pub effects_keep_acyclic : EffectsKeepAcyclic
@@ -402,7 +402,7 @@ effects_keep_acyclic state first rest lawful acyclic =
 -- So what effects settle in is lawful and acyclic.
 abbrev pub SettledIsLawful : Type 0
 SettledIsLawful =
-    (state : State) (effects : List Effect) (end : State) → LawfulBut state effects → Acyclic state
+    (state : Ipc) (effects : List Effect) (end : Ipc) → LawfulBut state effects → Acyclic state
     → Settles state effects end → Lawful end × Acyclic end
 
 pub settled_is_lawful : SettledIsLawful

@@ -22,11 +22,11 @@ use Rattle.ipc_model.specs.messages.Notices.{Notice, notice_message}
 use Rattle.ipc_model.specs.messages.Notices as notice
 use Rattle.ipc_laws.specs.Others.{number_same, number_decided, after_death_dead}
 use Rattle.ipc_model.specs.state.Placed.{send_count}
-use Rattle.ipc_model.specs.state.State.{State, Names, with_port, lives, request_of}
+use Rattle.ipc_model.specs.state.Ipc.{Ipc, Names, with_port, lives, request_of}
 use Rattle.ipc_laws.specs.Weights.{Weight, target_weigh, entry_weigh, place_weigh, carried_weigh, reply_weigh, message_weigh, port_weigh, names_weigh, state_weigh, effect_weigh, receive_of}
 
 -- a change of a live port
-pub with_port_weigh : (w : Weight) (state : State) (serial : ℕ) (change : PortState → PortState) (port : PortState)
+pub with_port_weigh : (w : Weight) (state : Ipc) (serial : ℕ) (change : PortState → PortState) (port : PortState)
     → finmap.get state.ports serial ≡ Some port
     → state_weigh w (with_port state serial change) + port_weigh w serial port
     ≡ state_weigh w state + port_weigh w serial (change port)
@@ -38,23 +38,23 @@ with_port_weigh w state serial change port there =
     (port_weigh w) serial o ≡ total (port_weigh w) state.ports + port_weigh w serial (change port)) there
     (total-insert (port_weigh w) state.ports serial (change port)) in
     let is : with_port state serial change ≡ record state { ports = finmap.insert state.ports serial (change port) } =
-    ap (λ (o : Option PortState). elim o as (λ _. State)
+    ap (λ (o : Option PortState). elim o as (λ _. Ipc)
     [ None ↦ state | Some p ↦ record state { ports = finmap.insert state.ports serial (change p) } ]) there in
     omega (
       arith,
       before,
-      ap (λ (s : State). total
+      ap (λ (s : Ipc). total
           (λ space names. names_weigh w names) s.spaces + total (port_weigh w) s.ports) is,
     )
 
-pub no_port : (state : State) (serial : ℕ) (change : PortState → PortState) → finmap.get state.ports serial ≡ None
+pub no_port : (state : Ipc) (serial : ℕ) (change : PortState → PortState) → finmap.get state.ports serial ≡ None
     → with_port state serial change ≡ state
 no_port state serial change none =
-    ap (λ (o : Option PortState). elim o as (λ _. State)
+    ap (λ (o : Option PortState). elim o as (λ _. Ipc)
     [ None ↦ state | Some p ↦ record state { ports = finmap.insert state.ports serial (change p) } ]) none
 
 -- a message at the end of a live port's queue
-pub queued_weigh : (w : Weight) (state : State) (serial : ℕ) (port : PortState) (message : Message)
+pub queued_weigh : (w : Weight) (state : Ipc) (serial : ℕ) (port : PortState) (message : Message)
     → finmap.get state.ports serial ≡ Some port
     → state_weigh w (queued state serial message) ≡ state_weigh w state + message_weigh w serial message
 queued_weigh w state serial port message there =
@@ -80,7 +80,7 @@ notice_receive q target notice.SendOnce waits = refl
 notice_receive q target (notice.DeadName name) waits = refl
 
 -- a message that carries no receive right changes no count of them, whether its port lives or not
-queued_receive : (q : ℕ) (state : State) (serial : ℕ) (message : Message)
+queued_receive : (q : ℕ) (state : Ipc) (serial : ℕ) (message : Message)
     → message_weigh (receive_of q) serial message ≡ 0
     → state_weigh (receive_of q) (queued state serial message) ≡ state_weigh (receive_of q) state
 queued_receive q state serial message none =
@@ -92,12 +92,12 @@ queued_receive q state serial message none =
       | Some port ↦ λ (there : _). omega (arith, none, queued_weigh (receive_of q) state serial port message there)
     ] refl
 
-no_senders_receive : (q : ℕ) (state : State) (serial : ℕ) (port : PortState) (target : Option ℕ)
+no_senders_receive : (q : ℕ) (state : Ipc) (serial : ℕ) (port : PortState) (target : Option ℕ)
     → finmap.get state.ports serial ≡ Some port
     → state_weigh (receive_of q) (notified_no_senders state serial port target) ≡ state_weigh (receive_of q) state
 no_senders_receive q state serial port None there = refl
 no_senders_receive q state serial port (Some target) there =
-    let taken : State = with_port state serial (λ (p : PortState). record p { no_senders_target = None }) in
+    let taken : Ipc = with_port state serial (λ (p : PortState). record p { no_senders_target = None }) in
     omega (
       arith,
       queued_receive q taken target (notice_message (notice.NoSenders port.make_send_count)) refl,
@@ -241,7 +241,7 @@ dead_name_receive q serial name entry =
       | false ↦ refl
     ]
 
-dead_names_receive : (q : ℕ) (state : State) (serial : ℕ)
+dead_names_receive : (q : ℕ) (state : Ipc) (serial : ℕ)
     → weigh (effect_weigh (receive_of q)) (dead_name_notices state serial) ≡ 0
 dead_names_receive q state serial =
     let in_space : ℕ × Names → List Effect =
@@ -258,7 +258,7 @@ target_release_receive : (q : ℕ) (target : Option ℕ)
 target_release_receive q None = refl
 target_release_receive q (Some serial) = refl
 
-death_receive : (q : ℕ) (state : State) (serial : ℕ) (port : PortState) → finmap.get state.ports serial ≡ Some port
+death_receive : (q : ℕ) (state : Ipc) (serial : ℕ) (port : PortState) → finmap.get state.ports serial ≡ Some port
     → (serial == q) ≡ false
     → state_weigh (receive_of q) (after_death state serial) + weigh (effect_weigh (receive_of q))
     (effects_of_death state serial port) ≡ state_weigh (receive_of q) state
@@ -306,7 +306,7 @@ death_receive q state serial port there apart =
     )
 
 -- a receive right that goes to the target of a request
-pub lives_some : (state : State) (serial : ℕ) → lives state serial ≡ true → (port : PortState)
+pub lives_some : (state : Ipc) (serial : ℕ) → lives state serial ≡ true → (port : PortState)
     × (finmap.get state.ports serial ≡ Some port)
 lives_some state serial live =
     elim (finmap.get state.ports serial)
@@ -315,12 +315,12 @@ lives_some state serial live =
       | Some port ↦ λ (e : _). (port, refl)
     ] live
 
-pub still_lives : (state : State) (serial other : ℕ) (change : PortState → PortState) → lives state other ≡ true
+pub still_lives : (state : Ipc) (serial other : ℕ) (change : PortState → PortState) → lives state other ≡ true
     → lives (with_port state serial change) other ≡ true
 still_lives state serial other change live =
     elim (finmap.get state.ports serial)
     as (λ (o : Option PortState). lives
-    (elim o as (λ _. State) [
+    (elim o as (λ _. Ipc) [
       | None ↦ state
       | Some p ↦
           record state { ports = finmap.insert state.ports serial (change p) }
@@ -337,12 +337,12 @@ still_lives state serial other change live =
 abbrev pub moved_out : PortState → PortState
 moved_out p = record p { set = None; sequence_number = 0; make_send_count = 0; port_destroyed_target = None }
 
-sent_receive : (q : ℕ) (state : State) (serial target : ℕ) (port : PortState)
+sent_receive : (q : ℕ) (state : Ipc) (serial target : ℕ) (port : PortState)
     → finmap.get state.ports serial ≡ Some port → lives state target ≡ true
     → state_weigh (receive_of q) (sent_to_target state serial target)
     ≡ state_weigh (receive_of q) state + receive_of q kind.Receive serial
 sent_receive q state serial target port there live =
-    let moved : State = with_port state serial moved_out in
+    let moved : Ipc = with_port state serial moved_out in
     let at : _ = lives_some moved target (still_lives state serial target moved_out live) in
     omega (
       arith,
@@ -352,7 +352,7 @@ sent_receive q state serial target port there live =
     )
 
 -- two ports of which one is live and the other isn't
-apart_by_life : (state : State) (serial q : ℕ) → lives state serial ≡ false → lives state q ≡ true
+apart_by_life : (state : Ipc) (serial q : ℕ) → lives state serial ≡ false → lives state q ≡ true
     → (serial == q) ≡ false
 apart_by_life state serial q dead live = elim (serial == q) as (λ (b : Bool). (serial == q) ≡ b → b ≡ false) [
   | true ↦ λ (e : _). absurd (cc (sym dead ∙ ap (lives state) (number_same serial q e) ∙ live))
@@ -360,10 +360,10 @@ apart_by_life state serial q dead live = elim (serial == q) as (λ (b : Bool). (
 ] refl
 
 -- what an outcome weighs, with the effects that it adds
-abbrev pub outcome_weigh : Weight → State × List Effect → ℕ
+abbrev pub outcome_weigh : Weight → Ipc × List Effect → ℕ
 outcome_weigh w outcome = state_weigh w outcome.0 + weigh (effect_weigh w) outcome.1
 
-died_receive : (q : ℕ) (state : State) (serial : ℕ) (port : PortState) → finmap.get state.ports serial ≡ Some port
+died_receive : (q : ℕ) (state : Ipc) (serial : ℕ) (port : PortState) → finmap.get state.ports serial ≡ Some port
     → lives (after_death state serial) q ≡ true
     → outcome_weigh (receive_of q) (died state serial port)
     ≡ state_weigh (receive_of q) state + receive_of q kind.Receive serial
@@ -372,10 +372,10 @@ died_receive q state serial port there live =
     apart_by_life (after_death state serial) serial q (after_death_dead state serial) live in
     omega (arith, death_receive q state serial port there apart, apart_weighs_nothing q serial kind.Receive apart)
 
-abbrev pub sent_or_died : Bool → State → ℕ → PortState → ℕ → State × List Effect
+abbrev pub sent_or_died : Bool → Ipc → ℕ → PortState → ℕ → Ipc × List Effect
 sent_or_died b state serial port target = if b then (sent_to_target state serial target, []) else died state serial port
 
-receive_released : (q : ℕ) (state : State) (serial : ℕ) (port : PortState) (target : Option ℕ)
+receive_released : (q : ℕ) (state : Ipc) (serial : ℕ) (port : PortState) (target : Option ℕ)
     → finmap.get state.ports serial ≡ Some port → lives (receive_released_to state serial port target).0 q ≡ true
     → outcome_weigh (receive_of q) (receive_released_to state serial port target)
     ≡ state_weigh (receive_of q) state + receive_of q kind.Receive serial
@@ -395,7 +395,7 @@ receive_released q state serial port (Some target) there live =
       | false ↦ λ (alive : _) (live : _). died_receive q state serial port there live
     ] refl live
 
-released_receive : (q : ℕ) (state : State) (serial : ℕ) (port : PortState) (kind : RightKind)
+released_receive : (q : ℕ) (state : Ipc) (serial : ℕ) (port : PortState) (kind : RightKind)
     → finmap.get state.ports serial ≡ Some port → lives (released state serial port kind).0 q ≡ true
     → outcome_weigh (receive_of q) (released state serial port kind)
     ≡ state_weigh (receive_of q) state + receive_of q kind serial
@@ -413,13 +413,13 @@ released_receive q state serial port kind.Receive there live =
     receive_released q state serial port port.port_destroyed_target there live
 
 -- the release of a right to a dead port does nothing, and weighs nothing for a live port
-dead_release : (q : ℕ) (state : State) (serial : ℕ) (kind : RightKind) → finmap.get state.ports serial ≡ None
+dead_release : (q : ℕ) (state : Ipc) (serial : ℕ) (kind : RightKind) → finmap.get state.ports serial ≡ None
     → lives state q ≡ true → receive_of q kind serial ≡ 0
 dead_release q state serial kind none live =
     apart_weighs_nothing q serial kind (apart_by_life state serial q (ap is_some none) live)
 
 -- An effect keeps the receive rights of each port that lives after it: in the state and in the effects that are left.
-pub effect_receive : (q : ℕ) (state : State) (first : Effect) → IsWaiting first → lives (effect state first).0 q ≡ true
+pub effect_receive : (q : ℕ) (state : Ipc) (first : Effect) → IsWaiting first → lives (effect state first).0 q ≡ true
     → outcome_weigh (receive_of q) (effect state first)
     ≡ state_weigh (receive_of q) state + effect_weigh (receive_of q) first
 unfolding effect

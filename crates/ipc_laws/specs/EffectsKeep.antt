@@ -27,7 +27,7 @@ use Rattle.ipc_model.specs.messages.Notices.{Notice, notice_message}
 use Rattle.ipc_model.specs.messages.Notices as notice
 use Rattle.ipc_laws.specs.Others.{number_same, number_decided, effect_passes}
 use Rattle.ipc_model.specs.state.Placed.{send_count}
-use Rattle.ipc_model.specs.state.State.{State, Names, with_port, lives, received_port, request_of}
+use Rattle.ipc_model.specs.state.Ipc.{Ipc, Names, with_port, lives, received_port, request_of}
 use Rattle.ipc_laws.specs.Weights.{Weight, entry_weigh, names_weigh, state_weigh, effect_weigh, receive_of, count-receive, count-any}
 
 -- what is added waits
@@ -69,7 +69,7 @@ target_waits : (target : Option ℕ) → AllWaiting (release_of_target target)
 target_waits None = tt
 target_waits (Some serial) = (tt, tt)
 
-death_waits : (state : State) (serial : ℕ) (port : PortState) → AllWaiting (effects_of_death state serial port)
+death_waits : (state : Ipc) (serial : ℕ) (port : PortState) → AllWaiting (effects_of_death state serial port)
 death_waits state serial port =
     waiting-append (flat_map releases_of port.messages) _ (waiting-flat_map releases_of port.messages releases_wait)
     (waiting-append (dead_name_notices state serial) (release_of_target port.no_senders_target)
@@ -78,7 +78,7 @@ death_waits state serial port =
     (λ (e : ℕ × Entry). entry_waits serial e.0 e.1)))
     (target_waits port.no_senders_target))
 
-receive_waits : (state : State) (serial : ℕ) (port : PortState) (target : Option ℕ)
+receive_waits : (state : Ipc) (serial : ℕ) (port : PortState) (target : Option ℕ)
     → AllWaiting (receive_released_to state serial port target).1
 receive_waits state serial port None = death_waits state serial port
 receive_waits state serial port (Some target) =
@@ -86,13 +86,13 @@ receive_waits state serial port (Some target) =
     as (λ (b : Bool). AllWaiting (sent_or_died b state serial port target).1)
     [ true ↦ tt | false ↦ death_waits state serial port ]
 
-released_waits : (state : State) (serial : ℕ) (port : PortState) (what : RightKind)
+released_waits : (state : Ipc) (serial : ℕ) (port : PortState) (what : RightKind)
     → AllWaiting (released state serial port what).1
 released_waits state serial port kind.Send = tt
 released_waits state serial port kind.SendOnce = tt
 released_waits state serial port kind.Receive = receive_waits state serial port port.port_destroyed_target
 
-effect_waits : (state : State) (first : Effect) → AllWaiting (effect state first).1
+effect_waits : (state : Ipc) (first : Effect) → AllWaiting (effect state first).1
 unfolding effect
 effect_waits state (release what serial) =
     elim (finmap.get state.ports serial)
@@ -102,7 +102,7 @@ effect_waits state (notify target what) = tt
 
 -- a receive right that is released stands under no name
 
-pub entry_part : (w : Weight) (state : State) (space name : ℕ) (names : Names) (entry : Entry)
+pub entry_part : (w : Weight) (state : Ipc) (space name : ℕ) (names : Names) (entry : Entry)
     → finmap.get state.spaces space ≡ Some names → finmap.get names name ≡ Some entry
     → entry_weigh w entry ≤ state_weigh w state
 unfolding state_weigh
@@ -129,7 +129,7 @@ receive_counts q rights is holds =
     ∙ own_weight q in
     omega (arith, weighs)
 
-pub not_received : (state : State) (serial : ℕ) → state_weigh (receive_of serial) state ≡ 0 → NotReceived state serial
+pub not_received : (state : Ipc) (serial : ℕ) → state_weigh (receive_of serial) state ≡ 0 → NotReceived state serial
 not_received state serial none space name names rights there at is =
     elim rights.receive as (λ (b : Bool). rights.receive ≡ b → b ≡ false) [
       | true ↦ λ (holds : _). absurd
@@ -144,7 +144,7 @@ not_received state serial none space name names rights there at is =
 
 -- sets: a member is held in its set's space, or its receive right waits
 
-abbrev pub Members : State → List Effect → Type 0
+abbrev pub Members : Ipc → List Effect → Type 0
 Members state effects =
     (serial set : ℕ) (port : PortState) → finmap.get state.ports serial ≡ Some port → port.set ≡ Some set
     → IsHeldAlongsideSet state serial set ⊎ IsReleased effects serial
@@ -159,7 +159,7 @@ still_contains x (y ∷ xs) ys (zero, less, is) = (zero, omega arith, is)
 still_contains x (y ∷ xs) ys (suc k, less, is) =
     let later = still_contains x xs ys (k, omega (arith, less), is) in (suc later.0, omega (arith, later.1), later.2)
 
-more_effects : (state : State) (rest added : List Effect) → Members state rest → Members state (rest ++ added)
+more_effects : (state : Ipc) (rest added : List Effect) → Members state rest → Members state (rest ++ added)
 more_effects state rest added members serial set port there is =
     elim (members serial set port there is)
     as (λ _. IsHeldAlongsideSet state serial set ⊎ IsReleased (rest ++ added) serial) [
@@ -168,7 +168,7 @@ more_effects state rest added members serial set port there is =
     ]
 
 -- an effect that isn't the release of a receive right is done
-without_first : (state : State) (first : Effect) (rest : List Effect)
+without_first : (state : Ipc) (first : Effect) (rest : List Effect)
     → ((serial : ℕ) → first ≡ release kind.Receive serial → ⊥) → Members state (first ∷ rest) → Members state rest
 without_first state first rest other members serial set port there is =
     elim (members serial set port there is) as (λ _. IsHeldAlongsideSet state serial set ⊎ IsReleased rest serial) [
@@ -181,12 +181,12 @@ without_first state first rest other members serial set port there is =
     ]
 
 -- what a port keeps changes, except its set
-port_members : (state : State) (serial : ℕ) (change : PortState → PortState) (effects : List Effect)
+port_members : (state : Ipc) (serial : ℕ) (change : PortState → PortState) (effects : List Effect)
     → ((p : PortState) → (change p).set ≡ p.set) → Members state effects
     → Members (with_port state serial change) effects
 port_members state serial change effects keeps members =
     elim (finmap.get state.ports serial) as (λ (o : Option PortState). finmap.get state.ports serial ≡ o
-    → Members (elim o as (λ _. State)
+    → Members (elim o as (λ _. Ipc)
     [ None ↦ state | Some p ↦ record state { ports = finmap.insert state.ports serial (change p) } ]) effects) [
       | None ↦ λ (none : _). members
       | Some p ↦ λ (there : _) (other set : ℕ) (port : PortState) (at : _) (is : _). elim (number_decided other serial)
@@ -201,13 +201,13 @@ port_members state serial change effects keeps members =
           ]
     ] refl
 
-notified_members : (state : State) (target : ℕ) (what : Notice) (effects : List Effect) → Members state effects
+notified_members : (state : Ipc) (target : ℕ) (what : Notice) (effects : List Effect) → Members state effects
     → Members (notified state target what) effects
 notified_members state target what effects members =
     port_members state target (λ (p : PortState). record p { messages = p.messages ++ notice_message what ∷ [] })
     effects (λ (p : PortState). refl) members
 
-no_senders_members : (state : State) (serial : ℕ) (port : PortState) (target : Option ℕ) (effects : List Effect)
+no_senders_members : (state : Ipc) (serial : ℕ) (port : PortState) (target : Option ℕ) (effects : List Effect)
     → Members state effects → Members (notified_no_senders state serial port target) effects
 no_senders_members state serial port None effects members = members
 no_senders_members state serial port (Some target) effects members =
@@ -243,15 +243,15 @@ unfolding serial_of
 same_serial one other e = ap serial_of e
 
 -- a receive right that is released leaves its set
-moved_members : (state : State) (serial : ℕ) (port : PortState) (rest : List Effect)
+moved_members : (state : Ipc) (serial : ℕ) (port : PortState) (rest : List Effect)
     → finmap.get state.ports serial ≡ Some port → Members state (release kind.Receive serial ∷ rest)
     → Members (with_port state serial moved_out) rest
 moved_members state serial port rest there members =
-    let moved : State = record state { ports = finmap.insert state.ports serial (moved_out port) } in
+    let moved : Ipc = record state { ports = finmap.insert state.ports serial (moved_out port) } in
     let is_moved : with_port state serial moved_out ≡ moved =
-    ap (λ (o : Option PortState). elim o as (λ _. State)
+    ap (λ (o : Option PortState). elim o as (λ _. Ipc)
     [ None ↦ state | Some p ↦ record state { ports = finmap.insert state.ports serial (moved_out p) } ]) there in
-    subst (λ (s : State). Members s rest) (sym is_moved)
+    subst (λ (s : Ipc). Members s rest) (sym is_moved)
     (λ (other set : ℕ) (p : PortState) (at : _) (is : _). elim (number_decided other serial)
     as (λ _. IsHeldAlongsideSet state other set ⊎ IsReleased rest other) [
       | inl apart ↦ elim (members other set p (sym (get-there state.ports serial (moved_out port) other apart) ∙ at) is)
@@ -292,7 +292,7 @@ received_after serial other (SendOnce port target) apart is = absurd (cc is)
 received_after serial other Set apart is = absurd (cc is)
 received_after serial other (Dead references) apart is = absurd (cc is)
 
-held_after_death : (state : State) (serial other set : ℕ) → other ≢ serial → IsHeldAlongsideSet state other set
+held_after_death : (state : Ipc) (serial other set : ℕ) → other ≢ serial → IsHeldAlongsideSet state other set
     → IsHeldAlongsideSet (after_death state serial) other set
 held_after_death state serial other set apart (space, names, name, entry, there, at, is, alongside) = (
   space,
@@ -306,7 +306,7 @@ held_after_death state serial other set apart (space, names, name, entry, there,
   get-map_values (entry_after_death serial) names set ∙ ap (option_map (entry_after_death serial)) alongside,
 )
 
-died_members : (state : State) (serial : ℕ) (rest : List Effect) → Members state (release kind.Receive serial ∷ rest)
+died_members : (state : Ipc) (serial : ℕ) (rest : List Effect) → Members state (release kind.Receive serial ∷ rest)
     → Members (after_death state serial) rest
 died_members state serial rest members other set port at is =
     let was =
@@ -324,7 +324,7 @@ died_members state serial rest members other set port at is =
           ]
     ]
 
-receive_members : (state : State) (serial : ℕ) (port : PortState) (target : Option ℕ) (rest : List Effect)
+receive_members : (state : Ipc) (serial : ℕ) (port : PortState) (target : Option ℕ) (rest : List Effect)
     → finmap.get state.ports serial ≡ Some port → Members state (release kind.Receive serial ∷ rest)
     → Members (receive_released_to state serial port target).0 rest
 receive_members state serial port None rest there members = died_members state serial rest members
@@ -337,7 +337,7 @@ receive_members state serial port (Some target) rest there members =
     ]
 
 -- the release of a dead port's receive right changes nothing
-dead_members : (state : State) (what : RightKind) (serial : ℕ) (rest : List Effect)
+dead_members : (state : Ipc) (what : RightKind) (serial : ℕ) (rest : List Effect)
     → finmap.get state.ports serial ≡ None → Members state (release what serial ∷ rest) → Members state rest
 unfolding serial_of
 dead_members state what serial rest none members other set port there is =
@@ -350,7 +350,7 @@ dead_members state what serial rest none members other set port there is =
           ]
     ]
 
-released_members : (state : State) (serial : ℕ) (port : PortState) (what : RightKind) (rest : List Effect)
+released_members : (state : Ipc) (serial : ℕ) (port : PortState) (what : RightKind) (rest : List Effect)
     → finmap.get state.ports serial ≡ Some port → Members state (release what serial ∷ rest)
     → Members (released state serial port what).0 rest
 released_members state serial port kind.Send rest there members =
@@ -370,7 +370,7 @@ released_members state serial port kind.SendOnce rest there members =
 released_members state serial port kind.Receive rest there members =
     receive_members state serial port port.port_destroyed_target rest there members
 
-effect_members : (state : State) (first : Effect) (rest : List Effect) → Members state (first ∷ rest)
+effect_members : (state : Ipc) (first : Effect) (rest : List Effect) → Members state (first ∷ rest)
     → Members (effect state first).0 rest
 unfolding effect
 effect_members state (release what serial) rest members =
@@ -387,7 +387,7 @@ effect_members state (notify target what) rest members =
 
 -- the parts together
 
-pub parts_of : (state : State) (effects : List Effect) → LawfulBut state effects → Parts state
+pub parts_of : (state : Ipc) (effects : List Effect) → LawfulBut state effects → Parts state
 parts_of state effects lawful =
     record {
       first_space = lawful.first_space;
@@ -398,7 +398,7 @@ parts_of state effects lawful =
     }
 
 -- the receive right of a live port that is released stands under no name: it is the one that waits
-released_alone : (state : State) (first : Effect) (rest : List Effect) → LawfulBut state (first ∷ rest)
+released_alone : (state : Ipc) (first : Effect) (rest : List Effect) → LawfulBut state (first ∷ rest)
     → (serial : ℕ) (port : PortState) → first ≡ release kind.Receive serial → finmap.get state.ports serial ≡ Some port
     → NotReceived state serial
 released_alone state first rest lawful serial port is there =
@@ -408,16 +408,16 @@ released_alone state first rest lawful serial port is there =
     let own : effect_weigh w first ≡ 1 = ap (effect_weigh w) is ∙ own_weight serial in
     not_received state serial (omega (arith, one, own))
 
-pub dangles_none : (state : State) (effects : List Effect) → LawfulBut state effects → NoneDangles state
+pub dangles_none : (state : Ipc) (effects : List Effect) → LawfulBut state effects → NoneDangles state
 dangles_none state effects lawful q dead = sym (count-any state q) ∙ lawful.live q dead
 
-was_live : (state : State) (first : Effect) (q : ℕ) → lives (effect state first).0 q ≡ true → lives state q ≡ true
+was_live : (state : Ipc) (first : Effect) (q : ℕ) → lives (effect state first).0 q ≡ true → lives state q ≡ true
 was_live state first q live = elim (lives state q) as (λ (b : Bool). lives state q ≡ b → b ≡ true) [
   | true ↦ λ (e : _). refl
   | false ↦ λ (dead : _). absurd (cc (sym live ∙ (effect_passes state first).fewer q dead))
 ] refl
 
-receives_after : (state : State) (first : Effect) (rest : List Effect) → LawfulBut state (first ∷ rest) → (q : ℕ)
+receives_after : (state : Ipc) (first : Effect) (rest : List Effect) → LawfulBut state (first ∷ rest) → (q : ℕ)
     → lives (effect state first).0 q ≡ true
     → count_with kind.Receive (effect state first).0 (rest ++ (effect state first).1) q ≡ 1
 receives_after state first rest lawful q live =
@@ -435,7 +435,7 @@ receives_after state first rest lawful q live =
 -- Each effect keeps a state lawful, if the rights that wait count as placed.
 abbrev pub EffectsKeepLawful : Type 0
 EffectsKeepLawful =
-    (state : State) (first : Effect) (rest : List Effect) → LawfulBut state (first ∷ rest)
+    (state : Ipc) (first : Effect) (rest : List Effect) → LawfulBut state (first ∷ rest)
     → LawfulBut (effect state first).0 (rest ++ (effect state first).1)
 
 pub effects_keep_lawful : EffectsKeepLawful

@@ -8,7 +8,9 @@ use Rattle.std.specs.Ordering.{nat_cmp}
 use Rattle.std.specs.FinMap as finmap
 use Rattle.std.specs.FinMap.{FinMap, find, get-entries, entries_sorted, is_sorted, len-entries, len-remove}
 use Rattle.std.specs.FinMap.Entries.{below_all}
-use Rattle.codes.specs.declared.limits.TheConstants.{MAX_SPACES}
+use Rattle.codes.specs.declared.kern_return.KernReturn.TheVariants.{Success, RcvTooLarge}
+use Rattle.codes.specs.declared.limits.TheConstants.{MAX_FRAME_CONTENT, MAX_SPACES}
+use Rattle.codes.specs.declared.name.TheConstants.{MACH_PORT_NULL}
 use Rattle.ipc_model.specs.declared.entry.Entry.{Entry}
 use Rattle.ipc_model.specs.declared.entry.Entry.TheVariants.{Port, SendOnce, Set, Dead}
 use Rattle.ipc_model.specs.declared.message.CarriedRight.{CarriedRight}
@@ -17,18 +19,29 @@ use Rattle.ipc_model.specs.declared.message.PortInMessage.{PortInMessage}
 use Rattle.ipc_model.specs.declared.message.PortInMessage.TheVariants.{Null, Live}
 use Rattle.ipc_model.specs.declared.message.PortInMessage.TheVariants as in_message
 use Rattle.ipc_model.specs.declared.message.RightKind.TheVariants as kind
+use Rattle.ipc_model.specs.declared.plain_call.PlainCall.{PlainCall}
+use Rattle.ipc_model.specs.declared.plain_call.PlainCall.TheVariants as call
+use Rattle.ipc_model.specs.declared.plain_reply.PlainReply.{PlainReply}
 use Rattle.ipc_model.specs.declared.port.PortState.{PortState}
+use Rattle.ipc_model.specs.declared.reply.NumberedReply.{NumberedReply}
+use Rattle.ipc_model.specs.encodings.Encodings.{numbered_encoding}
 use Rattle.ipc_laws.specs.AllocateKeep.{held_weighs}
 use Rattle.ipc_laws.specs.Dangling.{not_equal, later_found, front_of, back_of, left_apart, port_part}
 use Rattle.ipc_laws.specs.EffectWeights.{lives_some}
 use Rattle.ipc_laws.specs.EffectsKeep.{dangles_none, entry_part}
-use Rattle.ipc_laws.specs.ImageLaws.{Encodable, EncodableEntry, EncodableLivePort, EncodableMessage, EncodableNamed, EncodableNames, EncodablePlace, EncodablePort, EncodableReplyRight, EncodableRight, EncodableSet, EncodableSpace, EncodableTarget}
+use Rattle.ipc_laws.specs.ImageLaws.{Encodable, EncodableIpc, EncodableKept, EncodableEntry, EncodableLivePort, EncodableMessage, EncodableNamed, EncodableNames, EncodablePlace, EncodablePort, EncodableReplyRight, EncodableRight, EncodableSet, EncodableSpace, EncodableTarget}
 use Rattle.ipc_model.specs.state.Lawful.{Lawful, LawfulEntry, LawfulMessage, LawfulNames, HoldsPorts, ShortQueues}
+use Rattle.ipc_laws.specs.FrameLengths.{IsWithin, message_length, short_within, wide, within}
 use Rattle.ipc_laws.specs.LawfulLaws.{LawfulAtRest, at_rest}
 use Rattle.ipc_laws.specs.MapLaws.{get-left}
 use Rattle.ipc_laws.specs.MapSums.{weigh, same_key}
+use Rattle.ipc_laws.specs.PortCallLaws.{is_short}
+use Rattle.ipc_laws.specs.RecordedReplies.{HasReply, replies_by_call}
+use Rattle.ipc_laws.specs.RecordedSteps.{length-numbered_reply}
 use Rattle.ipc_laws.specs.ReferencesKeep.{none_released}
-use Rattle.ipc_model.specs.state.State.{State, Names, lives}
+use Rattle.ipc_model.specs.state.Ipc.{Ipc, Names, lives}
+use Rattle.ipc_model.specs.state.LawfulState.{LawfulState, IsKeptReply}
+use Rattle.ipc_model.specs.state.State.{State}
 use Rattle.ipc_laws.specs.Takes.{own_weight}
 use Rattle.ipc_laws.specs.Weights.{Weight, target_weigh, entry_weigh, carried_weigh, reply_weigh, message_weigh, port_weigh, state_weigh, any_of}
 
@@ -75,7 +88,7 @@ few_keys {X} (suc n) m below =
 
 -- a right of a lawful state names a port with a serial that a long word holds
 
-serial_fits : (state : State) (q : ℕ) → LawfulAtRest state → 1 ≤ state_weigh (any_of q) state → (0 < q) × (q < 2 ^ 64)
+serial_fits : (state : Ipc) (q : ℕ) → LawfulAtRest state → 1 ≤ state_weigh (any_of q) state → (0 < q) × (q < 2 ^ 64)
 serial_fits state q lawful weighs = elim (lives state q) as (λ (b : Bool). lives state q ≡ b → (0 < q) × (q < 2 ^ 64)) [
   | true ↦ λ (live : _).
       let at = lives_some state q live in
@@ -84,13 +97,13 @@ serial_fits state q lawful weighs = elim (lives state q) as (λ (b : Bool). live
   | false ↦ λ (dead : _). absurd (omega (arith, dangles_none state [] lawful q dead, weighs))
 ] refl
 
-target_fits : (state : State) (target : Option ℕ) → LawfulAtRest state
+target_fits : (state : Ipc) (target : Option ℕ) → LawfulAtRest state
     → ((w : Weight) → target_weigh w target ≤ state_weigh w state) → EncodableTarget target
 target_fits state None lawful part = tt
 target_fits state (Some serial) lawful part =
     serial_fits state serial lawful (omega (arith, part (any_of serial), own_weight serial kind.SendOnce))
 
-entry_fits : (state : State) (entry : Entry) → LawfulAtRest state → LawfulEntry entry
+entry_fits : (state : Ipc) (entry : Entry) → LawfulAtRest state → LawfulEntry entry
     → ((w : Weight) → entry_weigh w entry ≤ state_weigh w state) → EncodableEntry entry
 entry_fits state (Port rights) lawful fits part = (
   (serial_fits state rights.port lawful
@@ -105,7 +118,7 @@ entry_fits state (SendOnce port target) lawful fits part = (
 entry_fits state Set lawful fits part = tt
 entry_fits state (Dead references) lawful fits part = omega (arith, fits.1)
 
-names_fit : (state : State) (space : ℕ) (names : Names) → LawfulAtRest state
+names_fit : (state : Ipc) (space : ℕ) (names : Names) → LawfulAtRest state
     → finmap.get state.spaces space ≡ Some names → EncodableNames names
 names_fit state space names lawful there =
     let own : LawfulNames names = (lawful.spaces space names there).2 in
@@ -129,7 +142,7 @@ all_parts f P Q bound (x ∷ xs) within each all =
     All-cons Q x xs (each x (λ (w : Weight). omega (arith, within w)) (All-head P x xs all))
     (all_parts f P Q bound xs (λ (w : Weight). omega (arith, within w)) each (All-tail P x xs all))
 
-right_fits : (state : State) (right : CarriedRight) → LawfulAtRest state
+right_fits : (state : Ipc) (right : CarriedRight) → LawfulAtRest state
     → ((w : Weight) → carried_weigh w right ≤ state_weigh w state) → EncodableRight right
 right_fits state right lawful part =
     elim right.port as (λ (p : PortInMessage).
@@ -141,7 +154,7 @@ right_fits state right lawful part =
           (serial_fits state serial lawful (omega (arith, within (any_of serial), own_weight serial right.kind))).1
     ] part
 
-reply_fits : (state : State) (reply : Option CarriedRight) → LawfulAtRest state
+reply_fits : (state : Ipc) (reply : Option CarriedRight) → LawfulAtRest state
     → ((w : Weight) → reply_weigh w reply ≤ state_weigh w state) → EncodableReplyRight reply
 reply_fits state None lawful part = tt
 reply_fits state (Some right) lawful part = right_fits state right lawful part
@@ -162,7 +175,7 @@ unfolding any_right
 all_any [] = All-nil any_right
 all_any (right ∷ rights) = All-cons any_right right rights tt (all_any rights)
 
-message_fits : (state : State) (queue : ℕ) (message : Message) → LawfulAtRest state → LawfulMessage message
+message_fits : (state : Ipc) (queue : ℕ) (message : Message) → LawfulAtRest state → LawfulMessage message
     → ((w : Weight) → message_weigh w queue message ≤ state_weigh w state) → EncodableMessage message
 message_fits state queue message lawful own part = record {
   reply = reply_fits state message.reply lawful (λ (w : Weight). omega (arith, part w));
@@ -176,7 +189,7 @@ message_fits state queue message lawful own part = record {
       (all_any message.rights);
 }
 
-set_fits : (state : State) (serial : ℕ) (port : PortState) (set : Option ℕ) → LawfulAtRest state
+set_fits : (state : Ipc) (serial : ℕ) (port : PortState) (set : Option ℕ) → LawfulAtRest state
     → finmap.get state.ports serial ≡ Some port → port.set ≡ set → EncodableSet set
 set_fits state serial port None lawful at is = tt
 set_fits state serial port (Some set) lawful at is =
@@ -188,7 +201,7 @@ set_fits state serial port (Some set) lawful at is =
       | inr waits ↦ absurd (none_released serial waits)
     ]
 
-port_fits : (state : State) (serial : ℕ) (port : PortState) → LawfulAtRest state → ShortQueues state
+port_fits : (state : Ipc) (serial : ℕ) (port : PortState) → LawfulAtRest state → ShortQueues state
     → finmap.get state.ports serial ≡ Some port → EncodablePort port
 port_fits state serial port lawful short at =
     let own = (lawful.ports serial port at).2 in
@@ -210,11 +223,8 @@ port_fits state serial port lawful short at =
           own.messages;
     }
 
-abbrev pub LawfulIsEncodable : Type 0
-LawfulIsEncodable = (state : State) → Lawful state → ShortQueues state → Encodable state
-
-pub lawful_is_encodable : LawfulIsEncodable
-lawful_is_encodable state lawful short = record {
+ipc_is_encodable : (state : Ipc) → Lawful state → ShortQueues state → EncodableIpc state
+ipc_is_encodable state lawful short = record {
   next = lawful.next.1;
   few_spaces =
       omega (
@@ -235,4 +245,73 @@ lawful_is_encodable state lawful short = record {
         omega (arith, (lawful.ports serial port at).1, lawful.next.1),
         port_fits state serial port (at_rest state lawful) short at,
       ));
+}
+
+-- A reply that stands in a record is short.
+short_reply : (given answer : PlainReply) → answer ≡ given → is_short given ≡ true → IsWithin 32780 answer
+short_reply given answer is short = within 32780 given answer is (wide given (short_within given short))
+
+recorded_short : (c : PlainCall) (answer : PlainReply) → HasReply c answer → IsWithin 32780 answer
+recorded_short (call.Attach space) answer has = absurd has
+recorded_short call.Names answer has = absurd has
+recorded_short (call.Type name) answer has = absurd has
+recorded_short (call.GetRefs name kind) answer has = absurd has
+recorded_short (call.GetReceiveStatus name) answer has = absurd has
+recorded_short (call.GetSetStatus name) answer has = absurd has
+recorded_short (call.Rename from to) answer has = short_reply _ answer has refl
+recorded_short (call.AllocateName kind name) answer has = short_reply _ answer has refl
+recorded_short (call.Allocate kind) answer has = short_reply _ answer has.2 refl
+recorded_short (call.Destroy name) answer has = short_reply _ answer has refl
+recorded_short (call.Deallocate name) answer has = short_reply _ answer has refl
+recorded_short (call.ModRefs name kind delta) answer has = short_reply _ answer has refl
+recorded_short (call.SetQlimit name limit) answer has = short_reply _ answer has refl
+recorded_short (call.SetMscount name count) answer has = short_reply _ answer has refl
+recorded_short (call.SetSeqno name seqno) answer has = short_reply _ answer has refl
+recorded_short (call.MoveMember member after) answer has = short_reply _ answer has refl
+recorded_short (call.RequestNotification name variant sync notify_name disposition) answer has =
+    short_reply _ answer has.2 refl
+recorded_short (call.InsertRight name right_name disposition) answer has = short_reply _ answer has refl
+recorded_short (call.ExtractRight name disposition) answer has = short_reply _ answer has.3 refl
+recorded_short (call.SpaceCreate name disposition) answer has = short_reply _ answer has.4 refl
+recorded_short call.SpaceDestroy answer has = short_reply _ answer has refl
+recorded_short (call.Send message) answer has =
+    within 32780 _ answer has (record { bytes = omega (arith, message_length Success 0 MACH_PORT_NULL []) })
+recorded_short (call.Receive limit large name waited) answer (inl has) =
+    within 32780 _ answer has.answer_is
+    (record {
+      bytes = omega (
+        arith,
+        message_length Success has.size has.member has.message,
+        has.whole,
+        has.has_size.1,
+      );
+    })
+recorded_short (call.Receive limit large name waited) answer (inr has) =
+    within 32780 _ answer has.answer_is
+    (record { bytes = omega (arith, message_length RcvTooLarge has.size has.member []) })
+
+-- what a space keeps fits in a frame
+pub kept_within : (kept : NumberedReply) → IsKeptReply kept → length (numbered_encoding kept) ≤ MAX_FRAME_CONTENT
+kept_within kept is =
+    let short = recorded_short is.call kept.reply ((replies_by_call is.call kept.reply).0 is.reply) in
+    omega (arith, length-numbered_reply kept, short.bytes)
+
+kept_is_encodable : (kept : NumberedReply) → IsKeptReply kept → EncodableKept kept
+kept_is_encodable kept is = record {
+  request = is.request;
+  call = is.call;
+  recorded = is.reply.recorded;
+  fits = is.reply.fits;
+  short = omega (arith, kept_within kept is);
+}
+
+-- A lawful state with short queues is one that its encoding determines.
+abbrev pub LawfulIsEncodable : Type 0
+LawfulIsEncodable = (state : State) → LawfulState state → ShortQueues state.ipc → Encodable state
+
+pub lawful_is_encodable : LawfulIsEncodable
+lawful_is_encodable state lawful short = record {
+  ipc = ipc_is_encodable state.ipc lawful.ipc short;
+  kept = λ (space : ℕ) (answer : NumberedReply) (at : _).
+      let kept = lawful.kept space answer at in (kept.0, kept_is_encodable answer kept.1);
 }

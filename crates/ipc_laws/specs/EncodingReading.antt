@@ -5,17 +5,17 @@ use Rattle.words.specs.Numbers.{little_number}
 use Rattle.codes.specs.KernReturn.{number_of}
 use Rattle.codes.specs.declared.kern_return.KernReturn.{KernReturn}
 use Rattle.codes.specs.declared.kern_return.KernReturn.TheVariants as code
-use Rattle.ipc_model.specs.declared.call.Call.{Call}
-use Rattle.ipc_model.specs.declared.call.Call.TheVariants as call
-use Rattle.ipc_model.specs.declared.call.NamedType.{NamedType}
-use Rattle.ipc_model.specs.declared.call.ReceiveStatus.{ReceiveStatus}
-use Rattle.ipc_model.specs.declared.call.Reply.{Reply}
-use Rattle.ipc_model.specs.declared.call.Reply.TheVariants as reply
+use Rattle.ipc_model.specs.declared.plain_call.PlainCall.{PlainCall}
+use Rattle.ipc_model.specs.declared.plain_call.PlainCall.TheVariants as call
+use Rattle.ipc_model.specs.declared.plain_reply.NamedType.{NamedType}
+use Rattle.ipc_model.specs.declared.plain_reply.ReceiveStatus.{ReceiveStatus}
+use Rattle.ipc_model.specs.declared.plain_reply.PlainReply.{PlainReply}
+use Rattle.ipc_model.specs.declared.plain_reply.PlainReply.TheVariants as reply
 use Rattle.ipc_model.specs.declared.message.RightKind.TheVariants as kind
 use Rattle.ipc_model.specs.messages.Items.{words_of}
-use Rattle.ipc_model.specs.calls.Step.{number_of_call, has_record, is_recorded}
+use Rattle.ipc_model.specs.calls.PlainStep.{number_of_call, has_record, is_recorded}
 use Rattle.ipc_model.specs.state.Lawful.{kind_of_number}
-use Rattle.ipc_model.specs.encodings.Encodings.{arguments_encoding, reply_encoding, status_encoding, number_of_bool, FitsCall, FitsReply}
+use Rattle.ipc_model.specs.encodings.PlainCalls.{arguments_encoding, reply_encoding, status_encoding, number_of_bool, FitsCall, FitsReply}
 use Rattle.words.specs.WordLaws.{little_number-word}
 use Rattle.words.specs.Words.{word}
 
@@ -24,13 +24,13 @@ abbrev word_at : ℕ → List ℕ → ℕ
 word_at i bytes = little_number 4 (drop (4 * i) bytes)
 
 -- a send has option 1, and its message after four words; otherwise it is a receive
-abbrev mach_msg_encoded : List ℕ → Call
+abbrev mach_msg_encoded : List ℕ → PlainCall
 mach_msg_encoded bytes =
     if word_at 0 bytes == 1 then call.Send (drop 16 bytes)
     else call.Receive (word_at 1 bytes) (word_at 0 bytes == 0x802) (word_at 2 bytes) (word_at 3 bytes == 1)
 
 -- the calls that these arguments may encode, by their numbers
-abbrev calls_encoded : List ℕ → List Call
+abbrev calls_encoded : List ℕ → List PlainCall
 calls_encoded bytes =
     call.Attach (word_at 0 bytes)
     ∷ call.Names
@@ -56,16 +56,16 @@ calls_encoded bytes =
     ∷ call.SpaceDestroy
     ∷ []
 
-abbrev call_among : ℕ → List Call → Call
+abbrev call_among : ℕ → List PlainCall → PlainCall
 call_among n [] = call.Names
 call_among zero (c ∷ calls) = c
 call_among (suc n) (c ∷ calls) = call_among n calls
 
-abbrev pub read_call : ℕ → List ℕ → Call
+abbrev pub read_call : ℕ → List ℕ → PlainCall
 read_call number bytes = call_among number (calls_encoded bytes)
 
 -- a call is read back by its number and its arguments
-pub call_back : (c : Call) → FitsCall c → read_call (number_of_call c) (arguments_encoding c) ≡ c
+pub call_back : (c : PlainCall) → FitsCall c → read_call (number_of_call c) (arguments_encoding c) ≡ c
 call_back (call.Attach space) fits = λ i. call.Attach (little_number-word space [] fits i)
 call_back call.Names fits = refl
 call_back (call.Type name) fits = λ i. call.Type (little_number-word name [] fits i)
@@ -122,7 +122,7 @@ call_back (call.SpaceCreate name disposition) fits =
     (little_number-word disposition [] fits.1 i)
 call_back call.SpaceDestroy fits = refl
 
-pub number-fits : (c : Call) → number_of_call c < 2 ^ 32
+pub number-fits : (c : PlainCall) → number_of_call c < 2 ^ 32
 number-fits (call.Attach space) = omega arith
 number-fits call.Names = omega arith
 number-fits (call.Type name) = omega arith
@@ -321,7 +321,7 @@ status_back status fits =
     }
 
 -- the replies that these bytes may encode, by the numbers of their calls, if there are results
-abbrev replies_encoded : List ℕ → List Reply
+abbrev replies_encoded : List ℕ → List PlainReply
 replies_encoded bytes =
     reply.Done 0
     ∷ reply.Names (pairs_of (word_at 2 bytes) (drop 12 bytes))
@@ -346,7 +346,7 @@ replies_encoded bytes =
     ∷ reply.SpaceCreated (word_at 2 bytes) (word_at 3 bytes)
     ∷ []
 
-abbrev reply_among : ℕ → List Reply → Reply
+abbrev reply_among : ℕ → List PlainReply → PlainReply
 reply_among n [] = reply.Done n
 reply_among zero (r ∷ replies) = r
 reply_among (suc n) (r ∷ replies) = reply_among n replies
@@ -355,7 +355,7 @@ abbrev is_nothing : List ℕ → Bool
 is_nothing [] = true
 is_nothing (b ∷ bytes) = false
 
-abbrev pub read_reply : List ℕ → Reply
+abbrev pub read_reply : List ℕ → PlainReply
 read_reply bytes =
     if is_nothing (drop 8 bytes) then reply.Done (word_at 0 bytes)
     else reply_among (word_at 0 bytes) (replies_encoded bytes)
@@ -365,7 +365,7 @@ no_record true is = cc
 no_record false is = cc
 
 -- A reply to a call that has a record is read back by its bytes.
-pub reply_back : (c : Call) (r : Reply) → FitsReply r → has_record c r ≡ true → read_reply (reply_encoding r) ≡ r
+pub reply_back : (c : PlainCall) (r : PlainReply) → FitsReply r → has_record c r ≡ true → read_reply (reply_encoding r) ≡ r
 unfolding reply_encoding
 reply_back c (reply.Refused number code) fits recorded = absurd (no_record (is_recorded c) recorded)
 reply_back c (reply.Done number) fits recorded = ap (λ (n : ℕ). reply.Done n) (little_number-word number (word 0) fits)

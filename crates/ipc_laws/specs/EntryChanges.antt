@@ -12,7 +12,7 @@ use Rattle.ipc_laws.specs.MapLaws.{get-here, get-there, get-gone, get-left}
 use Rattle.ipc_laws.specs.MapSums.{weigh, weight, total-insert, total-remove}
 use Rattle.ipc_laws.specs.NameChanges.{NamesMove}
 use Rattle.ipc_laws.specs.Others.{number_decided}
-use Rattle.ipc_model.specs.state.State.{State, Names, with_names, lives, received_port}
+use Rattle.ipc_model.specs.state.Ipc.{Ipc, Names, with_names, lives, received_port}
 use Rattle.ipc_laws.specs.Weights.{Weight, entry_weigh, names_weigh, effect_weigh, receive_of, any_of}
 
 -- the weight of what stands under a name
@@ -27,7 +27,7 @@ received_under (Some entry) = received_port entry
 
 -- What has to be shown of another entry under a name: rights only move between the entry and effects, no right is new
 -- to a port that isn't live, its receive right stays or waits, and a set stays a set.
-pub record EntryMove (state : State) (space name : ℕ) (names : Names) (before after : Option Entry)
+pub record EntryMove (state : Ipc) (space name : ℕ) (names : Names) (before after : Option Entry)
     (effects later : List Effect) : Type 0 where
   pub there : finmap.get state.spaces space ≡ Some names
   pub at : finmap.get names name ≡ before
@@ -93,7 +93,7 @@ entry_of None serial is = absurd (cc is)
 entry_of (Some entry) serial is = (entry, refl, is)
 
 -- a member is still held in its set's space, or its receive right waits
-still_alongside : (state : State) (space name : ℕ) (names : Names) (before after : Option Entry)
+still_alongside : (state : Ipc) (space name : ℕ) (names : Names) (before after : Option Entry)
     (effects later : List Effect) → EntryMove state space name names before after effects later
     → (serial set : ℕ) → IsHeldAlongsideSet state serial set
     → IsHeldAlongsideSet (with_names state space (changed names name after)) serial set ⊎ IsReleased later serial
@@ -163,7 +163,7 @@ still_alongside state space name names before after effects later move serial se
     ]
 
 -- Such a change is a lawful move of names.
-pub entry_moves : (state : State) (space name : ℕ) (names : Names) (before after : Option Entry)
+pub entry_moves : (state : Ipc) (space name : ℕ) (names : Names) (before after : Option Entry)
     (effects later : List Effect) → EntryMove state space name names before after effects later
     → LawfulNames (changed names name after)
     → NamesMove state space names (changed names name after) effects later

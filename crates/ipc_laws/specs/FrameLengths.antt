@@ -9,12 +9,12 @@ use Rattle.codes.specs.declared.call_number.TheConstants.{ATTACH, MACH_PORT_NAME
 use Rattle.codes.specs.KernReturn.{number_of}
 use Rattle.codes.specs.declared.kern_return.KernReturn.{KernReturn}
 use Rattle.codes.specs.declared.limits.TheConstants.{MAX_NAMES}
-use Rattle.ipc_model.specs.declared.call.Call.{Call}
-use Rattle.ipc_model.specs.declared.call.Call.TheVariants as call
-use Rattle.ipc_model.specs.declared.call.NamedType.{NamedType}
-use Rattle.ipc_model.specs.declared.call.ReceiveStatus.{ReceiveStatus}
-use Rattle.ipc_model.specs.declared.call.Reply.{Reply}
-use Rattle.ipc_model.specs.declared.call.Reply.TheVariants as reply
+use Rattle.ipc_model.specs.declared.plain_call.PlainCall.{PlainCall}
+use Rattle.ipc_model.specs.declared.plain_call.PlainCall.TheVariants as call
+use Rattle.ipc_model.specs.declared.plain_reply.NamedType.{NamedType}
+use Rattle.ipc_model.specs.declared.plain_reply.ReceiveStatus.{ReceiveStatus}
+use Rattle.ipc_model.specs.declared.plain_reply.PlainReply.{PlainReply}
+use Rattle.ipc_model.specs.declared.plain_reply.PlainReply.TheVariants as reply
 use Rattle.ipc_model.specs.declared.entry.Entry.{Entry}
 use Rattle.ipc_model.specs.calls.Actions.{Done}
 use Rattle.ipc_model.specs.rights.Dispositions.{number_of_kind}
@@ -22,20 +22,20 @@ use Rattle.ipc_model.specs.effects.Effects.{Effect}
 use Rattle.ipc_model.specs.state.Lawful.{Lawful}
 use Rattle.ipc_model.specs.calls.PortCalls.{tests_of}
 use Rattle.ipc_model.specs.messages.Receiving.{without_message}
-use Rattle.ipc_model.specs.state.State.{State, Names, is_member, members_of, type_of}
-use Rattle.ipc_model.specs.calls.Step.{ActsFrom, refused, number_of_call}
+use Rattle.ipc_model.specs.state.Ipc.{Ipc, Names, is_member, members_of, type_of}
+use Rattle.ipc_model.specs.calls.PlainStep.{ActsFrom, refused, number_of_call}
 use Rattle.ipc_laws.specs.StepLaws.{Called}
 use Rattle.ipc_model.specs.calls.Tests.{first_failing}
-use Rattle.ipc_model.specs.encodings.Encodings.{call_encoding, reply_encoding, done_encoding, status_encoding, receive_option, number_of_bool, number_of_reply}
+use Rattle.ipc_model.specs.encodings.PlainCalls.{call_encoding, reply_encoding, done_encoding, status_encoding, receive_option, number_of_bool, number_of_reply}
 use Rattle.ipc_laws.specs.PortCallLaws.{as_called, answers_done, is_port_call, is_short, answer_number}
 use Rattle.words.specs.WordLaws.{length-word}
 use Rattle.words.specs.Words.{word}
 
 -- a reply of at most this many bytes
-pub record IsWithin (most : ℕ) (answer : Reply) : Type 0 where
+pub record IsWithin (most : ℕ) (answer : PlainReply) : Type 0 where
   pub bytes : length (reply_encoding answer) ≤ most
 
-pub within : (most : ℕ) (given answer : Reply) → answer ≡ given → IsWithin most given → IsWithin most answer
+pub within : (most : ℕ) (given answer : PlainReply) → answer ≡ given → IsWithin most given → IsWithin most answer
 within most given answer is holds = subst (IsWithin most) (sym is) holds
 
 -- The length of a reply, from the number of bytes of its results.
@@ -84,7 +84,7 @@ status_length status =
     (number_of_bool status.has_senders) (number_of_bool status.has_port_destroyed_request)
     (number_of_bool status.has_no_senders_request)
 
-short_within : (answer : Reply) → is_short answer ≡ true → IsWithin 44 answer
+pub short_within : (answer : PlainReply) → is_short answer ≡ true → IsWithin 44 answer
 unfolding reply_encoding
 short_within (reply.Refused number code) short = record { bytes = omega (arith, two_words number (number_of code)) }
 short_within (reply.Done number) short = record { bytes = omega (arith, done_length number []) }
@@ -118,7 +118,7 @@ short_within (reply.Message code size member message) short = absurd (cc short)
 short_within (reply.SpaceCreated space name) short =
     record { bytes = omega (arith, done_length SPACE_CREATE (word space ++ word name), two_words space name) }
 
-wider : (less most : ℕ) (answer : Reply) → less ≤ most → IsWithin less answer → IsWithin most answer
+wider : (less most : ℕ) (answer : PlainReply) → less ≤ most → IsWithin less answer → IsWithin most answer
 wider less most answer le is = record { bytes = omega (arith, le, is.bytes) }
 
 -- Lists of names and members.
@@ -173,7 +173,7 @@ as_named e = record { name = e.0; bits = type_of e.1 }
 few_named : (names : Names) → finmap.len names ≤ MAX_NAMES → length (map as_named (finmap.entries names)) ≤ MAX_NAMES
 few_named names few = omega (arith, map_length as_named (finmap.entries names), len-entries names, few)
 
-few_members : (state : State) (names : Names) (set : ℕ) → finmap.len names ≤ MAX_NAMES
+few_members : (state : Ipc) (names : Names) (set : ℕ) → finmap.len names ≤ MAX_NAMES
     → length (members_of state names set) ≤ MAX_NAMES
 few_members state names set few =
     omega (
@@ -187,31 +187,31 @@ few_members state names set few =
 -- Replies.
 
 -- the two calls whose replies are lists
-abbrev is_listing : Call → Bool
+abbrev is_listing : PlainCall → Bool
 is_listing call.Names = true
 is_listing (call.GetSetStatus name) = true
 is_listing c = false
 
-no_listing_names : (c : Call) → is_listing c ≡ false → number_of_call c ≢ MACH_PORT_NAMES
+no_listing_names : (c : PlainCall) → is_listing c ≡ false → number_of_call c ≢ MACH_PORT_NAMES
 no_listing_names call.Names is = absurd (cc is)
 no_listing_names (call.GetSetStatus name) is = absurd (cc is)
 no_listing_names c is = λ same. absurd (omega (arith, same))
 
-no_listing_members : (c : Call) → is_listing c ≡ false → number_of_call c ≢ MACH_PORT_GET_SET_STATUS
+no_listing_members : (c : PlainCall) → is_listing c ≡ false → number_of_call c ≢ MACH_PORT_GET_SET_STATUS
 no_listing_members call.Names is = absurd (cc is)
 no_listing_members (call.GetSetStatus name) is = absurd (cc is)
 no_listing_members c is = λ same. absurd (omega (arith, same))
 
-pub wide : (answer : Reply) → IsWithin 44 answer → IsWithin 32780 answer
+pub wide : (answer : PlainReply) → IsWithin 44 answer → IsWithin 32780 answer
 wide answer is = wider 44 32780 answer (omega arith) is
 
-short_done : (old : State) (space : ℕ) (names : Names) (c : Call) (answer : Reply) (new : State) (effects : List Effect)
+short_done : (old : Ipc) (space : ℕ) (names : Names) (c : PlainCall) (answer : PlainReply) (new : Ipc) (effects : List Effect)
     → is_listing c ≡ false → Done old space names c answer new effects → IsWithin 32780 answer
 short_done old space names c answer new effects is acts =
     wide answer (short_within answer
     ((answers_done old space names c answer new effects acts).short (no_listing_names c is) (no_listing_members c is)))
 
-done_within : (old : State) (space : ℕ) (names : Names) (c : Call) (answer : Reply) (new : State)
+done_within : (old : Ipc) (space : ℕ) (names : Names) (c : PlainCall) (answer : PlainReply) (new : Ipc)
     (effects : List Effect) → finmap.len names ≤ MAX_NAMES → Done old space names c answer new effects
     → IsWithin 32780 answer
 unfolding Done
@@ -222,8 +222,8 @@ done_within old space names (call.GetSetStatus name) answer new effects few acts
 done_within old space names c answer new effects few acts =
     short_done old space names c answer new effects refl acts
 
-called_within : (refusal : Option KernReturn) (old : State) (space : ℕ) (names : Names) (c : Call) (answer : Reply)
-    (new : State) (effects : List Effect) → finmap.len names ≤ MAX_NAMES
+called_within : (refusal : Option KernReturn) (old : Ipc) (space : ℕ) (names : Names) (c : PlainCall) (answer : PlainReply)
+    (new : Ipc) (effects : List Effect) → finmap.len names ≤ MAX_NAMES
     → Called refusal old space names c answer new effects → IsWithin 32780 answer
 called_within None old space names c answer new effects few acts =
     done_within old space names c answer new effects few acts
@@ -247,12 +247,12 @@ message_within code =
       );
     }
 
-pub refused_within : (c : Call) (code : KernReturn) → IsWithin 44 (refused c code)
+pub refused_within : (c : PlainCall) (code : KernReturn) → IsWithin 44 (refused c code)
 refused_within (call.Send message) code = message_within code
 refused_within (call.Receive limit large name waited) code = message_within code
 refused_within c code = short_within (refused c code) refl
 
-pub from_within : (o : Option Names) (old : State) (space : ℕ) (c : Call) (answer : Reply) (new : State)
+pub from_within : (o : Option Names) (old : Ipc) (space : ℕ) (c : PlainCall) (answer : PlainReply) (new : Ipc)
     (effects : List Effect) → finmap.get old.spaces space ≡ o → is_port_call c ≡ true → Lawful old
     → ActsFrom old space o c answer new effects → IsWithin 32780 answer
 from_within None old space c answer new effects is port lawful acts =
@@ -263,12 +263,12 @@ from_within (Some names) old space c answer new effects is port lawful acts =
 
 -- A reply has the number of its call.
 
-pub refused_number : (c : Call) (code : KernReturn) → number_of_reply (refused c code) ≡ number_of_call c
+pub refused_number : (c : PlainCall) (code : KernReturn) → number_of_reply (refused c code) ≡ number_of_call c
 refused_number (call.Send message) code = refl
 refused_number (call.Receive limit large name waited) code = refl
 refused_number c code = refl
 
-pub from_number : (o : Option Names) (old : State) (space : ℕ) (c : Call) (answer : Reply) (new : State)
+pub from_number : (o : Option Names) (old : Ipc) (space : ℕ) (c : PlainCall) (answer : PlainReply) (new : Ipc)
     (effects : List Effect) → is_port_call c ≡ true → ActsFrom old space o c answer new effects
     → number_of_reply answer ≡ number_of_call c
 from_number None old space c answer new effects port acts = ap number_of_reply acts.0 ∙ refused_number c _
@@ -288,7 +288,7 @@ six_words : (a b c d e f : ℕ) → length (word a ++ (word b ++ (word c ++ (wor
 six_words a b c d e f = omega (arith, three_more a b c (word d ++ (word e ++ word f)), three_words d e f)
 
 -- a call of at most five arguments
-pub arguments_within : (c : Call) → is_port_call c ≡ true → length (call_encoding c) ≤ 24
+pub arguments_within : (c : PlainCall) → is_port_call c ≡ true → length (call_encoding c) ≤ 24
 unfolding call_encoding
 arguments_within (call.Attach space) port = omega (arith, two_words ATTACH space)
 arguments_within call.Names port = omega (arith, one_word MACH_PORT_NAMES)

@@ -24,7 +24,7 @@ use Rattle.ipc_laws.specs.NameChanges.{names_change, first_there, one_space}
 use Rattle.ipc_laws.specs.Others.{number_decided, with_port_spaces}
 use Rattle.ipc_laws.specs.Ranks.{TravelsOnce}
 use Rattle.ipc_laws.specs.ReferencesKeep.{none_released}
-use Rattle.ipc_model.specs.state.State.{State, Names, with_names, with_port, lives}
+use Rattle.ipc_model.specs.state.Ipc.{Ipc, Names, with_names, with_port, lives}
 use Rattle.ipc_laws.specs.Weights.{Weight, names_weigh, port_weigh, state_weigh, effect_weigh, receive_of, any_of, count-receive, count-any}
 
 -- what the rights in hand weigh; their order doesn't matter
@@ -36,7 +36,7 @@ empty_hand w = 0
 
 -- The state is lawful, if the rights in hand count as placed: each live port has one receive right, and no right
 -- that is placed or in hand names a port that isn't live.
-pub record MidCall (state : State) (hand : Hand) : Type 0 where
+pub record MidCall (state : Ipc) (hand : Hand) : Type 0 where
   pub parts : Parts state
   pub one_receive : (q : ℕ) → lives state q ≡ true → state_weigh (receive_of q) state + hand (receive_of q) ≡ 1
   pub none_dangles : NoneDangles state
@@ -46,7 +46,7 @@ pub record MidCall (state : State) (hand : Hand) : Type 0 where
   pub acyclic : Acyclic state
 
 -- a call begins with nothing in hand
-pub mid_of : (state : State) → LawfulAtRest state → Acyclic state → MidCall state empty_hand
+pub mid_of : (state : Ipc) → LawfulAtRest state → Acyclic state → MidCall state empty_hand
 mid_of state lawful acyclic = record {
   parts = parts_of state [] lawful;
   one_receive = λ (q : ℕ) (live : _). omega (arith, count-receive state [] q, lawful.one_receive q live);
@@ -62,7 +62,7 @@ mid_of state lawful acyclic = record {
 }
 
 -- and ends where all receive rights in hand wait among its effects
-pub kept_of_mid : (state : State) (hand : Hand) (effects : List Effect) → MidCall state hand → AllWaiting effects
+pub kept_of_mid : (state : Ipc) (hand : Hand) (effects : List Effect) → MidCall state hand → AllWaiting effects
     → ((q : ℕ) → weigh (effect_weigh (receive_of q)) effects ≡ hand (receive_of q)) → Kept state effects
 kept_of_mid state hand effects mid waits receives = record {
   lawful = record {
@@ -81,7 +81,7 @@ kept_of_mid state hand effects mid waits receives = record {
 }
 
 -- another hand over the same state
-pub mid_hand : (state : State) (hand later : Hand) → MidCall state hand
+pub mid_hand : (state : Ipc) (hand later : Hand) → MidCall state hand
     → ((q : ℕ) → later (receive_of q) ≡ hand (receive_of q))
     → ((q : ℕ) → lives state q ≡ false → later (any_of q) ≤ hand (any_of q)) → MidCall state later
 mid_hand state hand later mid receives less = record {
@@ -94,7 +94,7 @@ mid_hand state hand later mid receives less = record {
 }
 
 -- what stands under names weighs no more than the state
-names_part : (w : Weight) (state : State) (space : ℕ) (names : Names) → finmap.get state.spaces space ≡ Some names
+names_part : (w : Weight) (state : Ipc) (space : ℕ) (names : Names) → finmap.get state.spaces space ≡ Some names
     → names_weigh w names ≤ state_weigh w state
 unfolding state_weigh
 names_part w state space names there =
@@ -106,7 +106,7 @@ names_part w state space names there =
     omega (arith, in_spaces)
 
 -- each receive right travels in one queue at most
-pub mid_travels_once : (state : State) (hand : Hand) → MidCall state hand → TravelsOnce state
+pub mid_travels_once : (state : Ipc) (hand : Hand) → MidCall state hand → TravelsOnce state
 mid_travels_once state hand mid q =
     elim (lives state q) as (λ (b : Bool). lives state q ≡ b → total (port_weigh (receive_of q)) state.ports ≤ 1) [
       | true ↦ λ (live : _). omega (arith, mid.one_receive q live, ports_in_state (receive_of q) state)
@@ -121,7 +121,7 @@ mid_travels_once state hand mid q =
 
 -- Names change, and rights go between them and the hand.
 
-pub record NamesStep (state : State) (space : ℕ) (names after : Names) (hand later : Hand) : Type 0 where
+pub record NamesStep (state : Ipc) (space : ℕ) (names after : Names) (hand later : Hand) : Type 0 where
   pub there : finmap.get state.spaces space ≡ Some names
   pub lawful : LawfulNames after
   pub receives : (q : ℕ) → names_weigh (receive_of q) after + later (receive_of q)
@@ -131,7 +131,7 @@ pub record NamesStep (state : State) (space : ℕ) (names after : Names) (hand l
   pub members : (serial set : ℕ) (port : PortState) → finmap.get state.ports serial ≡ Some port → port.set ≡ Some set
       → IsHeldAlongsideSet state serial set → IsHeldAlongsideSet (with_names state space after) serial set
 
-pub named_parts : (state : State) (space : ℕ) (names after : Names) → finmap.get state.spaces space ≡ Some names
+pub named_parts : (state : Ipc) (space : ℕ) (names after : Names) → finmap.get state.spaces space ≡ Some names
     → LawfulNames after → Parts state → Parts (with_names state space after)
 named_parts state space names after there lawful parts = record {
   first_space = first_there state space after parts.first_space.0 parts.first_space.1;
@@ -151,7 +151,7 @@ named_parts state space names after there lawful parts = record {
   next = parts.next;
 }
 
-pub mid_names : (state : State) (space : ℕ) (names after : Names) (hand later : Hand)
+pub mid_names : (state : Ipc) (space : ℕ) (names after : Names) (hand later : Hand)
     → NamesStep state space names after hand later → MidCall state hand → MidCall (with_names state space after) later
 mid_names state space names after hand later step mid = record {
   parts = named_parts state space names after step.there step.lawful mid.parts;
@@ -187,7 +187,7 @@ mid_names state space names after hand later step mid = record {
 
 -- Another entry under one name.
 
-pub record EntryStep (state : State) (space name : ℕ) (names : Names) (before after : Option Entry)
+pub record EntryStep (state : Ipc) (space name : ℕ) (names : Names) (before after : Option Entry)
     (hand later : Hand) : Type 0 where
   pub there : finmap.get state.spaces space ≡ Some names
   pub at : finmap.get names name ≡ before
@@ -200,7 +200,7 @@ pub record EntryStep (state : State) (space name : ℕ) (names : Names) (before 
       → received_under before ≡ Some serial → received_under after ≡ Some serial
   pub set : before ≡ Some Set → after ≡ Some Set
 
-alongside_still : (state : State) (space name : ℕ) (names : Names) (before after : Option Entry) (hand later : Hand)
+alongside_still : (state : Ipc) (space name : ℕ) (names : Names) (before after : Option Entry) (hand later : Hand)
     → EntryStep state space name names before after hand later
     → (serial set : ℕ) (port : PortState) → finmap.get state.ports serial ≡ Some port → port.set ≡ Some set
     → IsHeldAlongsideSet state serial set
@@ -261,7 +261,7 @@ alongside_still state space name names before after hand later step serial set p
           ]
     ]
 
-pub mid_entry : (state : State) (space name : ℕ) (names : Names) (before after : Option Entry) (hand later : Hand)
+pub mid_entry : (state : Ipc) (space name : ℕ) (names : Names) (before after : Option Entry) (hand later : Hand)
     → EntryStep state space name names before after hand later → MidCall state hand
     → MidCall (with_names state space (changed names name after)) later
 mid_entry state space name names before after hand later step mid =
@@ -281,7 +281,7 @@ mid_entry state space name names before after hand later step mid =
 
 -- Another state of one live port.
 
-pub record PortStep (state : State) (serial : ℕ) (change : PortState → PortState) (hand later : Hand) : Type 0 where
+pub record PortStep (state : Ipc) (serial : ℕ) (change : PortState → PortState) (hand later : Hand) : Type 0 where
   pub port : PortState
   pub there : finmap.get state.ports serial ≡ Some port
   pub lawful : LawfulPort (change port)
@@ -293,21 +293,21 @@ pub record PortStep (state : State) (serial : ℕ) (change : PortState → PortS
   pub set : (set : ℕ) → (change port).set ≡ Some set → port.set ≡ Some set
   pub acyclic : Acyclic (with_port state serial change)
 
-live_before : (state : State) (serial q : ℕ) (change : PortState → PortState) (port : PortState)
+live_before : (state : Ipc) (serial q : ℕ) (change : PortState → PortState) (port : PortState)
     → finmap.get state.ports serial ≡ Some port → lives (with_port state serial change) q ≡ true → lives state q ≡ true
 live_before state serial q change port there live = elim (number_decided q serial) as (λ _. lives state q ≡ true) [
-  | inl apart ↦ sym (ap (λ (s : State). lives s q) (with_port_there state serial change port there)
+  | inl apart ↦ sym (ap (λ (s : Ipc). lives s q) (with_port_there state serial change port there)
       ∙ ap is_some (get-there state.ports serial (change port) q apart)) ∙ live
   | inr same ↦ ap (lives state) same ∙ ap is_some there
 ]
 
-members_still : (state : State) (serial : ℕ) (change : PortState → PortState) (hand later : Hand)
+members_still : (state : Ipc) (serial : ℕ) (change : PortState → PortState) (hand later : Hand)
     → PortStep state serial change hand later → MidCall state hand
     → (other set : ℕ) (port : PortState) → finmap.get (with_port state serial change).ports other ≡ Some port
     → port.set ≡ Some set → IsHeldAlongsideSet (with_port state serial change) other set
 members_still state serial change hand later step mid other set port at is =
     let at_there : finmap.get (finmap.insert state.ports serial (change step.port)) other ≡ Some port =
-    ap (λ (s : State). finmap.get s.ports other) (sym (with_port_there state serial change step.port step.there))
+    ap (λ (s : Ipc). finmap.get s.ports other) (sym (with_port_there state serial change step.port step.there))
     ∙ at in
     let before : IsHeldAlongsideSet state other set =
     elim (number_decided other serial) as (λ _. IsHeldAlongsideSet state other set) [
@@ -324,7 +324,7 @@ members_still state serial change hand later step mid other set port at is =
     subst (λ (s : finmap.FinMap _ Names). IsHeldAlongsideSet (record state { spaces = s }) other set)
     (sym (with_port_spaces state serial change)) before
 
-pub mid_port : (state : State) (serial : ℕ) (change : PortState → PortState) (hand later : Hand)
+pub mid_port : (state : Ipc) (serial : ℕ) (change : PortState → PortState) (hand later : Hand)
     → PortStep state serial change hand later → MidCall state hand → MidCall (with_port state serial change) later
 mid_port state serial change hand later step mid = record {
   parts =

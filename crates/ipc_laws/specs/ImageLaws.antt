@@ -1,10 +1,15 @@
 -- An image has one encoding: bytes that begin with a state's image begin with no other state's.
-use Rattle.std.specs.Prelude.{◌≡◌, ℕ, zero, suc, ◌+◌, ◌^◌, ◌<◌, Bool, true, false, ◌==◌, List, [], ◌∷◌, ◌++◌, length, flat_map, All, Option, None, Some, if◌then◌else◌, refl}
+use Rattle.std.specs.Prelude.{◌≡◌, ℕ, zero, suc, ◌+◌, ◌^◌, ◌<◌, Bool, true, false, ◌==◌, List, [], ◌∷◌, ◌++◌, length, map, flat_map, All, cond, Option, None, Some, is_some, if◌then◌else◌, refl}
+use Rattle.std.proofs.lemmas.List.Elements.{All-nil, All-cons}
 use Rattle.std.proofs.Common.{sym, ◌∙◌, ap, arith, append_assoc}
-use Rattle.std.specs.Ordering.{nat_cmp}
+use Rattle.std.specs.Cmp.{nat_cmp_total}
+use Rattle.std.specs.Ordering.{nat_cmp, eq_by_cmp}
 use Rattle.std.specs.FinMap as finmap
-use Rattle.std.specs.FinMap.{FinMap, len-entries, same_entries_map}
+use Rattle.std.specs.FinMap.{FinMap, find, get-empty, get-entries, len-entries, nat_cmp-IsAntisymmetric, same_entries_map, same_map}
+use Rattle.codes.specs.declared.call_number.TheConstants.{NUMBERED}
 use Rattle.codes.specs.declared.store_version.StoreVersion.{StoreVersion}
+use Rattle.codes.specs.declared.store_version.StoreVersion.TheVariants.{One, Two}
+use Rattle.ipc_model.specs.calls.PlainStep.{has_record}
 use Rattle.ipc_model.specs.declared.entry.Entry.{Entry}
 use Rattle.ipc_model.specs.declared.entry.Entry.TheVariants.{Port, SendOnce, Set, Dead}
 use Rattle.ipc_model.specs.declared.message.CarriedRight.{CarriedRight}
@@ -13,17 +18,23 @@ use Rattle.ipc_model.specs.declared.message.PortInMessage.{PortInMessage}
 use Rattle.ipc_model.specs.declared.message.PortInMessage.TheVariants as in_message
 use Rattle.ipc_model.specs.declared.message.RightKind.{RightKind}
 use Rattle.ipc_model.specs.declared.message.RightKind.TheVariants as kind
+use Rattle.ipc_model.specs.declared.plain_call.PlainCall.{PlainCall}
 use Rattle.ipc_model.specs.declared.port.PortState.{PortState}
+use Rattle.ipc_model.specs.declared.reply.NumberedReply.{NumberedReply}
 use Rattle.ipc_model.specs.rights.Dispositions.{number_of_kind}
-use Rattle.ipc_model.specs.encodings.Images.{number_or_0, entry_encoding, names_encoding, place_encoding, carried_encoding, reply_right_encoding, message_image, port_encoding, request_encoding, space_encoding, image_encoding_of}
+use Rattle.ipc_model.specs.encodings.Images.{number_or_0, entry_encoding, names_encoding, place_encoding, carried_encoding, reply_right_encoding, message_image, port_encoding, kept_encoding, space_encoding, image_encoding_of}
 use Rattle.ipc_model.specs.state.Lawful.{kind_of_number}
 use Rattle.ipc_laws.specs.ListLaws.{same_front, same_back, same_head, same_tail}
 use Rattle.ipc_model.specs.messages.Receiving.{message_size}
-use Rattle.ipc_model.specs.state.State.{State, Names}
-use Rattle.ipc_laws.specs.EncodingLaws.{word_once, long_word_once}
+use Rattle.ipc_model.specs.state.Ipc.{Ipc, Names}
+use Rattle.ipc_model.specs.state.State.{KeptReplies, State}
+use Rattle.ipc_model.specs.store.Recovery.{KeepsWhatItMay}
+use Rattle.ipc_laws.specs.EncodingLaws.{word_once, long_word_once, frame_once, reply_encoding_once}
 use Rattle.ipc_laws.specs.EncodingReading.{all_head, all_tail}
-use Rattle.ipc_model.specs.encodings.Encodings.{number_of_bool}
-use Rattle.words.specs.Words.{word, long_word}
+use Rattle.ipc_laws.specs.MapSums.{key_is}
+use Rattle.ipc_model.specs.encodings.Encodings.{numbered_encoding}
+use Rattle.ipc_model.specs.encodings.PlainCalls.{number_of_bool, reply_encoding, FitsReply}
+use Rattle.words.specs.Words.{word, long_word, frame_encoding}
 
 -- What the encoding of a state needs: each number fits in its word, and where 0 means none, an actual value isn't 0.
 
@@ -92,13 +103,27 @@ EncodableSpace e = (e.0 < 2 ^ 32) × EncodableNames e.1
 abbrev pub EncodableLivePort : ℕ × PortState → Type 0
 EncodableLivePort e = (e.0 < 2 ^ 64) × EncodablePort e.1
 
--- A state whose encoding determines it.
-pub record Encodable (state : State) : Type 0 where
+-- An IPC state whose encoding determines it.
+pub record EncodableIpc (state : Ipc) : Type 0 where
   pub next : state.next < 2 ^ 64
   pub few_spaces : finmap.len state.spaces < 2 ^ 32
   pub spaces : All EncodableSpace (finmap.entries state.spaces)
   pub few_ports : finmap.len state.ports < 2 ^ 32
   pub ports : All EncodableLivePort (finmap.entries state.ports)
+
+-- what a space may keep: its numbers fit, and it stands in a record of some call
+pub record EncodableKept (kept : NumberedReply) : Type 0 where
+  pub request : (0 < kept.request) × (kept.request < 2 ^ 32)
+  pub call : PlainCall
+  pub recorded : has_record call kept.reply ≡ true
+  pub fits : FitsReply kept.reply
+  pub short : length (numbered_encoding kept) < 2 ^ 32
+
+-- A state whose encoding determines it.
+pub record Encodable (state : State) : Type 0 where
+  pub ipc : EncodableIpc state.ipc
+  pub kept : (space : ℕ) (answer : NumberedReply) → finmap.get state.kept space ≡ Some answer
+      → (is_some (finmap.get state.ipc.spaces space) ≡ true) × EncodableKept answer
 
 -- Equal bytes that begin with encodings of this form begin with the encoding of one thing, if the things satisfy P.
 abbrev pub HasOneEncoding : {A : Type 0} → (A → List ℕ) → (A → Type 0) → Type 0
@@ -460,22 +485,6 @@ names_once a b x y fits fits_too e =
     sym (append_assoc (word (finmap.len a)) entries_a x) ∙ e ∙ append_assoc (word (finmap.len b)) entries_b y in
     map_once named_encoding EncodableNamed named_once a b x y fits.few fits_too.few fits.entries fits_too.entries whole
 
--- a space's number and its names, and a port's serial and what it keeps
-space_apart : (version : StoreVersion) (e : ℕ × Names) (rest : List ℕ)
-    → space_encoding version e ++ rest ≡ word e.0 ++ (request_encoding version ++ (names_encoding e.1 ++ rest))
-space_apart version e rest = simp append_assoc
-
-pub space_once : (version : StoreVersion) → HasOneEncoding (space_encoding version) EncodableSpace
-space_once version a b x y fits fits_too e =
-    let request = request_encoding version in
-    let whole = sym (space_apart version a x) ∙ e ∙ space_apart version b y in
-    let space =
-    word_once a.0 b.0 (request ++ (names_encoding a.1 ++ x)) (request ++ (names_encoding b.1 ++ y)) fits.0 fits_too.0
-    whole in
-    let beyond = same_back request request (names_encoding a.1 ++ x) (names_encoding b.1 ++ y) refl space.1 in
-    let names = names_once a.1 b.1 x y fits.1 fits_too.1 beyond in
-    ((λ i. (space.0 i, names.0 i)), names.1)
-
 abbrev live_port_encoding : ℕ × PortState → List ℕ
 live_port_encoding e = long_word e.0 ++ port_encoding e.1
 
@@ -488,36 +497,283 @@ live_port_once a b x y fits fits_too e =
     let port = port_once a.1 b.1 x y fits.1 fits_too.1 serial.1 in
     ((λ i. (serial.0 i, port.0 i)), port.1)
 
+-- What a space keeps, or that it keeps nothing.
+abbrev EncodableKeptOrNone : Option NumberedReply → Type 0
+EncodableKeptOrNone None = Unit {0}
+EncodableKeptOrNone (Some kept) = EncodableKept kept
+
+-- a reply that is kept is read back by its frame
+kept_reply_once : HasOneEncoding (λ (kept : NumberedReply). frame_encoding (numbered_encoding kept)) EncodableKept
+kept_reply_once a b x y fits fits_too e =
+    let frames = frame_once (numbered_encoding a) (numbered_encoding b) x y fits.short fits_too.short e in
+    let after_a : List ℕ = word a.request ++ reply_encoding a.reply in
+    let after_b : List ℕ = word b.request ++ reply_encoding b.reply in
+    let numbers =
+    word_once NUMBERED NUMBERED (word 0 ++ after_a) (word 0 ++ after_b) (omega arith) (omega arith) frames.0 in
+    let codes = word_once 0 0 after_a after_b (omega arith) (omega arith) numbers.1 in
+    let requests =
+    word_once a.request b.request (reply_encoding a.reply) (reply_encoding b.reply) fits.request.1 fits_too.request.1
+    codes.1 in
+    let replies =
+    reply_encoding_once fits.call fits_too.call a.reply b.reply fits.fits fits_too.fits fits.recorded fits_too.recorded
+    requests.1 in
+    ((λ i. record { request = requests.0 i; reply = replies i }), frames.1)
+
+-- the request that stands first
+request_of : Option NumberedReply → ℕ
+request_of None = 0
+request_of (Some kept) = kept.request
+
+-- and what follows it
+after_request : Option NumberedReply → List ℕ → List ℕ
+after_request None rest = rest
+after_request (Some kept) rest = frame_encoding (numbered_encoding kept) ++ rest
+
+kept_apart : (kept : Option NumberedReply) (rest : List ℕ)
+    → kept_encoding Two kept ++ rest ≡ word (request_of kept) ++ after_request kept rest
+unfolding request_of after_request
+kept_apart None rest = refl
+kept_apart (Some kept) rest =
+    append_assoc (word kept.request) (frame_encoding (numbered_encoding kept)) rest
+
+request_fits : (kept : Option NumberedReply) → EncodableKeptOrNone kept → request_of kept < 2 ^ 32
+unfolding request_of
+request_fits None fits = omega arith
+request_fits (Some kept) fits = fits.request.1
+
+kept_same : (a b : Option NumberedReply) (x y : List ℕ) → EncodableKeptOrNone a → EncodableKeptOrNone b
+    → request_of a ≡ request_of b → after_request a x ≡ after_request b y → (a ≡ b) × (x ≡ y)
+unfolding request_of after_request
+kept_same None None x y fits fits_too requests e = (refl, e)
+kept_same None (Some b) x y fits fits_too requests e = absurd (omega (arith, fits_too.request.0, requests))
+kept_same (Some a) None x y fits fits_too requests e = absurd (omega (arith, fits.request.0, requests))
+kept_same (Some a) (Some b) x y fits fits_too requests e =
+    let replies = kept_reply_once a b x y fits fits_too e in
+    (ap (λ (kept : NumberedReply). Some kept) replies.0, replies.1)
+
+kept_once : HasOneEncoding (kept_encoding Two) EncodableKeptOrNone
+kept_once a b x y fits fits_too e =
+    let whole = sym (kept_apart a x) ∙ e ∙ kept_apart b y in
+    let requests =
+    word_once (request_of a) (request_of b) (after_request a x) (after_request b y) (request_fits a fits)
+    (request_fits b fits_too) whole in
+    kept_same a b x y fits fits_too requests.0 requests.1
+
+-- A space as it is encoded: its number, what it keeps, and its names.
+abbrev Row : Type 0
+Row = ℕ × (Option NumberedReply × Names)
+
+abbrev row_encoding : StoreVersion → Row → List ℕ
+row_encoding version row = word row.0 ++ (kept_encoding version row.1.0 ++ names_encoding row.1.1)
+
+abbrev EncodableRow : Row → Type 0
+EncodableRow row = (row.0 < 2 ^ 32) × EncodableKeptOrNone row.1.0 × EncodableNames row.1.1
+
+row_apart : (version : StoreVersion) (row : Row) (rest : List ℕ)
+    → row_encoding version row ++ rest ≡ word row.0 ++ (kept_encoding version row.1.0 ++ (names_encoding row.1.1 ++ rest))
+row_apart version row rest = simp append_assoc
+
+-- in version 1 nothing is kept
+abbrev MayKeep : StoreVersion → Option NumberedReply → Type 0
+MayKeep One kept = kept ≡ None
+MayKeep Two kept = Unit {0}
+
+kept_of : (version : StoreVersion) (a b : Option NumberedReply) (x y : List ℕ) → MayKeep version a → MayKeep version b
+    → EncodableKeptOrNone a → EncodableKeptOrNone b → kept_encoding version a ++ x ≡ kept_encoding version b ++ y
+    → (a ≡ b) × (x ≡ y)
+kept_of One a b x y may may_too fits fits_too e = (may ∙ sym may_too, e)
+kept_of Two a b x y may may_too fits fits_too e = kept_once a b x y fits fits_too e
+
+abbrev FitsRow : StoreVersion → Row → Type 0
+FitsRow version row = MayKeep version row.1.0 × EncodableRow row
+
+row_once : (version : StoreVersion) → HasOneEncoding (row_encoding version) (FitsRow version)
+row_once version a b x y (may, fits) (may_too, fits_too) e =
+    let whole = sym (row_apart version a x) ∙ e ∙ row_apart version b y in
+    let spaces =
+    word_once a.0 b.0 (kept_encoding version a.1.0 ++ (names_encoding a.1.1 ++ x))
+    (kept_encoding version b.1.0 ++ (names_encoding b.1.1 ++ y)) fits.0 fits_too.0 whole in
+    let kept =
+    kept_of version a.1.0 b.1.0 (names_encoding a.1.1 ++ x) (names_encoding b.1.1 ++ y) may may_too fits.1 fits_too.1
+    spaces.1 in
+    let names = names_once a.1.1 b.1.1 x y fits.2 fits_too.2 kept.1 in
+    ((λ i. (spaces.0 i, (kept.0 i, names.0 i))), names.1)
+
+-- the spaces of a state as they are encoded
+abbrev row_of : KeptReplies → ℕ × Names → Row
+row_of kept e = (e.0, (finmap.get kept e.0, e.1))
+
+abbrev rows_of : State → List Row
+rows_of state = map (row_of state.kept) (finmap.entries state.ipc.spaces)
+
+rows_encoding : (version : StoreVersion) (kept : KeptReplies) (es : List (ℕ × Names))
+    → flat_map (space_encoding version kept) es ≡ flat_map (row_encoding version) (map (row_of kept) es)
+rows_encoding version kept [] = refl
+rows_encoding version kept (e ∷ es) =
+    ap (λ (l : List ℕ). row_encoding version (row_of kept e) ++ l) (rows_encoding version kept es)
+
+-- equal rows are of equal names
+names_of_row : Row → ℕ × Names
+names_of_row row = (row.0, row.1.1)
+
+names_back : (kept : KeptReplies) (es : List (ℕ × Names)) → map names_of_row (map (row_of kept) es) ≡ es
+unfolding names_of_row
+names_back kept [] = refl
+names_back kept (e ∷ es) = ap (λ (l : List (ℕ × Names)). e ∷ l) (names_back kept es)
+
+-- and of equal replies
+KeepAlike : KeptReplies → KeptReplies → List (ℕ × Names) → Type 0
+KeepAlike one other [] = Unit {0}
+KeepAlike one other (e ∷ es) = (finmap.get one e.0 ≡ finmap.get other e.0) × KeepAlike one other es
+
+head_kept : (a b : Row) (more more_too : List Row) → a ∷ more ≡ b ∷ more_too → a.1.0 ≡ b.1.0
+head_kept a b more more_too same = ap (λ (l : List Row). elim l as (λ _. Option NumberedReply) [ [] ↦ None | r ∷ rest ↦ r.1.0 ]) same
+
+tail_rows : (a b : Row) (more more_too : List Row) → a ∷ more ≡ b ∷ more_too → more ≡ more_too
+tail_rows a b more more_too same = ap (λ (l : List Row). elim l as (λ _. List Row) [ [] ↦ [] | r ∷ rest ↦ rest ]) same
+
+rows_alike : (one other : KeptReplies) (es : List (ℕ × Names))
+    → map (row_of one) es ≡ map (row_of other) es → KeepAlike one other es
+unfolding KeepAlike
+rows_alike one other [] same = tt
+rows_alike one other (e ∷ es) same = (
+  head_kept (row_of one e) (row_of other e) (map (row_of one) es) (map (row_of other) es) same,
+  rows_alike one other es
+      (tail_rows (row_of one e) (row_of other e) (map (row_of one) es) (map (row_of other) es) same),
+)
+
+alike_at : (one other : KeptReplies) (es : List (ℕ × Names)) (space : ℕ) → KeepAlike one other es
+    → is_some (find nat_cmp space es) ≡ true → finmap.get one space ≡ finmap.get other space
+unfolding KeepAlike
+alike_at one other [] space alike there = absurd (cc there)
+alike_at one other (e ∷ es) space alike there =
+    elim (eq_by_cmp nat_cmp space e.0)
+    as (λ (b : Bool). eq_by_cmp nat_cmp space e.0 ≡ b → is_some (cond b (Some e.1) (find nat_cmp space es)) ≡ true
+    → finmap.get one space ≡ finmap.get other space) [
+      | true ↦ λ (is : _) (_ : _). ap (finmap.get one) (key_is space e.0 is) ∙ alike.0
+          ∙ ap (finmap.get other) (sym (key_is space e.0 is))
+      | false ↦ λ (_ : _) (there : _). alike_at one other es space alike.1 there
+    ] refl there
+
+-- where nothing is there, nothing is kept
+keeps_none : (state : State) (space : ℕ) → Encodable state → is_some (finmap.get state.ipc.spaces space) ≡ false
+    → finmap.get state.kept space ≡ None
+keeps_none state space fits gone = by (finmap.get state.kept space) refl
+  where
+    by : (o : Option NumberedReply) → finmap.get state.kept space ≡ o → finmap.get state.kept space ≡ None
+    by None is = is
+    by (Some kept) is = absurd (cc ((fits.kept space kept is).0, gone))
+
+same_kept : (a b : State) → Encodable a → Encodable b → a.ipc.spaces ≡ b.ipc.spaces
+    → KeepAlike a.kept b.kept (finmap.entries a.ipc.spaces) → a.kept ≡ b.kept
+same_kept a b fits fits_too spaces alike = same_map nat_cmp_total nat_cmp-IsAntisymmetric _ _ at
+  where
+    at : (space : ℕ) → finmap.get a.kept space ≡ finmap.get b.kept space
+    at space = by (is_some (finmap.get a.ipc.spaces space)) refl
+      where
+        by : (there : Bool) → is_some (finmap.get a.ipc.spaces space) ≡ there
+            → finmap.get a.kept space ≡ finmap.get b.kept space
+        by true there =
+            alike_at a.kept b.kept (finmap.entries a.ipc.spaces) space alike
+            (ap is_some (sym (get-entries a.ipc.spaces space)) ∙ there)
+        by false gone =
+            keeps_none a space fits gone
+            ∙ sym (keeps_none b space fits_too
+            (ap (λ (m : FinMap nat_cmp Names). is_some (finmap.get m space)) (sym spaces) ∙ gone))
+
+-- each row of a state fits
+rows_fit : (version : StoreVersion) (state : State) (es : List (ℕ × Names)) → Encodable state
+    → KeepsWhatItMay version state → All EncodableSpace es → All (FitsRow version) (map (row_of state.kept) es)
+rows_fit version state [] fits keeps all = All-nil (FitsRow version)
+rows_fit version state (e ∷ es) fits keeps all =
+    All-cons (FitsRow version) (row_of state.kept e) (map (row_of state.kept) es) (
+      may_keep version state e.0 keeps,
+      (
+        (all_head EncodableSpace e es all).0,
+        or_none (finmap.get state.kept e.0) refl,
+        (all_head EncodableSpace e es all).1,
+      ),
+    )
+    (rows_fit version state es fits keeps (all_tail EncodableSpace e es all))
+  where
+    or_none : (o : Option NumberedReply) → finmap.get state.kept e.0 ≡ o → EncodableKeptOrNone o
+    or_none None is = tt
+    or_none (Some kept) is = (fits.kept e.0 kept is).1
+
+    may_keep : (version : StoreVersion) (state : State) (space : ℕ) → KeepsWhatItMay version state
+        → MayKeep version (finmap.get state.kept space)
+    may_keep One state space keeps =
+        ap (λ (m : KeptReplies). finmap.get m space) keeps ∙ get-empty nat_cmp space
+    may_keep Two state space keeps = tt
+
+length-rows : (kept : KeptReplies) (es : List (ℕ × Names)) → length (map (row_of kept) es) ≡ length es
+length-rows kept [] = refl
+length-rows kept (e ∷ es) = omega (arith, length-rows kept es)
+
 -- a state's encoding in its parts, and what follows it
 abbrev after_spaces : State → List ℕ → List ℕ
 after_spaces state rest =
-    word (finmap.len state.ports) ++ (flat_map live_port_encoding (finmap.entries state.ports) ++ rest)
+    word (finmap.len state.ipc.ports) ++ (flat_map live_port_encoding (finmap.entries state.ipc.ports) ++ rest)
 
 abbrev after_next : StoreVersion → State → List ℕ → List ℕ
 after_next version state rest =
-    word (finmap.len state.spaces)
-    ++ (flat_map (space_encoding version) (finmap.entries state.spaces) ++ after_spaces state rest)
+    word (finmap.len state.ipc.spaces)
+    ++ (flat_map (space_encoding version state.kept) (finmap.entries state.ipc.spaces) ++ after_spaces state rest)
 
 image_apart : (version : StoreVersion) (state : State) (rest : List ℕ)
-    → image_encoding_of version state ++ rest ≡ long_word state.next ++ after_next version state rest
+    → image_encoding_of version state ++ rest ≡ long_word state.ipc.next ++ after_next version state rest
 unfolding image_encoding_of
 image_apart version state rest = simp append_assoc
+
+-- the spaces, as rows
+spaces_once : (version : StoreVersion) (a b : State) (x y : List ℕ) → Encodable a → Encodable b
+    → KeepsWhatItMay version a → KeepsWhatItMay version b
+    → flat_map (space_encoding version a.kept) (finmap.entries a.ipc.spaces) ++ x
+    ≡ flat_map (space_encoding version b.kept) (finmap.entries b.ipc.spaces) ++ y
+    → finmap.len a.ipc.spaces ≡ finmap.len b.ipc.spaces
+    → (a.ipc.spaces ≡ b.ipc.spaces) × (a.kept ≡ b.kept) × (x ≡ y)
+spaces_once version a b x y fits fits_too keeps keeps_too e counts =
+    let es : List (ℕ × Names) = finmap.entries a.ipc.spaces in
+    let es_too : List (ℕ × Names) = finmap.entries b.ipc.spaces in
+    let rows =
+    list_once (row_encoding version) (FitsRow version) (row_once version) (rows_of a) (rows_of b) x y
+    (rows_fit version a es fits keeps fits.ipc.spaces) (rows_fit version b es_too fits_too keeps_too fits_too.ipc.spaces)
+    (length-rows a.kept es ∙ sym (len-entries a.ipc.spaces) ∙ counts ∙ len-entries b.ipc.spaces
+    ∙ sym (length-rows b.kept es_too))
+    (ap (λ (l : List ℕ). l ++ x) (sym (rows_encoding version a.kept es)) ∙ e
+    ∙ ap (λ (l : List ℕ). l ++ y) (rows_encoding version b.kept es_too)) in
+    let entries : es ≡ es_too =
+    sym (names_back a.kept es) ∙ ap (map names_of_row) rows.0 ∙ names_back b.kept es_too in
+    let spaces = same_entries_map a.ipc.spaces b.ipc.spaces entries in
+    let alike =
+    rows_alike a.kept b.kept es (rows.0 ∙ ap (map (row_of b.kept)) (sym entries)) in
+    (spaces, same_kept a b fits fits_too spaces alike, rows.1)
 
 -- Equal bytes that begin with the image of a state begin with the image of only that state, followed by the same bytes.
 abbrev pub ImagesHaveOneEncoding : Type 0
 ImagesHaveOneEncoding =
-    (version : StoreVersion) (a b : State) (x y : List ℕ) → Encodable a → Encodable b
-    → image_encoding_of version a ++ x ≡ image_encoding_of version b ++ y → (a ≡ b) × (x ≡ y)
+    (version : StoreVersion) (a b : State) (x y : List ℕ) → Encodable a → Encodable b → KeepsWhatItMay version a
+    → KeepsWhatItMay version b → image_encoding_of version a ++ x ≡ image_encoding_of version b ++ y → (a ≡ b) × (x ≡ y)
 
 pub image_once : ImagesHaveOneEncoding
-image_once version a b x y fits fits_too e =
+image_once version a b x y fits fits_too keeps keeps_too e =
     let whole = sym (image_apart version a x) ∙ e ∙ image_apart version b y in
     let next =
-    long_word_once a.next b.next (after_next version a x) (after_next version b y) fits.next fits_too.next whole in
+    long_word_once a.ipc.next b.ipc.next (after_next version a x) (after_next version b y) fits.ipc.next
+    fits_too.ipc.next whole in
+    let counts =
+    word_once (finmap.len a.ipc.spaces) (finmap.len b.ipc.spaces)
+    (flat_map (space_encoding version a.kept) (finmap.entries a.ipc.spaces) ++ after_spaces a x)
+    (flat_map (space_encoding version b.kept) (finmap.entries b.ipc.spaces) ++ after_spaces b y) fits.ipc.few_spaces
+    fits_too.ipc.few_spaces next.1 in
     let spaces =
-    map_once (space_encoding version) EncodableSpace (space_once version) a.spaces b.spaces (after_spaces a x)
-    (after_spaces b y) fits.few_spaces fits_too.few_spaces fits.spaces fits_too.spaces next.1 in
+    spaces_once version a b (after_spaces a x) (after_spaces b y) fits fits_too keeps keeps_too counts.1 counts.0 in
     let ports =
-    map_once live_port_encoding EncodableLivePort live_port_once a.ports b.ports x y fits.few_ports
-    fits_too.few_ports fits.ports fits_too.ports spaces.1 in
-    ((λ i. record { spaces = spaces.0 i; ports = ports.0 i; next = next.0 i }), ports.1)
+    map_once live_port_encoding EncodableLivePort live_port_once a.ipc.ports b.ipc.ports x y fits.ipc.few_ports
+    fits_too.ipc.few_ports fits.ipc.ports fits_too.ipc.ports spaces.2 in (
+      (λ i. record {
+        ipc = record { spaces = spaces.0 i; ports = ports.0 i; next = next.0 i };
+        kept = spaces.1 i;
+      }),
+      ports.1,
+    )

@@ -6,17 +6,17 @@ use Rattle.ipc_model.specs.declared.port.PortState.{PortState}
 use Rattle.ipc_model.specs.declared.message.RightKind.TheVariants as kind
 use Rattle.ipc_model.specs.state.Lawful.{Lawful, LawfulBut, IsHeldAlongsideSet, IsReleased, count_with}
 use Rattle.ipc_model.specs.state.Placed.{Right, placed, receive_count, same_kind}
-use Rattle.ipc_model.specs.state.State.{State}
+use Rattle.ipc_model.specs.state.Ipc.{Ipc}
 
 -- lawful with no effects left
-abbrev pub LawfulAtRest : State → Type 0
+abbrev pub LawfulAtRest : Ipc → Type 0
 LawfulAtRest state = LawfulBut state []
 
-none_waits : (state : State) (serial : ℕ) → count_with kind.Receive state [] serial ≡ receive_count state serial
+none_waits : (state : Ipc) (serial : ℕ) → count_with kind.Receive state [] serial ≡ receive_count state serial
 none_waits state serial =
     ap (count_by (λ (r : Right). same_kind r.kind kind.Receive && r.port == serial)) (append-nil (placed state))
 
-pub at_rest : (state : State) → Lawful state → LawfulAtRest state
+pub at_rest : (state : Ipc) → Lawful state → LawfulAtRest state
 at_rest state lawful = record {
   first_space = lawful.first_space;
   spaces = lawful.spaces;
@@ -32,7 +32,7 @@ at_rest state lawful = record {
 none_released : (serial : ℕ) → IsReleased [] serial → ⊥
 none_released serial (k, less, is) = absurd (omega (arith, less))
 
-pub alone : (state : State) → LawfulAtRest state → Lawful state
+pub alone : (state : Ipc) → LawfulAtRest state → Lawful state
 alone state lawful = record {
   first_space = lawful.first_space;
   spaces = lawful.spaces;
@@ -50,7 +50,7 @@ alone state lawful = record {
 }
 
 abbrev pub LawfulIsAtRest : Type 0
-LawfulIsAtRest = (state : State) → (Lawful state → LawfulBut state []) × (LawfulBut state [] → Lawful state)
+LawfulIsAtRest = (state : Ipc) → (Lawful state → LawfulBut state []) × (LawfulBut state [] → Lawful state)
 
 pub lawful_is_at_rest : LawfulIsAtRest
 lawful_is_at_rest state = (at_rest state, alone state)

@@ -23,7 +23,7 @@ use Rattle.ipc_laws.specs.ListLaws.{some_same}
 use Rattle.ipc_model.specs.calls.PortCalls.{one_if, has_receive, is_right, is_no_right, references_of, sum_of, sum_is_negative, bound_of, minus_one, tests_of_delta, is_none_or_minus_one}
 use Rattle.ipc_laws.specs.ReferencesKeep.{entry_kept, left_of, left_state, left_receive, left_waits, left_weighs, port_weighs, left_lawful, not_empty, not_set, none_released, first_released, send_left_kept, dead_left_kept, gone_kept, changed_space}
 use Rattle.ipc_laws.specs.SetsKeep.{set_gone_kept}
-use Rattle.ipc_model.specs.state.State.{State, Names, with_names}
+use Rattle.ipc_model.specs.state.Ipc.{Ipc, Names, with_names}
 use Rattle.ipc_model.specs.calls.Tests.{first_failing}
 use Rattle.ipc_laws.specs.Weights.{Weight, target_weigh, entry_weigh, receive_of, any_of}
 
@@ -40,7 +40,7 @@ without_receive w rights =
       | false ↦ omega arith
     ]
 
-pub receive_gone_kept : (old : State) (space name : ℕ) (names : Names) (rights : PortRights) → LawfulAtRest old
+pub receive_gone_kept : (old : Ipc) (space name : ℕ) (names : Names) (rights : PortRights) → LawfulAtRest old
     → Acyclic old → finmap.get old.spaces space ≡ Some names → finmap.get names name ≡ Some (Port rights)
     → rights.receive ≡ true
     → Kept (actions.receive_gone old space name rights).state (actions.receive_gone old space name rights).effects
@@ -72,7 +72,7 @@ receive_gone_kept old space name names rights lawful acyclic there at holds =
     let lawful_names : LawfulNames (changed names name (left_of entry)) =
     left_lawful names name rights entry own.2 at refl
     (λ (some_left : _). (not_empty false rights.send some_left, bounds.1)) in
-    subst (λ (s : State). Kept s later) (sym (left_state old space name names entry there))
+    subst (λ (s : Ipc). Kept s later) (sym (left_state old space name names entry there))
     (entry_kept old space name names (Some (Port rights)) (left_of entry) later lawful acyclic move lawful_names)
 
 -- what the tests of a delta have shown
@@ -92,7 +92,7 @@ delta_bound which references delta counted passes =
     ltb-false (bound_of which) (sum_of references delta)
     (first_passes (nat_lt (bound_of which) (sum_of references delta), UrefsOverflow) [] second).0
 
-same_kept : (old : State) → LawfulAtRest old → Acyclic old → Kept old []
+same_kept : (old : Ipc) → LawfulAtRest old → Acyclic old → Kept old []
 same_kept old lawful acyclic = record { lawful = lawful; acyclic = acyclic }
 
 if_kept : (b : Bool) (one other : actions.Action) → (b ≡ true → Kept one.state one.effects)
@@ -147,7 +147,7 @@ either_way : (b c : Bool) → c ≡ true → (b || c) ≡ true
 either_way true c e = refl
 either_way false c e = e
 
-pub modified_kept : (old : State) (space name : ℕ) (names : Names) (entry : Entry) (which delta : ℕ) → LawfulAtRest old
+pub modified_kept : (old : Ipc) (space name : ℕ) (names : Names) (entry : Entry) (which delta : ℕ) → LawfulAtRest old
     → Acyclic old → finmap.get old.spaces space ≡ Some names → finmap.get names name ≡ Some entry
     → is_no_right which ≡ false → (references_of which entry == 0) ≡ false
     → first_failing (tests_of_delta which (references_of which entry) delta) ≡ None
@@ -173,7 +173,7 @@ modified_kept old space name names (Port rights) which delta lawful acyclic ther
     (port_holds rights which some other)) (λ (_ : _). same_kept old lawful acyclic))
 modified_kept old space name names (SendOnce port target) which delta lawful acyclic there at known some passes =
     if_kept (delta == minus_one) (actions.send_once_gone old space name port target 9) (actions.done_with 9 old [])
-    (λ (_ : _). subst (λ (s : State). Kept s (actions.effects_of_name name (SendOnce port target)))
+    (λ (_ : _). subst (λ (s : Ipc). Kept s (actions.effects_of_name name (SendOnce port target)))
     (sym (changed_space old space names (λ (n : Names). finmap.remove n name) there))
     (gone_kept old space name names (SendOnce port target) lawful acyclic there at tt))
     (λ (_ : _). same_kept old lawful acyclic)

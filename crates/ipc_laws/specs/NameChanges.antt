@@ -18,11 +18,11 @@ use Rattle.ipc_laws.specs.ListLaws.{some_same}
 use Rattle.ipc_laws.specs.MapLaws.{get-here, get-there, get-left}
 use Rattle.ipc_laws.specs.MapSums.{weigh, total, weight, total-insert}
 use Rattle.ipc_laws.specs.Others.{number_decided}
-use Rattle.ipc_model.specs.state.State.{State, Names, with_names, lives, port_held}
+use Rattle.ipc_model.specs.state.Ipc.{Ipc, Names, with_names, lives, port_held}
 use Rattle.ipc_laws.specs.Weights.{Weight, names_weigh, state_weigh, effect_weigh, receive_of, any_of, count-receive, count-any}
 
 -- other names in an existing space
-pub names_change : (w : Weight) (state : State) (space : ℕ) (names after : Names)
+pub names_change : (w : Weight) (state : Ipc) (space : ℕ) (names after : Names)
     → finmap.get state.spaces space ≡ Some names
     → state_weigh w (with_names state space after) + names_weigh w names ≡ state_weigh w state + names_weigh w after
 unfolding state_weigh
@@ -36,7 +36,7 @@ names_change w state space names after there =
 
 -- What has to be shown of such a change: the names are lawful; receive rights only move between names and effects; no
 -- right is new to a port that isn't live; members stay in the spaces of their sets, or their receive rights wait.
-pub record NamesMove (state : State) (space : ℕ) (names after : Names) (effects later : List Effect) : Type 0 where
+pub record NamesMove (state : Ipc) (space : ℕ) (names after : Names) (effects later : List Effect) : Type 0 where
   pub there : finmap.get state.spaces space ≡ Some names
   pub lawful : LawfulNames after
   pub receives : (q : ℕ) → names_weigh (receive_of q) after + weigh (effect_weigh (receive_of q)) later
@@ -47,7 +47,7 @@ pub record NamesMove (state : State) (space : ℕ) (names after : Names) (effect
       → IsHeldAlongsideSet state serial set ⊎ IsReleased effects serial
       → IsHeldAlongsideSet (with_names state space after) serial set ⊎ IsReleased later serial
 
-pub one_space : (state : State) (space other : ℕ) (after names : Names)
+pub one_space : (state : Ipc) (space other : ℕ) (after names : Names)
     → finmap.get (finmap.insert state.spaces space after) other ≡ Some names
     → ((other ≡ space) × (after ≡ names)) ⊎ (finmap.get state.spaces other ≡ Some names)
 one_space state space other after names at =
@@ -64,7 +64,7 @@ one_space state space other after names at =
     ]
 
 -- the first space still exists
-pub first_there : (state : State) (space : ℕ) (after names : Names) → finmap.get state.spaces 1 ≡ Some names
+pub first_there : (state : Ipc) (space : ℕ) (after names : Names) → finmap.get state.spaces 1 ≡ Some names
     → (n : Names) × (finmap.get (finmap.insert state.spaces space after) 1 ≡ Some n)
 first_there state space after names first =
     elim (number_decided 1 space) as (λ _. (n : Names)
@@ -80,7 +80,7 @@ first_there state space after names first =
 -- Such a change keeps the state lawful.
 abbrev pub NamesMoveLawfully : Type 0
 NamesMoveLawfully =
-    (state : State) (space : ℕ) (names after : Names) (effects later : List Effect)
+    (state : Ipc) (space : ℕ) (names after : Names) (effects later : List Effect)
     → NamesMove state space names after effects later → LawfulBut state effects
     → LawfulBut (with_names state space after) later
 

@@ -14,7 +14,10 @@ use Rattle.ipc_laws.specs.ListLaws.{some_same}
 use Rattle.ipc_laws.specs.MapLaws.{get-here, get-there, map_rules}
 use Rattle.ipc_laws.specs.MapSums.{total, total-new, weigh}
 use Rattle.ipc_laws.specs.Others.{number_decided}
-use Rattle.ipc_model.specs.state.State.{Names, opening_state, lives}
+use Rattle.ipc_model.specs.declared.reply.NumberedReply.{NumberedReply}
+use Rattle.ipc_model.specs.state.Ipc.{Names, opening_ipc, lives}
+use Rattle.ipc_model.specs.state.LawfulState.{LawfulState}
+use Rattle.ipc_model.specs.state.State.{opening_state}
 use Rattle.ipc_laws.specs.Weights.{Weight, state_weigh, any_of, names_weigh, entry_weigh, port_weigh, count-any}
 
 pub none_in_empty : {X : Type 0} (k : ℕ) (x : X) → finmap.get (finmap.empty {X = X} {R = nat_cmp}) k ≡ Some x → ⊥
@@ -40,7 +43,7 @@ no_names_lawful = record {
 }
 
 -- the only space is space 1
-only_space : (space : ℕ) (names : Names) → finmap.get opening_state.spaces space ≡ Some names → (space ≡ 1)
+only_space : (space : ℕ) (names : Names) → finmap.get opening_ipc.spaces space ≡ Some names → (space ≡ 1)
     × (finmap.empty ≡ names)
 only_space space names at = elim (number_decided space 1) as (λ _. (space ≡ 1) × (finmap.empty ≡ names)) [
   | inl apart ↦ absurd (none_in_empty space names (sym (get-there finmap.empty 1 finmap.empty space apart) ∙ at))
@@ -52,7 +55,7 @@ only_space space names at = elim (number_decided space 1) as (λ _. (space ≡ 1
   )
 ]
 
-no_weight : (w : Weight) → state_weigh w opening_state ≡ 0
+no_weight : (w : Weight) → state_weigh w opening_ipc ≡ 0
 unfolding state_weigh
 no_weight w =
     omega (
@@ -63,15 +66,12 @@ no_weight w =
       total-empty {X = PortState} (port_weigh w),
     )
 
-no_port_lives : (serial : ℕ) → lives opening_state serial ≡ true → ⊥
+no_port_lives : (serial : ℕ) → lives opening_ipc serial ≡ true → ⊥
 no_port_lives serial live = absurd (cc (sym (ap is_some (get-empty {X = PortState} nat_cmp serial)) ∙ live))
 
-abbrev pub OpeningIsLawful : Type 0
-OpeningIsLawful = Lawful opening_state × Acyclic opening_state
-
-pub opening_is_lawful : OpeningIsLawful
-opening_is_lawful = (
-  alone opening_state (record {
+opening_ipc_is_lawful : Lawful opening_ipc × Acyclic opening_ipc
+opening_ipc_is_lawful = (
+  alone opening_ipc (record {
     first_space = (finmap.empty, get-here finmap.empty 1 finmap.empty);
     spaces = λ (space : ℕ) (names : Names) (at : _).
         let only = only_space space names at in
@@ -80,15 +80,28 @@ opening_is_lawful = (
     few_ports = omega (arith, len-empty nat_cmp PortState);
     next = (omega arith, omega arith);
     one_receive = λ (serial : ℕ) (live : _). absurd (no_port_lives serial live);
-    live = λ (serial : ℕ) (dead : _). count-any opening_state serial ∙ no_weight (any_of serial);
+    live = λ (serial : ℕ) (dead : _). count-any opening_ipc serial ∙ no_weight (any_of serial);
     waits = tt;
     sets = λ (serial set : ℕ) (port : PortState) (at : _) (is : _). absurd (none_in_empty serial port at);
   }),
   (
     λ (serial : ℕ). 0,
-    λ (outer inner : ℕ) (carries : Carries opening_state outer inner). absurd
+    λ (outer inner : ℕ) (carries : Carries opening_ipc outer inner). absurd
         (none_in_empty outer carries.0 carries.1),
   ),
+)
+
+-- The opening state is lawful and acyclic.
+abbrev pub OpeningIsLawful : Type 0
+OpeningIsLawful = LawfulState opening_state × Acyclic opening_state.ipc
+
+pub opening_is_lawful : OpeningIsLawful
+opening_is_lawful = (
+  record {
+    ipc = opening_ipc_is_lawful.0;
+    kept = λ (space : ℕ) (answer : NumberedReply) (at : _). absurd (cc (sym (get-empty nat_cmp space) ∙ at));
+  },
+  opening_ipc_is_lawful.1,
 )
 
 -- its image

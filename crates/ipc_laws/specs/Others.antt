@@ -17,7 +17,7 @@ use Rattle.ipc_laws.specs.MapLaws.{get-there, get-gone, get-left, get-map_values
 use Rattle.ipc_model.specs.messages.Notices.{Notice, notice_message}
 use Rattle.ipc_model.specs.messages.Notices as notice
 use Rattle.ipc_model.specs.state.Placed.{send_count}
-use Rattle.ipc_model.specs.state.State.{State, Names, with_port, lives, request_of}
+use Rattle.ipc_model.specs.state.Ipc.{Ipc, Names, with_port, lives, request_of}
 
 -- an entry stands for a right to a port
 abbrev pub StandsFor : Entry → ℕ → Type 0
@@ -50,7 +50,7 @@ abbrev pub NamesFade : (ℕ → Bool) → Names → Names → Type 0
 NamesFade live before after = (name : ℕ) → FadesAt live (finmap.get before name) (finmap.get after name)
 
 -- a space that existed still exists, and its names are as they were or have faded
-abbrev pub SpaceFades : State → State → ℕ → Type 0
+abbrev pub SpaceFades : Ipc → Ipc → ℕ → Type 0
 SpaceFades old new space =
     (before : Names) → finmap.get old.spaces space ≡ Some before → (after : Names)
     × (finmap.get new.spaces space ≡ Some after) × NamesFade (lives new) before after
@@ -113,7 +113,7 @@ fades_at_on live later (Some entry) mid after fewer first second =
     subst (λ (o : Option Entry). FadesAt later o after) first.1 second in
     (next.0, next.1, fades_on later entry first.0 next.0 (fades_later live later entry first.0 fewer first.2) next.2)
 
-pub space_fades_on : (old mid new : State) (space : ℕ) → Fewer (lives mid) (lives new) → SpaceFades old mid space
+pub space_fades_on : (old mid new : Ipc) (space : ℕ) → Fewer (lives mid) (lives new) → SpaceFades old mid space
     → SpaceFades mid new space → SpaceFades old new space
 space_fades_on old mid new space fewer first second before there =
     let here = first before there in
@@ -126,11 +126,11 @@ space_fades_on old mid new space fewer first second before there =
 
 -- one effect
 
-pub with_port_spaces : (state : State) (serial : ℕ) (change : PortState → PortState)
+pub with_port_spaces : (state : Ipc) (serial : ℕ) (change : PortState → PortState)
     → (with_port state serial change).spaces ≡ state.spaces
 with_port_spaces state serial change =
     elim (finmap.get state.ports serial)
-    as (λ (o : Option PortState). (elim o as (λ _. State) [
+    as (λ (o : Option PortState). (elim o as (λ _. Ipc) [
       | None ↦ state
       | Some port ↦ record state
           { ports = finmap.insert state.ports serial (change port) }
@@ -167,11 +167,11 @@ lives_insert ports serial other port changed there dead =
     (λ (e : _). not_live (ap is_some (sym there) ∙ ap (λ (k : ℕ). is_some (finmap.get ports k)) (sym e) ∙ dead)))
     ∙ dead
 
-pub with_port_lives : (state : State) (serial : ℕ) (change : PortState → PortState)
+pub with_port_lives : (state : Ipc) (serial : ℕ) (change : PortState → PortState)
     → Fewer (lives state) (lives (with_port state serial change))
 with_port_lives state serial change other dead =
     elim (finmap.get state.ports serial) as (λ (o : Option PortState). finmap.get state.ports serial ≡ o
-    → lives (elim o as (λ _. State)
+    → lives (elim o as (λ _. Ipc)
     [ None ↦ state | Some port ↦ record state { ports = finmap.insert state.ports serial (change port) } ]) other
     ≡ false) [
       | None ↦ λ (none : _). dead
@@ -183,13 +183,13 @@ lives_mapped : (change : PortState → PortState) (o : Option PortState) → is_
 lives_mapped change None dead = refl
 lives_mapped change (Some port) dead = dead
 
-after_death_lives : (state : State) (serial : ℕ) → Fewer (lives state) (lives (after_death state serial))
+after_death_lives : (state : Ipc) (serial : ℕ) → Fewer (lives state) (lives (after_death state serial))
 after_death_lives state serial other dead =
     ap is_some (get-map_values (port_after_death serial) (finmap.remove state.ports serial) other)
     ∙ lives_mapped (port_after_death serial) (finmap.get (finmap.remove state.ports serial) other)
     (left_dead state.ports serial other dead)
 
-pub after_death_dead : (state : State) (serial : ℕ) → lives (after_death state serial) serial ≡ false
+pub after_death_dead : (state : Ipc) (serial : ℕ) → lives (after_death state serial) serial ≡ false
 after_death_dead state serial =
     ap is_some (get-map_values (port_after_death serial) (finmap.remove state.ports serial) serial
     ∙ ap (option_map (port_after_death serial)) (get-gone state.ports serial))
@@ -249,7 +249,7 @@ entry_at_fades live serial None dead = refl
 entry_at_fades live serial (Some entry) dead =
     (entry_after_death serial entry, refl, entry_fades live serial entry dead)
 
-death_fades : (state : State) (serial space : ℕ) → SpaceFades state (after_death state serial) space
+death_fades : (state : Ipc) (serial space : ℕ) → SpaceFades state (after_death state serial) space
 death_fades state serial space before there = (
   map_values (entry_after_death serial) before,
   get-map_values (map_values (entry_after_death serial)) state.spaces space
@@ -265,7 +265,7 @@ pub same_at : (live : ℕ → Bool) (o : Option Entry) → FadesAt live o o
 same_at live None = refl
 same_at live (Some entry) = (entry, refl, inl refl)
 
-spaces_stay : (old new : State) (space : ℕ) → new.spaces ≡ old.spaces → SpaceFades old new space
+spaces_stay : (old new : Ipc) (space : ℕ) → new.spaces ≡ old.spaces → SpaceFades old new space
 spaces_stay old new space same before there = (
   before,
   ap (λ (s : finmap.FinMap nat_cmp Names). finmap.get s space) same ∙ there,
@@ -273,19 +273,19 @@ spaces_stay old new space same before there = (
 )
 
 -- What one effect does to spaces and live ports: both stay, or a port dies.
-pub record Passing (old new : State) : Type 0 where
+pub record Passing (old new : Ipc) : Type 0 where
   pub fewer : Fewer (lives old) (lives new)
   pub fades : (space : ℕ) → SpaceFades old new space
   pub absent : (space : ℕ) → finmap.get old.spaces space ≡ None → finmap.get new.spaces space ≡ None
 
-passing_on : (old mid new : State) → Passing old mid → Passing mid new → Passing old new
+passing_on : (old mid new : Ipc) → Passing old mid → Passing mid new → Passing old new
 passing_on old mid new first second = record {
   fewer = λ (serial : ℕ) (dead : _). second.fewer serial (first.fewer serial dead);
   fades = λ (space : ℕ). space_fades_on old mid new space second.fewer (first.fades space) (second.fades space);
   absent = λ (space : ℕ) (none : _). second.absent space (first.absent space none);
 }
 
-nothing_passes : (state : State) → Passing state state
+nothing_passes : (state : Ipc) → Passing state state
 nothing_passes state =
     record {
       fewer = λ (serial : ℕ) (dead : _). dead;
@@ -293,7 +293,7 @@ nothing_passes state =
       absent = λ (space : ℕ) (none : _). none;
     }
 
-port_changes : (state : State) (serial : ℕ) (change : PortState → PortState)
+port_changes : (state : Ipc) (serial : ℕ) (change : PortState → PortState)
     → Passing state (with_port state serial change)
 port_changes state serial change = record {
   fewer = with_port_lives state serial change;
@@ -303,7 +303,7 @@ port_changes state serial change = record {
       (with_port_spaces state serial change) ∙ none;
 }
 
-port_dies : (state : State) (serial : ℕ) → Passing state (after_death state serial)
+port_dies : (state : Ipc) (serial : ℕ) → Passing state (after_death state serial)
 port_dies state serial =
     record {
       fewer = after_death_lives state serial;
@@ -312,28 +312,28 @@ port_dies state serial =
           ∙ ap (option_map (map_values (entry_after_death serial))) none;
     }
 
-notice_goes : (state : State) (target : ℕ) (what : Notice) → Passing state (notified state target what)
+notice_goes : (state : Ipc) (target : ℕ) (what : Notice) → Passing state (notified state target what)
 notice_goes state target what =
     port_changes state target
     (λ (port : PortState). record port { messages = port.messages ++ notice_message what ∷ [] })
 
-no_senders_passes : (state : State) (serial : ℕ) (port : PortState) (target : Option ℕ)
+no_senders_passes : (state : Ipc) (serial : ℕ) (port : PortState) (target : Option ℕ)
     → Passing state (notified_no_senders state serial port target)
 no_senders_passes state serial port None = nothing_passes state
 no_senders_passes state serial port (Some target) =
     passing_on _ _ _ (port_changes state serial _) (notice_goes _ target (notice.NoSenders port.make_send_count))
 
-choose : (old one other : State) (b : Bool) → Passing old one → Passing old other
+choose : (old one other : Ipc) (b : Bool) → Passing old one → Passing old other
     → Passing old (if b then one else other)
 choose old one other true first second = first
 choose old one other false first second = second
 
-choose_outcome : (old : State) (one other : State × List Effect) (b : Bool) → Passing old one.0 → Passing old other.0
+choose_outcome : (old : Ipc) (one other : Ipc × List Effect) (b : Bool) → Passing old one.0 → Passing old other.0
     → Passing old (if b then one else other).0
 choose_outcome old one other true first second = first
 choose_outcome old one other false first second = second
 
-receive_passes : (state : State) (serial : ℕ) (port : PortState) (target : Option ℕ)
+receive_passes : (state : Ipc) (serial : ℕ) (port : PortState) (target : Option ℕ)
     → Passing state (receive_released_to state serial port target).0
 receive_passes state serial port None = port_dies state serial
 receive_passes state serial port (Some target) =
@@ -342,7 +342,7 @@ receive_passes state serial port (Some target) =
     (passing_on _ _ _ (port_changes state serial _) (notice_goes _ target (notice.PortDestroyed serial)))
     (port_dies state serial)
 
-release_passes : (state : State) (serial : ℕ) (port : PortState) (kind : RightKind)
+release_passes : (state : Ipc) (serial : ℕ) (port : PortState) (kind : RightKind)
     → Passing state (released state serial port kind).0
 release_passes state serial port kind.Send =
     choose state (notified_no_senders state serial port port.no_senders_target) state (send_count state serial == 0)
@@ -350,17 +350,17 @@ release_passes state serial port kind.Send =
 release_passes state serial port kind.SendOnce = notice_goes state serial notice.SendOnce
 release_passes state serial port kind.Receive = receive_passes state serial port port.port_destroyed_target
 
-live_passes : (state : State) (serial : ℕ) (kind : RightKind) (o : Option PortState)
+live_passes : (state : Ipc) (serial : ℕ) (kind : RightKind) (o : Option PortState)
     → Passing state (released_if_live state serial kind o).0
 live_passes state serial kind None = nothing_passes state
 live_passes state serial kind (Some port) = release_passes state serial port kind
 
-pub effect_passes : (state : State) (first : Effect) → Passing state (effect state first).0
+pub effect_passes : (state : Ipc) (first : Effect) → Passing state (effect state first).0
 unfolding effect
 effect_passes state (release kind serial) = live_passes state serial kind (finmap.get state.ports serial)
 effect_passes state (notify target what) = notice_goes state target what
 
-pub settling_passes : (state : State) (effects : List Effect) (end : State) → Settles state effects end
+pub settling_passes : (state : Ipc) (effects : List Effect) (end : Ipc) → Settles state effects end
     → Passing state end
 settling_passes state [] end settled = nothing_passes state
 settling_passes state (first ∷ rest) end (next_effect later) =

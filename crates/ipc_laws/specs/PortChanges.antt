@@ -15,12 +15,12 @@ use Rattle.ipc_model.specs.state.Lawful.{LawfulBut, LawfulPort, IsHeldAlongsideS
 use Rattle.ipc_laws.specs.ListLaws.{some_same}
 use Rattle.ipc_laws.specs.MapLaws.{get-here, get-there}
 use Rattle.ipc_laws.specs.Others.{number_decided, with_port_lives, with_port_spaces}
-use Rattle.ipc_model.specs.state.State.{State, Names, with_port, lives}
+use Rattle.ipc_model.specs.state.Ipc.{Ipc, Names, with_port, lives}
 use Rattle.ipc_laws.specs.Weights.{Weight, port_weigh, state_weigh, receive_of, any_of, count-receive, count-any}
 
 -- What has to be shown of such a change: the port keeps its rights and its messages, stays lawful, and if it is in a
 -- set it is held in the set's space, or its receive right waits.
-pub record PortMove (state : State) (effects : List Effect) (serial : ℕ) (change : PortState → PortState) : Type 0 where
+pub record PortMove (state : Ipc) (effects : List Effect) (serial : ℕ) (change : PortState → PortState) : Type 0 where
   pub port : PortState
   pub there : finmap.get state.ports serial ≡ Some port
   pub lawful : (p : PortState) → LawfulPort p → LawfulPort (change p)
@@ -29,35 +29,35 @@ pub record PortMove (state : State) (effects : List Effect) (serial : ℕ) (chan
   pub member : (set : ℕ) → (change port).set ≡ Some set → IsHeldAlongsideSet state serial set
       ⊎ IsReleased effects serial
 
-same_weight : (w : Weight) (state : State) (effects : List Effect) (serial : ℕ) (change : PortState → PortState)
+same_weight : (w : Weight) (state : Ipc) (effects : List Effect) (serial : ℕ) (change : PortState → PortState)
     → PortMove state effects serial change → state_weigh w (with_port state serial change) ≡ state_weigh w state
 same_weight w state effects serial change move =
     omega (arith, with_port_weigh w state serial change move.port move.there, move.rights w)
 
-live_before : (state : State) (serial q : ℕ) (change : PortState → PortState)
+live_before : (state : Ipc) (serial q : ℕ) (change : PortState → PortState)
     → lives (with_port state serial change) q ≡ true → lives state q ≡ true
 live_before state serial q change live = elim (lives state q) as (λ (b : Bool). lives state q ≡ b → b ≡ true) [
   | true ↦ λ (e : _). refl
   | false ↦ λ (dead : _). absurd (cc (sym live ∙ with_port_lives state serial change q dead))
 ] refl
 
-alongside_still : (state : State) (serial other set : ℕ) (change : PortState → PortState)
+alongside_still : (state : Ipc) (serial other set : ℕ) (change : PortState → PortState)
     → IsHeldAlongsideSet state other set → IsHeldAlongsideSet (with_port state serial change) other set
 alongside_still state serial other set change held =
     subst (λ (s : finmap.FinMap nat_cmp Names). IsHeldAlongsideSet (record state { spaces = s }) other set)
     (sym (with_port_spaces state serial change)) held
 
-changed_members : (state : State) (effects : List Effect) (serial : ℕ) (change : PortState → PortState)
+changed_members : (state : Ipc) (effects : List Effect) (serial : ℕ) (change : PortState → PortState)
     → PortMove state effects serial change → LawfulBut state effects
     → (other set : ℕ) (port : PortState) → finmap.get (with_port state serial change).ports other ≡ Some port
     → port.set ≡ Some set → IsHeldAlongsideSet (with_port state serial change) other set ⊎ IsReleased effects other
 changed_members state effects serial change move lawful other set port at is =
     let inserted : with_port state serial change
     ≡ record state { ports = finmap.insert state.ports serial (change move.port) } =
-    ap (λ (o : Option PortState). elim o as (λ _. State)
+    ap (λ (o : Option PortState). elim o as (λ _. Ipc)
     [ None ↦ state | Some p ↦ record state { ports = finmap.insert state.ports serial (change p) } ]) move.there in
     let at_there : finmap.get (finmap.insert state.ports serial (change move.port)) other ≡ Some port =
-    ap (λ (s : State). finmap.get s.ports other) (sym inserted) ∙ at in
+    ap (λ (s : Ipc). finmap.get s.ports other) (sym inserted) ∙ at in
     let before : IsHeldAlongsideSet state other set ⊎ IsReleased effects other =
     elim (number_decided other serial) as (λ _. IsHeldAlongsideSet state other set ⊎ IsReleased effects other) [
       | inl apart ↦ lawful.sets other set port
@@ -78,7 +78,7 @@ changed_members state effects serial change move lawful other set port at is =
 -- Such a change keeps the state lawful, and acyclic.
 abbrev pub PortMovesLawfully : Type 0
 PortMovesLawfully =
-    (state : State) (effects : List Effect) (serial : ℕ) (change : PortState → PortState)
+    (state : Ipc) (effects : List Effect) (serial : ℕ) (change : PortState → PortState)
     → PortMove state effects serial change → LawfulBut state effects → Acyclic state
     → LawfulBut (with_port state serial change) effects × Acyclic (with_port state serial change)
 

@@ -21,7 +21,7 @@ use Rattle.ipc_laws.specs.MapLaws.{get-left}
 use Rattle.ipc_laws.specs.MapSums.{weigh, total, weight, weigh-le, total-remove, same_key, key_is}
 use Rattle.ipc_laws.specs.Others.{number_same, number_decided}
 use Rattle.ipc_model.specs.state.Placed.{same_kind}
-use Rattle.ipc_model.specs.state.State.{State}
+use Rattle.ipc_model.specs.state.Ipc.{Ipc}
 use Rattle.ipc_laws.specs.Weights.{place_weigh, carried_weigh, message_weigh, port_weigh, receive_of}
 
 -- which entry a search finds
@@ -63,7 +63,7 @@ finds_one {X = X} test (y ∷ es) k x passes there =
     ] refl
 
 -- the carrier of a port carries it
-pub carrier_carries : (state : State) (inner outer : ℕ) → carrier_of state inner ≡ Some outer
+pub carrier_carries : (state : Ipc) (inner outer : ℕ) → carrier_of state inner ≡ Some outer
     → Carries state outer inner
 carrier_carries state inner outer is =
     elim (find (λ e. carries inner e.1) (finmap.entries state.ports))
@@ -129,10 +129,10 @@ two_parts f ports one other first second apart here there =
     omega (arith, without, without_both)
 
 -- each receive right travels in one queue at most
-abbrev pub TravelsOnce : State → Type 0
+abbrev pub TravelsOnce : Ipc → Type 0
 TravelsOnce state = (q : ℕ) → total (port_weigh (receive_of q)) state.ports ≤ 1
 
-pub one_carrier : (state : State) → TravelsOnce state → (inner outer : ℕ) → Carries state outer inner
+pub one_carrier : (state : Ipc) → TravelsOnce state → (inner outer : ℕ) → Carries state outer inner
     → carrier_of state inner ≡ Some outer
 one_carrier state once inner outer (port, at, is) =
     let found =
@@ -179,10 +179,10 @@ one_at_most : (r n : ℕ) → counts r n ≤ 1
 one_at_most r n =
     elim (nat_lt r n) as (λ (b : Bool). cond {A = ℕ} b 1 0 ≤ 1) [ true ↦ omega arith | false ↦ omega arith ]
 
-unfoldable pub above : (ℕ → ℕ) → ℕ → State → ℕ
+unfoldable pub above : (ℕ → ℕ) → ℕ → Ipc → ℕ
 above rank r state = total (λ k port. counts r (rank k)) state.ports
 
-fewer_above : (rank : ℕ → ℕ) (state : State) (outer : ℕ) (port : PortState) (r : ℕ)
+fewer_above : (rank : ℕ → ℕ) (state : Ipc) (outer : ℕ) (port : PortState) (r : ℕ)
     → finmap.get state.ports outer ≡ Some port → r < rank outer → above rank (rank outer) state + 1 ≤ above rank r state
 unfolding above
 fewer_above rank state outer port r at less =
@@ -210,13 +210,13 @@ each_one rank r [] = omega arith
 each_one rank r (e ∷ es) =
     omega (arith, each_one rank r es, counts_fewer 0 r (rank e.0) (omega arith), one_at_most r (rank e.0))
 
-pub few_above : (rank : ℕ → ℕ) (r : ℕ) (state : State) → above rank r state ≤ finmap.len state.ports
+pub few_above : (rank : ℕ → ℕ) (r : ℕ) (state : Ipc) → above rank r state ≤ finmap.len state.ports
 unfolding above
 few_above rank r state =
     omega (arith, len-entries state.ports, each_one rank r (finmap.entries state.ports))
 
 -- (the climb, one hop on)
-abbrev climbs : State → ℕ → ℕ → Option ℕ → Bool
+abbrev climbs : Ipc → ℕ → ℕ → Option ℕ → Bool
 climbs state hops wanted None = false
 climbs state hops wanted (Some carrier) = meets state hops wanted carrier
 
@@ -224,13 +224,13 @@ or_true : (b c : Bool) → c ≡ true → (b || c) ≡ true
 or_true true c e = refl
 or_true false c e = e
 
-pub meets_itself : (state : State) (hops serial : ℕ) → meets state hops serial serial ≡ true
+pub meets_itself : (state : Ipc) (hops serial : ℕ) → meets state hops serial serial ≡ true
 meets_itself state zero serial = eq-eqb serial serial refl
 meets_itself state (suc hops) serial =
     ap (λ (b : Bool). b || climbs state hops serial (carrier_of state serial)) (eq-eqb serial serial refl)
 
 -- what is met from a port by going up, and the port that carries it
-pub met_more : (rank : ℕ → ℕ) (state : State)
+pub met_more : (rank : ℕ → ℕ) (state : Ipc)
     → ((outer inner : ℕ) → Carries state outer inner → rank inner < rank outer)
     → (hops from inner outer : ℕ) → above rank (rank from) state ≤ hops → meets state hops inner from ≡ true
     → carrier_of state inner ≡ Some outer → meets state hops outer from ≡ true

@@ -24,7 +24,7 @@ use Rattle.ipc_laws.specs.PortItems.{is_kept, stored_fit, stored_long, all_store
 use Rattle.ipc_model.specs.messages.Sending as sending
 use Rattle.ipc_model.specs.messages.Sending.{TakenRights, TakenHeader, Ready, ready_to_send, ready_message, take_items, take_header}
 use Rattle.ipc_laws.specs.SendKeep.{MidRights, MidHeader, kinds, rights_hand, names_long, items_mid, header_mid, header_sends, reply_sends, RepliesBy}
-use Rattle.ipc_model.specs.state.State.{State, Names, is_null_or_dead}
+use Rattle.ipc_model.specs.state.Ipc.{Ipc, Names, is_null_or_dead}
 use Rattle.ipc_laws.specs.Takes.{Quiet, quiet_none, quiet_both}
 use Rattle.ipc_model.specs.calls.Tests.{Tests, first_failing, or_refused, unless_failing}
 use Rattle.ipc_laws.specs.UntouchedMessages.{and_then_if, unless_if, or_if}
@@ -323,7 +323,7 @@ start_rights space header head = record {
   kinds = refl;
 }
 
-of_items_mid : (old : State) (space : ℕ) (names : Names) (bytes : List ℕ) (destination : Disposition)
+of_items_mid : (old : Ipc) (space : ℕ) (names : Names) (bytes : List ℕ) (destination : Disposition)
     (reply : Option Disposition) (items : List Item) → MidCall old empty_hand → finmap.get old.spaces space ≡ Some names
     → AreBytes bytes → SizeFits bytes
     → received_kind destination ≢ kind.Receive → RepliesBy reply → BodyItems bytes items
@@ -351,7 +351,7 @@ of_items_mid old space names bytes destination reply items mid there fits size s
     (ready_of_taken bytes items header taken space fits size body few head rights))))
 
 -- What a task's bytes become is ready with its rights in hand.
-pub ready_mid : (old : State) (space : ℕ) (names : Names) (bytes : List ℕ) → AreBytes bytes → MidCall old empty_hand
+pub ready_mid : (old : Ipc) (space : ℕ) (names : Names) (bytes : List ℕ) → AreBytes bytes → MidCall old empty_hand
     → finmap.get old.spaces space ≡ Some names → IfOk (ready_to_send old space bytes) MidReady
 unfolding ready_to_send
 ready_mid old space names bytes fits mid there =

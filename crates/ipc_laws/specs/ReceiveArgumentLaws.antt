@@ -16,7 +16,7 @@ use Rattle.ipc_model.specs.state.Lawful.{LawfulMessage, HoldsPorts, kinds_of_ite
 use Rattle.ipc_laws.specs.ListLaws.{same_front, same_back, same_head, same_tail}
 use Rattle.ipc_model.specs.messages.Messages.{message_encoding}
 use Rattle.ipc_model.specs.messages.Receiving.{arriving, received_encoding, received_body, received_bits, reply_right, reply_name, body_names}
-use Rattle.ipc_model.specs.state.State.{Names, name_of_port, IsUnused}
+use Rattle.ipc_model.specs.state.Ipc.{Names, name_of_port, IsUnused}
 use Rattle.words.specs.WordLaws.{length-word, same_word}
 use Rattle.words.specs.Words.{word}
 

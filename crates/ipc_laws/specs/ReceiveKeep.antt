@@ -10,7 +10,7 @@ use Rattle.std.specs.FinMap as finmap
 use Rattle.codes.specs.declared.kern_return.KernReturn.{KernReturn}
 use Rattle.codes.specs.declared.kern_return.KernReturn.TheVariants.{RcvHeaderErrorSpace}
 use Rattle.codes.specs.declared.limits.TheConstants.{MAX_NAMES}
-use Rattle.ipc_model.specs.declared.call.Reply.{Reply}
+use Rattle.ipc_model.specs.declared.plain_reply.PlainReply.{PlainReply}
 use Rattle.ipc_model.specs.declared.message.CarriedRight.{CarriedRight}
 use Rattle.ipc_model.specs.declared.message.Message.{Message}
 use Rattle.ipc_model.specs.declared.message.PortInMessage.{PortInMessage}
@@ -33,7 +33,7 @@ use Rattle.ipc_laws.specs.MapLaws.{get-here}
 use Rattle.ipc_laws.specs.MapSums.{weigh, weigh-append, insert-insert, insert-same}
 use Rattle.ipc_laws.specs.Others.{number_same, with_port_spaces}
 use Rattle.ipc_model.specs.messages.Receiving.{ReceiveArguments, Receives, TakesMessage, TakesOut, TooLarge, Received, receive_refusal, message_size, lacks_names, without_oldest, destination_consumed, arriving, reply_right, without_message}
-use Rattle.ipc_model.specs.state.State.{State, Names, with_names, with_port, next_count, name_of_port}
+use Rattle.ipc_model.specs.state.Ipc.{Ipc, Names, with_names, with_port, next_count, name_of_port}
 use Rattle.ipc_laws.specs.Takes.{Quiet, with_right, next_fits}
 use Rattle.ipc_laws.specs.Weights.{Weight, carried_weigh, reply_weigh, message_weigh, port_weigh, effect_weigh, receive_of, any_of}
 
@@ -63,7 +63,7 @@ out_weighs w serial port message later is =
       ap (λ (l : List Message). weigh (message_weigh w serial) (drop 1 l)) is,
     )
 
-oldest_mid : (state : State) (serial : ℕ) (port : PortState) (message : Message) (later : List Message)
+oldest_mid : (state : Ipc) (serial : ℕ) (port : PortState) (message : Message) (later : List Message)
     → MidCall state empty_hand → finmap.get state.ports serial ≡ Some port → port.messages ≡ message ∷ later
     → MidCall (without_oldest state serial) (message_hand serial message)
 oldest_mid state serial port message later mid at is =
@@ -109,7 +109,7 @@ oldest_lawful port message later lawful is =
     all 0 message (omega arith)
 
 -- a message that was too large is destroyed
-destroyed_kept : (state : State) (serial : ℕ) (message : Message) → MidCall state (message_hand serial message)
+destroyed_kept : (state : Ipc) (serial : ℕ) (message : Message) → MidCall state (message_hand serial message)
     → LawfulMessage message → Kept state (destination_consumed message.destination serial ++ releases_of message)
 destroyed_kept state serial message mid lawful =
     let consumed = consumed_quiet message.destination serial in
@@ -207,7 +207,7 @@ known_later start now after named rights kind.Send (in_message.Live n) fits stil
 known_later start now after named rights kind.Receive (in_message.Live n) fits still own serial unwanted =
     one_named start now after named rights kind.Receive n fits still (λ (is : _). cc is) own serial unwanted
 
-arrives_mid : (state : State) (space : ℕ) (start now : Names) (named : List ℕ) (rights : List CarriedRight)
+arrives_mid : (state : Ipc) (space : ℕ) (start now : Names) (named : List ℕ) (rights : List CarriedRight)
     (given : List ℕ) (after : Names) (hand : Hand)
     → MidCall (with_names state space now) (λ w. hand w + weigh (carried_weigh w) rights)
     → Fits start now named rights → Arrives now rights given after → MidCall (with_names state space after) hand
@@ -216,7 +216,7 @@ arrives_mid state space start now named [] given after hand mid fits (_, same) =
     (mid_hand (with_names state space now) (λ w. hand w + 0) hand mid (λ (q : ℕ). omega arith)
     (λ (q : ℕ) (dead : _). omega arith))
 arrives_mid state space start now named (right ∷ rights) given after hand mid fits (name, others, _, may, rest) =
-    let here : State = with_names state space now in
+    let here : Ipc = with_names state space now in
     let later : Hand = λ w. hand w + weigh (carried_weigh w) rights in
     let wants : Bool = wants_name start named right.kind right.port in
     let next : Names = names_after now right.kind right.port name in
@@ -268,14 +268,14 @@ known_first names serial unwanted =
     ] refl unwanted
 
 -- A message is received.
-received_kept : (old : State) (space member serial : ℕ) (names : Names) (port : PortState) (message : Message)
-    (later : List Message) (answer : Reply) (new : State) (effects : List Effect) → LawfulAtRest old → Acyclic old
+received_kept : (old : Ipc) (space member serial : ℕ) (names : Names) (port : PortState) (message : Message)
+    (later : List Message) (answer : PlainReply) (new : Ipc) (effects : List Effect) → LawfulAtRest old → Acyclic old
     → finmap.get old.spaces space ≡ Some names
     → finmap.get old.ports serial ≡ Some port → port.messages ≡ message ∷ later → lacks_names names message ≡ false
     → Received old space names member serial port message answer new effects → Kept new effects
 received_kept old space member serial names port message later answer new effects lawful acyclic there at is room
     (given, after, arrives, _, same, are) =
-    let out : State = without_oldest old serial in
+    let out : Ipc = without_oldest old serial in
     let taken : MidCall out (message_hand serial message) =
     oldest_mid old serial port message later (mid_of old lawful acyclic) at is in
     let there_out : finmap.get out.spaces space ≡ Some names =
@@ -302,20 +302,20 @@ received_kept old space member serial names port message later answer new effect
     (λ (q : ℕ) (dead : _). omega (arith, all_weigh (any_of q))) in
     let arrived : MidCall (with_names out space after) empty_hand =
     arrives_mid out space names names [] (arriving message) given after empty_hand
-    (subst (λ (s : State). MidCall s (λ w. empty_hand w + weigh (carried_weigh w) (arriving message)))
+    (subst (λ (s : Ipc). MidCall s (λ w. empty_hand w + weigh (carried_weigh w) (arriving message)))
     (sym same_state) in_hand)
     (record {
       room = ltb-false MAX_NAMES (finmap.len names + names_needed names [] (arriving message)) room;
       known = λ (n : ℕ) (unwanted : _). known_first names n unwanted;
     }) arrives in
     let consumed = consumed_quiet message.destination serial in
-    subst (λ (s : State). Kept s effects) (sym same)
+    subst (λ (s : Ipc). Kept s effects) (sym same)
     (subst (λ (l : List Effect). Kept (with_names out space after) l) (sym are)
     (kept_of_mid (with_names out space after) empty_hand
     (destination_consumed message.destination serial) arrived consumed.waits consumed.receives))
 
-too_large_kept : (old : State) (member serial : ℕ) (port : PortState) (message : Message) (later : List Message)
-    (large : Bool) (answer : Reply) (new : State) (effects : List Effect) → LawfulAtRest old → Acyclic old
+too_large_kept : (old : Ipc) (member serial : ℕ) (port : PortState) (message : Message) (later : List Message)
+    (large : Bool) (answer : PlainReply) (new : Ipc) (effects : List Effect) → LawfulAtRest old → Acyclic old
     → finmap.get old.ports serial ≡ Some port → port.messages ≡ message ∷ later
     → TooLarge old member serial message large answer new effects → Kept new effects
 too_large_kept old member serial port message later true answer new effects lawful acyclic at is (_, same, are) =
@@ -323,16 +323,16 @@ too_large_kept old member serial port message later true answer new effects lawf
 too_large_kept old member serial port message later false answer new effects lawful acyclic at is (_, same, are) =
     let taken : MidCall (without_oldest old serial) (message_hand serial message) =
     oldest_mid old serial port message later (mid_of old lawful acyclic) at is in
-    subst (λ (s : State). Kept s effects) (sym same)
+    subst (λ (s : Ipc). Kept s effects) (sym same)
     (subst (λ (l : List Effect). Kept (without_oldest old serial) l) (sym are)
     (destroyed_kept (without_oldest old serial) serial message taken
     (oldest_lawful port message later (lawful.ports serial port at).2 is)))
 
 -- A receive.
 
-taken_out_kept : (old : State) (space member serial : ℕ) (names : Names) (arguments : ReceiveArguments)
+taken_out_kept : (old : Ipc) (space member serial : ℕ) (names : Names) (arguments : ReceiveArguments)
     (port : PortState)
-    (message : Message) (later : List Message) (answer : Reply) (new : State) (effects : List Effect) → LawfulAtRest old
+    (message : Message) (later : List Message) (answer : PlainReply) (new : Ipc) (effects : List Effect) → LawfulAtRest old
     → Acyclic old → finmap.get old.spaces space ≡ Some names
     → finmap.get old.ports serial ≡ Some port → port.messages ≡ message ∷ later
     → TakesOut old space names arguments member serial port message answer new effects → Kept new effects
@@ -355,8 +355,8 @@ taken_out_kept old space member serial names arguments port message later answer
           ] refl
     ] takes
 
-pub receive_kept : (old : State) (space : ℕ) (names : Names) (arguments : ReceiveArguments) (answer : Reply)
-    (new : State) (effects : List Effect) → LawfulAtRest old → Acyclic old → finmap.get old.spaces space ≡ Some names
+pub receive_kept : (old : Ipc) (space : ℕ) (names : Names) (arguments : ReceiveArguments) (answer : PlainReply)
+    (new : Ipc) (effects : List Effect) → LawfulAtRest old → Acyclic old → finmap.get old.spaces space ≡ Some names
     → Receives old space names arguments answer new effects → Kept new effects
 receive_kept old space names arguments answer new effects lawful acyclic there receives =
     elim (receive_refusal old names arguments)

@@ -5,8 +5,8 @@ use Rattle.std.specs.FinMap as finmap
 use Rattle.codes.specs.declared.kern_return.KernReturn.{KernReturn}
 use Rattle.codes.specs.declared.kern_return.KernReturn.TheVariants.{Success, RcvTooLarge, RcvHeaderErrorSpace}
 use Rattle.codes.specs.KernReturn.{number_of}
-use Rattle.ipc_model.specs.declared.call.Reply.{Reply}
-use Rattle.ipc_model.specs.declared.call.Reply.TheVariants as reply
+use Rattle.ipc_model.specs.declared.plain_reply.PlainReply.{PlainReply}
+use Rattle.ipc_model.specs.declared.plain_reply.PlainReply.TheVariants as reply
 use Rattle.ipc_model.specs.declared.message.Message.{Message}
 use Rattle.ipc_model.specs.declared.port.PortState.{PortState}
 use Rattle.ipc_model.specs.effects.Effects.{Effect}
@@ -16,18 +16,18 @@ use Rattle.ipc_laws.specs.ListLaws.{some_same}
 use Rattle.ipc_laws.specs.ReceiveArgumentLaws.{one_arrival, one_choice, as_many_names, encoding_reported}
 use Rattle.ipc_model.specs.messages.Receiving.{ReceiveArguments, Receives, TakesMessage, TakesOut, TooLarge, Received, HoldsReceiveRight, received_encoding, receive_refusal, lacks_names, message_size, arriving, without_message, without_oldest}
 use Rattle.ipc_model.specs.rights.CopyOut.{Arrives}
-use Rattle.ipc_model.specs.state.State.{State, Names, received_port, with_names}
+use Rattle.ipc_model.specs.state.Ipc.{Ipc, Names, received_port, with_names}
 
 -- what a reply of mach_msg shows
-code_shown : Reply → ℕ
+code_shown : PlainReply → ℕ
 code_shown (reply.Message code size member message) = number_of code
 code_shown _ = 0
 
-member_shown : Reply → ℕ
+member_shown : PlainReply → ℕ
 member_shown (reply.Message code size member message) = member
 member_shown _ = 0
 
-message_shown : Reply → List ℕ
+message_shown : PlainReply → List ℕ
 message_shown (reply.Message code size member message) = message
 message_shown _ = []
 
@@ -38,8 +38,8 @@ one_serial names member serial other here there =
     some_same serial other (sym here.2 ∙ ap received_port entry ∙ there.2)
 
 -- the code of a receive says whether the message was too large, or lacked names, or was received
-pub data Outcomes (old : State) (space : ℕ) (names : Names) (arguments : ReceiveArguments) (member serial : ℕ)
-    (port : PortState) (message : Message) (answer : Reply) (new : State) (effects : List Effect) : Type 0 where
+pub data Outcomes (old : Ipc) (space : ℕ) (names : Names) (arguments : ReceiveArguments) (member serial : ℕ)
+    (port : PortState) (message : Message) (answer : PlainReply) (new : Ipc) (effects : List Effect) : Type 0 where
   was_large : TooLarge old member serial message arguments.large answer new effects
       → Outcomes old space names arguments member serial port message answer new effects
   was_lacking : answer ≡ without_message RcvHeaderErrorSpace 0 0 → new ≡ old → effects ≡ []
@@ -47,8 +47,8 @@ pub data Outcomes (old : State) (space : ℕ) (names : Names) (arguments : Recei
   was_received : Received old space names member serial port message answer new effects
       → Outcomes old space names arguments member serial port message answer new effects
 
-pub outcome_of : (old : State) (space : ℕ) (names : Names) (arguments : ReceiveArguments) (member serial : ℕ)
-    (port : PortState) (message : Message) (answer : Reply) (new : State) (effects : List Effect)
+pub outcome_of : (old : Ipc) (space : ℕ) (names : Names) (arguments : ReceiveArguments) (member serial : ℕ)
+    (port : PortState) (message : Message) (answer : PlainReply) (new : Ipc) (effects : List Effect)
     → TakesOut old space names arguments member serial port message answer new effects
     → Outcomes old space names arguments member serial port message answer new effects
 outcome_of old space names arguments member serial port message answer new effects takes =
@@ -69,18 +69,18 @@ outcome_of old space names arguments member serial port message answer new effec
     ] takes
 
 -- what two receives with one reply left
-pub record SameLeft (one other : State) (effects others : List Effect) : Type 0 where
+pub record SameLeft (one other : Ipc) (effects others : List Effect) : Type 0 where
   pub state : one ≡ other
   pub effects_are : effects ≡ others
 
 -- a reply to a receive whose message was too large reports it, whether it stayed or was destroyed
-pub large_answer : (old : State) (member serial : ℕ) (message : Message) (keeps : Bool) (answer : Reply) (new : State)
+pub large_answer : (old : Ipc) (member serial : ℕ) (message : Message) (keeps : Bool) (answer : PlainReply) (new : Ipc)
     (effects : List Effect) → TooLarge old member serial message keeps answer new effects
     → answer ≡ without_message RcvTooLarge (message_size message) member
 large_answer old member serial message true answer new effects large = large.0
 large_answer old member serial message false answer new effects large = large.0
 
-same_large : (old : State) (member serial : ℕ) (message : Message) (keeps : Bool) (answer : Reply) (one other : State)
+same_large : (old : Ipc) (member serial : ℕ) (message : Message) (keeps : Bool) (answer : PlainReply) (one other : Ipc)
     (effects others : List Effect)
     → TooLarge old member serial message keeps answer one effects
     → TooLarge old member serial message keeps answer other others → SameLeft one other effects others
@@ -89,8 +89,8 @@ same_large old member serial message true answer one other effects others here t
 same_large old member serial message false answer one other effects others here there =
     record { state = here.1 ∙ sym there.1; effects_are = here.2 ∙ sym there.2 }
 
-same_received : (old : State) (space : ℕ) (names : Names) (member serial : ℕ) (port : PortState) (message : Message)
-    (answer : Reply) (one other : State) (effects others : List Effect)
+same_received : (old : Ipc) (space : ℕ) (names : Names) (member serial : ℕ) (port : PortState) (message : Message)
+    (answer : PlainReply) (one other : Ipc) (effects others : List Effect)
     → LawfulMessage message → Received old space names member serial port message answer one effects
     → Received old space names member serial port message answer other others → SameLeft one other effects others
 unfolding message_shown
@@ -110,7 +110,7 @@ same_received old space names member serial port message answer one other effect
     }
 
 -- which message two receives from one name took
-record SameMessage (old : State) (serial other_serial : ℕ) (port other_port : PortState)
+record SameMessage (old : Ipc) (serial other_serial : ℕ) (port other_port : PortState)
     (message other_message : Message) : Type 0 where
   same_serial : serial ≡ other_serial
   same_port : port ≡ other_port
@@ -120,8 +120,8 @@ first_or : Message → List Message → Message
 first_or d [] = d
 first_or d (message ∷ messages) = message
 
-same_message_of : (old : State) (space : ℕ) (names : Names) (arguments : ReceiveArguments) (answer : Reply)
-    (one other : State) (effects others : List Effect)
+same_message_of : (old : Ipc) (space : ℕ) (names : Names) (arguments : ReceiveArguments) (answer : PlainReply)
+    (one other : Ipc) (effects others : List Effect)
     (here : TakesMessage old space names arguments answer one effects)
     (there : TakesMessage old space names arguments answer other others)
     → here.member ≡ there.member → SameMessage old here.serial there.serial here.port there.port here.message
@@ -140,8 +140,8 @@ same_message_of old space names arguments answer one other effects others here t
           ap (first_or here.message) (sym here.first ∙ ap (λ (p : PortState). p.messages) port ∙ there.first);
     }
 
-same_large_of : (old : State) (space : ℕ) (names : Names) (arguments : ReceiveArguments) (answer : Reply)
-    (one other : State) (effects others : List Effect)
+same_large_of : (old : Ipc) (space : ℕ) (names : Names) (arguments : ReceiveArguments) (answer : PlainReply)
+    (one other : Ipc) (effects others : List Effect)
     (here : TakesMessage old space names arguments answer one effects)
     (there : TakesMessage old space names arguments answer other others)
     → TooLarge old here.member here.serial here.message arguments.large answer one effects
@@ -162,8 +162,8 @@ same_large_of old space names arguments answer one other effects others here the
     (sym same.same_message) second)) in
     same_large old here.member here.serial here.message arguments.large answer one other effects others first moved
 
-same_received_of : (old : State) (space : ℕ) (names : Names) (arguments : ReceiveArguments) (answer : Reply)
-    (one other : State) (effects others : List Effect)
+same_received_of : (old : Ipc) (space : ℕ) (names : Names) (arguments : ReceiveArguments) (answer : PlainReply)
+    (one other : Ipc) (effects others : List Effect)
     (here : TakesMessage old space names arguments answer one effects)
     (there : TakesMessage old space names arguments answer other others)
     → LawfulMessage here.message
@@ -185,22 +185,22 @@ same_received_of old space names arguments answer one other effects others here 
     same_received old space names here.member here.serial here.port here.message answer one other effects others lawful
     first moved
 
-large_code : (answer : Reply) (size member : ℕ) → answer ≡ without_message RcvTooLarge size member
+large_code : (answer : PlainReply) (size member : ℕ) → answer ≡ without_message RcvTooLarge size member
     → code_shown answer ≡ 0x1000_4004
 unfolding code_shown
 large_code answer size member is = ap code_shown is
 
-lacking_code : (answer : Reply) → answer ≡ without_message RcvHeaderErrorSpace 0 0 → code_shown answer ≡ 0x1000_600b
+lacking_code : (answer : PlainReply) → answer ≡ without_message RcvHeaderErrorSpace 0 0 → code_shown answer ≡ 0x1000_600b
 unfolding code_shown
 lacking_code answer is = ap code_shown is
 
-received_code : (answer : Reply) (size member : ℕ) (encoding : List ℕ)
+received_code : (answer : PlainReply) (size member : ℕ) (encoding : List ℕ)
     → answer ≡ reply.Message Success size member encoding → code_shown answer ≡ 0
 unfolding code_shown
 received_code answer size member encoding is = ap code_shown is
 
-outcomes_same : (old : State) (space : ℕ) (names : Names) (arguments : ReceiveArguments) (answer : Reply)
-    (one other : State) (effects others : List Effect)
+outcomes_same : (old : Ipc) (space : ℕ) (names : Names) (arguments : ReceiveArguments) (answer : PlainReply)
+    (one other : Ipc) (effects others : List Effect)
     (here : TakesMessage old space names arguments answer one effects)
     (there : TakesMessage old space names arguments answer other others)
     → LawfulMessage here.message
@@ -256,7 +256,7 @@ outcomes_same old space names arguments answer one other effects others here the
     same_received_of old space names arguments answer one other effects others here there lawful first second
 
 -- a receive as its definition has it, whatever the test of its sources said
-abbrev pub Refuses : Option KernReturn → State → ℕ → Names → ReceiveArguments → Reply → State → List Effect → Type 0
+abbrev pub Refuses : Option KernReturn → Ipc → ℕ → Names → ReceiveArguments → PlainReply → Ipc → List Effect → Type 0
 Refuses refusal old space names arguments answer new effects =
     MatchOption refusal (TakesMessage old space names arguments answer new effects)
     (λ code. (answer ≡ without_message code 0 0) × (new ≡ old) × (effects ≡ []))
@@ -265,8 +265,8 @@ Refuses refusal old space names arguments answer new effects =
 zero_less : (first : Message) (later : List Message) → 0 < length (first ∷ later)
 zero_less first later = omega arith
 
-pub same_taking : (old : State) (space : ℕ) (names : Names) (arguments : ReceiveArguments) (answer : Reply)
-    (one other : State) (effects others : List Effect)
+pub same_taking : (old : Ipc) (space : ℕ) (names : Names) (arguments : ReceiveArguments) (answer : PlainReply)
+    (one other : Ipc) (effects others : List Effect)
     → LawfulAtRest old → TakesMessage old space names arguments answer one effects
     → TakesMessage old space names arguments answer other others → SameLeft one other effects others
 same_taking old space names arguments answer one other effects others lawful here there =
@@ -279,8 +279,8 @@ same_taking old space names arguments answer one other effects others lawful her
     (outcome_of old space names arguments there.member there.serial there.port there.message answer other others
     there.takes)
 
-pub same_receive : (old : State) (space : ℕ) (names : Names) (arguments : ReceiveArguments) (answer : Reply)
-    (one other : State) (effects others : List Effect)
+pub same_receive : (old : Ipc) (space : ℕ) (names : Names) (arguments : ReceiveArguments) (answer : PlainReply)
+    (one other : Ipc) (effects others : List Effect)
     → LawfulAtRest old → Receives old space names arguments answer one effects
     → Receives old space names arguments answer other others → SameLeft one other effects others
 same_receive old space names arguments answer one other effects others lawful here there =

@@ -5,10 +5,10 @@ use Rattle.codes.specs.declared.kern_return.KernReturn.{KernReturn}
 use Rattle.codes.specs.declared.kern_return.KernReturn.TheVariants.{Success, SendInvalidDest, SendInvalidReply, SendInvalidRight, SendInvalidHeader, SendNoBuffer}
 use Rattle.codes.specs.declared.limits.TheConstants.{MAX_MESSAGE_PORTS}
 use Rattle.codes.specs.declared.name.TheConstants.{MACH_PORT_NULL}
-use Rattle.ipc_model.specs.calls.Step.{ActsIn, IsRefusedWith, has_record, is_success}
+use Rattle.ipc_model.specs.calls.PlainStep.{ActsIn, IsRefusedWith, has_record, is_success}
 use Rattle.ipc_model.specs.calls.Tests.{Tests, and_then, or_refused, unless_failing}
-use Rattle.ipc_model.specs.declared.call.Call.TheVariants as call
-use Rattle.ipc_model.specs.declared.call.Reply.{Reply}
+use Rattle.ipc_model.specs.declared.plain_call.PlainCall.TheVariants as call
+use Rattle.ipc_model.specs.declared.plain_reply.PlainReply.{PlainReply}
 use Rattle.ipc_model.specs.effects.Effects.{Effect}
 use Rattle.ipc_model.specs.messages.Items.{Item, items_of, items_within, tests_of_item}
 use Rattle.ipc_model.specs.messages.Messages.{UsedParts, used_parts}
@@ -17,8 +17,8 @@ use Rattle.ipc_model.specs.messages.Sending as sending
 use Rattle.ipc_model.specs.messages.Sending.{TakenDestination, TakenHeader, destination_at, TakenReply, TakenRights, Ready, ready_to_send, ready_of_items, take_destination, take_reply, take_header, sent}
 use Rattle.ipc_model.specs.rights.CopyIn.{Taken, copy_in}
 use Rattle.ipc_model.specs.rights.Dispositions.{Disposition}
-use Rattle.ipc_model.specs.state.State.{State, Names, is_null_or_dead}
-use Rattle.ipc_model.specs.encodings.Encodings.{IsMessageSize}
+use Rattle.ipc_model.specs.state.Ipc.{Ipc, Names, is_null_or_dead}
+use Rattle.ipc_model.specs.encodings.PlainCalls.{IsMessageSize}
 use Rattle.ipc_laws.specs.ItemLaws.{passed_tests}
 use Rattle.ipc_laws.specs.ReadyKeep.{size_fits}
 
@@ -55,7 +55,7 @@ if_fails : {X : Type 0} (b : Bool) (one other : Result X KernReturn) → Fails o
 if_fails true one other a b = a
 if_fails false one other a b = b
 
-destination_fails : (state : State) (space name : ℕ) (disposition : Disposition)
+destination_fails : (state : Ipc) (space name : ℕ) (disposition : Disposition)
     → Fails (take_destination state space name disposition)
 destination_fails state space name disposition =
     and_then_fails (or_refused SendInvalidDest (copy_in state space name disposition))
@@ -66,7 +66,7 @@ destination_fails state space name disposition =
     (λ (serial : ℕ). Ok (destination_at taken serial)) (or_fails SendInvalidDest
     (sending.live_port taken.right.port) refl) (λ (serial : ℕ). fine (destination_at taken serial)))
 
-reply_fails : (state : State) (space name : ℕ) (disposition : Option Disposition)
+reply_fails : (state : Ipc) (space name : ℕ) (disposition : Option Disposition)
     → Fails (take_reply state space name disposition)
 reply_fails state space name None = fine _
 reply_fails state space name (Some disposition) =
@@ -74,7 +74,7 @@ reply_fails state space name (Some disposition) =
     (and_then_fails (or_refused SendInvalidReply _) _ (or_fails SendInvalidReply _ refl)
     (λ (taken : Taken). fine _))
 
-header_fails : (state : State) (space remote : ℕ) (destination : Disposition) (local : ℕ) (reply : Option Disposition)
+header_fails : (state : Ipc) (space remote : ℕ) (destination : Disposition) (local : ℕ) (reply : Option Disposition)
     → Fails (take_header state space remote destination local reply)
 header_fails state space remote destination local reply =
     if_fails (sending.reply_goes_first destination reply) _ _
@@ -105,7 +105,7 @@ reply_disposition_fails n name =
     (and_then_fails (or_refused SendInvalidHeader _) _ (or_fails SendInvalidHeader _ refl)
     (λ (disposition : Disposition). fine _))
 
-of_items_fails : (state : State) (space : ℕ) (parts : UsedParts) (destination : Disposition)
+of_items_fails : (state : Ipc) (space : ℕ) (parts : UsedParts) (destination : Disposition)
     (reply : Option Disposition) (items : List Item) → Fails (ready_of_items state space parts destination reply items)
 of_items_fails state space parts destination reply items =
     unless_fails ((nat_lt MAX_MESSAGE_PORTS (sending.ports_in items), SendNoBuffer) ∷
@@ -115,7 +115,7 @@ of_items_fails state space parts destination reply items =
     and_then_fails (or_refused SendInvalidRight _) _ (or_fails SendInvalidRight _ refl) (λ (taken : TakenRights).
     unless_fails (sending.tests_of_queue (sending.ready_message parts items header taken)) (Ok _) (refl, tt) (fine _))))
 
-ready_fails : (state : State) (space : ℕ) (message : List ℕ) → Fails (ready_to_send state space message)
+ready_fails : (state : Ipc) (space : ℕ) (message : List ℕ) → Fails (ready_to_send state space message)
 unfolding ready_to_send
 ready_fails state space message =
     let parts : UsedParts = used_parts message in
@@ -128,11 +128,11 @@ ready_fails state space message =
     (λ (items : List Item). of_items_fails state space parts destination reply items))))
 
 -- A send that has a record was done: its message has a size that messages may have, and nothing comes back.
-pub record SendDone (message : List ℕ) (answer : Reply) : Type 0 where
+pub record SendDone (message : List ℕ) (answer : PlainReply) : Type 0 where
   pub size : IsMessageSize (length message)
   pub answer_is : answer ≡ without_message Success 0 MACH_PORT_NULL
 
-done_of : (old : State) (space : ℕ) (message : List ℕ) (answer : Reply) (ready : Ready)
+done_of : (old : Ipc) (space : ℕ) (message : List ℕ) (answer : PlainReply) (ready : Ready)
     → ready_to_send old space message ≡ Ok ready → answer ≡ without_message Success 0 MACH_PORT_NULL
     → SendDone message answer
 unfolding ready_to_send
@@ -140,7 +140,7 @@ done_of old space message answer ready is answered =
     let fits = size_fits message (passed_tests (sending.tests_of_size (length message)) _ ready is).0 in
     record { size = (fits.whole, fits.small, fits.words); answer_is = answered }
 
-pub send_done : (old : State) (space : ℕ) (names : Names) (message : List ℕ) (answer : Reply) (new : State)
+pub send_done : (old : Ipc) (space : ℕ) (names : Names) (message : List ℕ) (answer : PlainReply) (new : Ipc)
     (effects : List Effect) → ActsIn old space names (call.Send message) answer new effects
     → has_record (call.Send message) answer ≡ true → SendDone message answer
 send_done old space names message answer new effects acts recorded =
@@ -154,7 +154,7 @@ send_done old space names message answer new effects acts recorded =
           let fails : is_success code ≡ false =
           (subst (λ (r : Result Ready KernReturn). Fails r) is (ready_fails old space message)).code in
           let none : has_record (call.Send message) (without_message code 0 MACH_PORT_NULL) ≡ true =
-          subst (λ (a : Reply). has_record (call.Send message) a ≡ true) refused.0 recorded in
+          subst (λ (a : PlainReply). has_record (call.Send message) a ≡ true) refused.0 recorded in
           absurd (neither (is_success code) fails none)
     ] refl acts
   where
@@ -165,7 +165,7 @@ send_done old space names message answer new effects acts recorded =
 -- Sends that have records.
 abbrev pub RecordedSendsAreDone : Type 0
 RecordedSendsAreDone =
-    (old : State) (space : ℕ) (names : Names) (message : List ℕ) (answer : Reply) (new : State) (effects : List Effect)
+    (old : Ipc) (space : ℕ) (names : Names) (message : List ℕ) (answer : PlainReply) (new : Ipc) (effects : List Effect)
     → ActsIn old space names (call.Send message) answer new effects → has_record (call.Send message) answer ≡ true
     → SendDone message answer
 

@@ -8,11 +8,11 @@ use Rattle.codes.specs.declared.kern_return.KernReturn.{KernReturn}
 use Rattle.codes.specs.declared.kern_return.KernReturn.TheVariants.{Success, RcvTooLarge, RcvHeaderErrorSpace, RcvPortDied, RcvInvalidName, RcvPortChanged, RcvInSet, RcvTimedOut}
 use Rattle.codes.specs.declared.limits.TheConstants.{MAX_MESSAGE_SIZE}
 use Rattle.codes.specs.declared.name.TheConstants.{MACH_PORT_DEAD, MACH_PORT_NULL}
-use Rattle.ipc_model.specs.calls.Step.{has_record}
-use Rattle.ipc_model.specs.declared.call.Call.{Call}
-use Rattle.ipc_model.specs.declared.call.Call.TheVariants as call
-use Rattle.ipc_model.specs.declared.call.Reply.{Reply}
-use Rattle.ipc_model.specs.declared.call.Reply.TheVariants as reply
+use Rattle.ipc_model.specs.calls.PlainStep.{has_record}
+use Rattle.ipc_model.specs.declared.plain_call.PlainCall.{PlainCall}
+use Rattle.ipc_model.specs.declared.plain_call.PlainCall.TheVariants as call
+use Rattle.ipc_model.specs.declared.plain_reply.PlainReply.{PlainReply}
+use Rattle.ipc_model.specs.declared.plain_reply.PlainReply.TheVariants as reply
 use Rattle.ipc_model.specs.declared.message.CarriedRight.{CarriedRight}
 use Rattle.ipc_model.specs.declared.message.Message.{Message}
 use Rattle.ipc_model.specs.declared.port.PortState.{PortState}
@@ -21,8 +21,8 @@ use Rattle.ipc_model.specs.messages.Items.{Item, item_encoding, items_encoding, 
 use Rattle.ipc_model.specs.messages.Messages.{header_length, message_encoding}
 use Rattle.ipc_model.specs.messages.Receiving.{ReceiveArguments, Receives, TakesMessage, TakesOut, TooLarge, Received, lacks_names, arriving, reply_right, reply_name, body_names, received_bits, received_body, received_encoding, receive_refusal, refusal_of_sources, sources, is_in_set, all_empty, message_size, without_message}
 use Rattle.ipc_model.specs.state.Lawful.{LawfulMessage, HoldsPorts}
-use Rattle.ipc_model.specs.state.State.{State, Names}
-use Rattle.ipc_model.specs.encodings.Encodings.{IsOfReceive}
+use Rattle.ipc_model.specs.state.Ipc.{Ipc, Names}
+use Rattle.ipc_model.specs.encodings.PlainCalls.{IsOfReceive}
 use Rattle.ipc_laws.specs.ItemLaws.{item_length, items_read}
 use Rattle.ipc_laws.specs.LawfulLaws.{LawfulAtRest}
 use Rattle.ipc_laws.specs.ReceiveArgumentLaws.{as_many_names, length-kinds, length-words-take, port_count}
@@ -125,7 +125,7 @@ received_long message member seqno given lawful many =
     (body_long message (body_names message.reply given) lawful (names_left message.reply message.rights given many))
 
 -- A receive that has a record brings a message of its size, or destroyed one and brings none.
-pub record ReceiveDone (arguments : ReceiveArguments) (answer : Reply) : Type 0 where
+pub record ReceiveDone (arguments : ReceiveArguments) (answer : PlainReply) : Type 0 where
   pub code : KernReturn
   pub size : ℕ
   pub member : ℕ
@@ -134,7 +134,7 @@ pub record ReceiveDone (arguments : ReceiveArguments) (answer : Reply) : Type 0 
   pub brings : IsOfReceive arguments.limit code size member message
   pub small : length message ≤ MAX_MESSAGE_SIZE
 
-abbrev pub call_of : ReceiveArguments → Call
+abbrev pub call_of : ReceiveArguments → PlainCall
 call_of arguments = call.Receive arguments.limit arguments.large arguments.name arguments.waited
 
 -- a receive that is refused with another code has no record
@@ -171,7 +171,7 @@ either_none : (b : Bool) (one other : KernReturn) → HasNone one → HasNone ot
 either_none true one other a b = a
 either_none false one other a b = b
 
-refusals_none : (old : State) (names : Names) (arguments : ReceiveArguments) → IfSome
+refusals_none : (old : Ipc) (names : Names) (arguments : ReceiveArguments) → IfSome
     (receive_refusal old names arguments) HasNone
 refusals_none old names arguments =
     elim (sources old names arguments.name (finmap.get names arguments.name))
@@ -191,8 +191,8 @@ record Reportable (message : Message) (member : ℕ) : Type 0 where
   lawful : LawfulMessage message
   named : (MACH_PORT_NULL < member) × (member < MACH_PORT_DEAD)
 
-destroyed_done : (old : State) (member serial : ℕ) (arguments : ReceiveArguments) (message : Message) (answer : Reply)
-    (new : State) (effects : List Effect) → Reportable message member
+destroyed_done : (old : Ipc) (member serial : ℕ) (arguments : ReceiveArguments) (message : Message) (answer : PlainReply)
+    (new : Ipc) (effects : List Effect) → Reportable message member
     → nat_lt arguments.limit (message_size message) ≡ true
     → TooLarge old member serial message arguments.large answer new effects → ReceiveDone arguments answer
 destroyed_done old member serial arguments message answer new effects reportable larger large =
@@ -211,8 +211,8 @@ destroyed_done old member serial arguments message answer new effects reportable
       small = omega arith;
     }
 
-brought_done : (old : State) (space member serial : ℕ) (names : Names) (arguments : ReceiveArguments) (port : PortState)
-    (message : Message) (answer : Reply) (new : State) (effects : List Effect) → Reportable message member
+brought_done : (old : Ipc) (space member serial : ℕ) (names : Names) (arguments : ReceiveArguments) (port : PortState)
+    (message : Message) (answer : PlainReply) (new : Ipc) (effects : List Effect) → Reportable message member
     → nat_lt arguments.limit (message_size message) ≡ false
     → Received old space names member serial port message answer new effects → ReceiveDone arguments answer
 brought_done old space member serial names arguments port message answer new effects reportable within
@@ -235,8 +235,8 @@ brought_done old space member serial names arguments port message answer new eff
       small = omega (arith, long, reportable.lawful.small);
     }
 
-taken_done : (old : State) (space member serial : ℕ) (names : Names) (arguments : ReceiveArguments) (port : PortState)
-    (message : Message) (answer : Reply) (new : State) (effects : List Effect) → Reportable message member
+taken_done : (old : Ipc) (space member serial : ℕ) (names : Names) (arguments : ReceiveArguments) (port : PortState)
+    (message : Message) (answer : PlainReply) (new : Ipc) (effects : List Effect) → Reportable message member
     → TakesOut old space names arguments member serial port message answer new effects
     → has_record (call_of arguments) answer ≡ true → ReceiveDone arguments answer
 taken_done old space member serial names arguments port message answer new effects reportable takes recorded =
@@ -255,13 +255,13 @@ taken_done old space member serial names arguments port message answer new effec
           (Received old space names member serial port message answer new effects) → ReceiveDone arguments answer) [
             | true ↦ λ (lacks : _). absurd
                 (lacking_none arguments.limit arguments.name arguments.large arguments.waited
-                (subst (λ (a : Reply). has_record (call_of arguments) a ≡ true) lacks.0 recorded))
+                (subst (λ (a : PlainReply). has_record (call_of arguments) a ≡ true) lacks.0 recorded))
             | false ↦ λ (whole : _). brought_done old space member serial names arguments port message answer new
                 effects reportable within whole
           ] here
     ] refl takes
 
-message_taken : (old : State) (space : ℕ) (names : Names) (arguments : ReceiveArguments) (answer : Reply) (new : State)
+message_taken : (old : Ipc) (space : ℕ) (names : Names) (arguments : ReceiveArguments) (answer : PlainReply) (new : Ipc)
     (effects : List Effect) → LawfulAtRest old → finmap.get old.spaces space ≡ Some names
     → TakesMessage old space names arguments answer new effects → has_record (call_of arguments) answer ≡ true
     → ReceiveDone arguments answer
@@ -275,8 +275,8 @@ message_taken old space names arguments answer new effects lawful there taken re
       named = (named.0, named.1);
     }) taken.takes recorded
 
-pub receive_done : (old : State) (space : ℕ) (names : Names) (arguments : ReceiveArguments) (answer : Reply)
-    (new : State) (effects : List Effect) → LawfulAtRest old → finmap.get old.spaces space ≡ Some names
+pub receive_done : (old : Ipc) (space : ℕ) (names : Names) (arguments : ReceiveArguments) (answer : PlainReply)
+    (new : Ipc) (effects : List Effect) → LawfulAtRest old → finmap.get old.spaces space ≡ Some names
     → Receives old space names arguments answer new effects → has_record (call_of arguments) answer ≡ true
     → ReceiveDone arguments answer
 receive_done old space names arguments answer new effects lawful there receives recorded =
@@ -289,13 +289,13 @@ receive_done old space names arguments answer new effects lawful there receives 
           recorded
       | Some code ↦ λ (none : _) (refused : _). absurd
           (none arguments.limit arguments.name arguments.large arguments.waited
-          (subst (λ (a : Reply). has_record (call_of arguments) a ≡ true) refused.0 recorded))
+          (subst (λ (a : PlainReply). has_record (call_of arguments) a ≡ true) refused.0 recorded))
     ] (refusals_none old names arguments) receives
 
 -- Receives that have records, from lawful states.
 abbrev pub RecordedReceivesAreDone : Type 0
 RecordedReceivesAreDone =
-    (old : State) (space : ℕ) (names : Names) (arguments : ReceiveArguments) (answer : Reply) (new : State)
+    (old : Ipc) (space : ℕ) (names : Names) (arguments : ReceiveArguments) (answer : PlainReply) (new : Ipc)
     (effects : List Effect)
     → LawfulAtRest old → finmap.get old.spaces space ≡ Some names
     → Receives old space names arguments answer new effects

@@ -4,17 +4,17 @@ use Rattle.std.proofs.Common.{refl, sym, ap, subst, inl, inr, arith}
 use Rattle.codes.specs.declared.call_number.TheConstants.{MACH_PORT_RENAME, MACH_PORT_ALLOCATE_NAME, MACH_PORT_DESTROY, MACH_PORT_DEALLOCATE, MACH_PORT_MOD_REFS, MACH_PORT_SET_QLIMIT, MACH_PORT_SET_MSCOUNT, MACH_PORT_SET_SEQNO, MACH_PORT_MOVE_MEMBER, MACH_PORT_INSERT_RIGHT, SPACE_DESTROY}
 use Rattle.codes.specs.declared.kern_return.KernReturn.TheVariants.{Success, RcvTooLarge}
 use Rattle.codes.specs.declared.name.TheConstants.{MACH_PORT_DEAD, MACH_PORT_NULL}
-use Rattle.ipc_model.specs.calls.Step.{number_of_call, has_record}
-use Rattle.ipc_model.specs.declared.call.Call.{Call}
-use Rattle.ipc_model.specs.declared.call.Call.TheVariants as call
-use Rattle.ipc_model.specs.declared.call.Reply.{Reply}
-use Rattle.ipc_model.specs.declared.call.Reply.TheVariants as reply
+use Rattle.ipc_model.specs.calls.PlainStep.{number_of_call, has_record}
+use Rattle.ipc_model.specs.declared.plain_call.PlainCall.{PlainCall}
+use Rattle.ipc_model.specs.declared.plain_call.PlainCall.TheVariants as call
+use Rattle.ipc_model.specs.declared.plain_reply.PlainReply.{PlainReply}
+use Rattle.ipc_model.specs.declared.plain_reply.PlainReply.TheVariants as reply
 use Rattle.ipc_model.specs.declared.message.RightKind.{RightKind}
-use Rattle.ipc_model.specs.encodings.Encodings.{has_no_results, IsMessageSize, IsRecordedReply}
+use Rattle.ipc_model.specs.encodings.PlainCalls.{has_no_results, IsMessageSize, IsRecordedReply}
 use Rattle.words.specs.Words.{AreBytes}
 
 -- a receive brought a message within its limit
-pub record HasMessage (limit : ℕ) (answer : Reply) : Type 0 where
+pub record HasMessage (limit : ℕ) (answer : PlainReply) : Type 0 where
   pub size : ℕ
   pub member : ℕ
   pub message : List ℕ
@@ -26,7 +26,7 @@ pub record HasMessage (limit : ℕ) (answer : Reply) : Type 0 where
   pub answer_is : answer ≡ reply.Message Success size member message
 
 -- a receive without MACH_RCV_LARGE destroyed one that was larger
-pub record HasDestroyed (limit : ℕ) (large : Bool) (answer : Reply) : Type 0 where
+pub record HasDestroyed (limit : ℕ) (large : Bool) (answer : PlainReply) : Type 0 where
   pub without : large ≡ false
   pub size : ℕ
   pub member : ℕ
@@ -36,7 +36,7 @@ pub record HasDestroyed (limit : ℕ) (large : Bool) (answer : Reply) : Type 0 w
   pub answer_is : answer ≡ reply.Message RcvTooLarge size member []
 
 -- The table.
-abbrev pub HasReply : Call → Reply → Type 0
+abbrev pub HasReply : PlainCall → PlainReply → Type 0
 HasReply (call.Attach space) answer = ⊥
 HasReply call.Names answer = ⊥
 HasReply (call.Type name) answer = ⊥
@@ -64,7 +64,7 @@ HasReply (call.SpaceCreate name disposition) answer =
     (space : ℕ) × (under : ℕ) × (space < 2 ^ 32) × (under < 2 ^ 32) × (answer ≡ reply.SpaceCreated space under)
 HasReply call.SpaceDestroy answer = answer ≡ reply.Done SPACE_DESTROY
 
-to_table : (c : Call) (answer : Reply) → IsRecordedReply c answer → HasReply c answer
+to_table : (c : PlainCall) (answer : PlainReply) → IsRecordedReply c answer → HasReply c answer
 to_table (call.Attach space) answer is = absurd (cc is.recorded)
 to_table call.Names answer is = absurd (cc is.recorded)
 to_table (call.Type name) answer is = absurd (cc is.recorded)
@@ -116,7 +116,7 @@ to_table c (reply.Refused number code) is = absurd (cc is.recorded)
 to_table c (reply.Message code size member message) is = absurd is.results
 to_table c answer is = absurd (omega (arith, is.of_one_call))
 
-done_back : (c : Call) (answer : Reply) → number_of_call c < 2 ^ 32 → has_no_results c ≡ true
+done_back : (c : PlainCall) (answer : PlainReply) → number_of_call c < 2 ^ 32 → has_no_results c ≡ true
     → IsTrue (has_record c (reply.Done (number_of_call c))) → answer ≡ reply.Done (number_of_call c)
     → IsRecordedReply c answer
 done_back c answer small none recorded is =
@@ -126,7 +126,7 @@ done_back c answer small none recorded is =
 no_bytes : AreBytes []
 no_bytes i = omega arith
 
-from_table : (c : Call) (answer : Reply) → HasReply c answer → IsRecordedReply c answer
+from_table : (c : PlainCall) (answer : PlainReply) → HasReply c answer → IsRecordedReply c answer
 from_table (call.Attach space) answer is = absurd is
 from_table call.Names answer is = absurd is
 from_table (call.Type name) answer is = absurd is
@@ -174,7 +174,7 @@ from_table c answer is = done_back c answer (omega arith) refl refl is
 
 -- A reply is one that a record of the call may have exactly where the table has it.
 abbrev pub RepliesByCall : Type 0
-RepliesByCall = (c : Call) (answer : Reply) → IsRecordedReply c answer ↔ HasReply c answer
+RepliesByCall = (c : PlainCall) (answer : PlainReply) → IsRecordedReply c answer ↔ HasReply c answer
 
 pub replies_by_call : RepliesByCall
 replies_by_call c answer = (to_table c answer, from_table c answer)

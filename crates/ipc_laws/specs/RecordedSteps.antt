@@ -1,24 +1,27 @@
 -- Steps that have records: what is kept of each is a record that a segment may hold.
-use Rattle.std.specs.Prelude.{◌≡◌, ℕ, ◌^◌, ◌<◌, ◌≤◌, Bool, true, false, IsTrue, List, [], length, Option, None, Some, refl}
-use Rattle.std.proofs.Common.{◌∙◌, ap, sym, subst, arith}
-use Rattle.std.specs.FinMap as finmap
-use Rattle.codes.specs.declared.kern_return.KernReturn.TheVariants.{Success, InvalidTask}
+use Rattle.std.specs.Prelude.{◌≡◌, ℕ, ◌+◌, ◌^◌, ◌<◌, ◌≤◌, true, IsTrue, ◌++◌, List, length, refl}
+use Rattle.std.proofs.Common.{◌∙◌, ap, sym, subst, inl, inr, arith, length-append}
+use Rattle.codes.specs.declared.call_number.TheConstants.{NUMBERED}
 use Rattle.codes.specs.declared.limits.TheConstants.{MAX_FRAME_CONTENT}
-use Rattle.ipc_model.specs.calls.Step.{Step, ActsIn, ActsFrom, refused, number_of_call, has_record}
+use Rattle.ipc_model.specs.calls.PlainStep as plain
+use Rattle.ipc_model.specs.calls.PlainStep.{may_be_numbered}
+use Rattle.ipc_model.specs.calls.Step.{Step, StepsPlain, MakesNumbered, number_of_call, has_record}
 use Rattle.ipc_model.specs.declared.call.Call.{Call}
-use Rattle.ipc_model.specs.declared.call.Call.TheVariants as call
-use Rattle.ipc_model.specs.declared.call.Reply.{Reply}
-use Rattle.ipc_model.specs.effects.Effects.{Effect}
-use Rattle.ipc_model.specs.messages.Receiving.{Receives}
-use Rattle.ipc_model.specs.state.Lawful.{Lawful}
-use Rattle.ipc_model.specs.state.State.{State, Names}
-use Rattle.ipc_model.specs.encodings.Encodings.{call_encoding, reply_encoding, canonical_record, number_of_reply, FitsCall, FitsReply, HasItsResults, IsRecord, IsWholeCall}
-use Rattle.ipc_laws.specs.FrameLengths.{arguments_within, from_within, message_length, receive_length, send_length}
-use Rattle.ipc_laws.specs.CanonicalLaws.{canonical_is_record}
-use Rattle.ipc_laws.specs.LawfulLaws.{LawfulAtRest, at_rest}
-use Rattle.ipc_laws.specs.PortCallLaws.{answer_number, answer_results}
-use Rattle.ipc_laws.specs.RecordedMessages.{send_done}
-use Rattle.ipc_laws.specs.RecordedReceives.{receive_done}
+use Rattle.ipc_model.specs.declared.call.Call.TheVariants.{Plain, Numbered, Unnumberable}
+use Rattle.ipc_model.specs.declared.call.NumberedCall.{NumberedCall}
+use Rattle.ipc_model.specs.declared.plain_call.PlainCall.{PlainCall}
+use Rattle.ipc_model.specs.declared.reply.NumberedReply.{NumberedReply}
+use Rattle.ipc_model.specs.declared.reply.Reply.{Reply}
+use Rattle.ipc_model.specs.declared.reply.Reply.TheVariants as reply
+use Rattle.ipc_model.specs.encodings.Encodings.{call_encoding, reply_encoding, canonical_record, number_of_reply, numbered_encoding, FitsCall, FitsReply, HasItsResults, IsRecord, IsWholeCall}
+use Rattle.ipc_model.specs.encodings.PlainCalls as plain_calls
+use Rattle.ipc_model.specs.state.LawfulState.{LawfulState}
+use Rattle.ipc_model.specs.state.State.{State}
+use Rattle.ipc_laws.specs.CanonicalRecords.{both_true, canonical_is_record, length-numbered}
+use Rattle.ipc_laws.specs.NumberedSteps.{IsMade, outcome_of}
+use Rattle.ipc_laws.specs.PlainRecorded.{plain_whole}
+use Rattle.words.specs.WordLaws.{length-word}
+use Rattle.words.specs.Words.{word}
 
 -- What a record needs of its call and reply, besides numbers in range.
 pub record IsAnsweredWhole (c : Call) (answer : Reply) : Type 0 where
@@ -28,73 +31,76 @@ pub record IsAnsweredWhole (c : Call) (answer : Reply) : Type 0 where
   pub call_frame : length (call_encoding c) ≤ MAX_FRAME_CONTENT
   pub reply_frame : length (reply_encoding answer) ≤ MAX_FRAME_CONTENT
 
-sent_whole : (old : State) (space : ℕ) (names : Names) (message : List ℕ) (answer : Reply) (new : State)
-    (effects : List Effect) → ActsIn old space names (call.Send message) answer new effects
-    → has_record (call.Send message) answer ≡ true
-    → IsAnsweredWhole (call.Send message) answer
-sent_whole old space names message answer new effects acts recorded =
-    let done = send_done old space names message answer new effects acts recorded in
-    subst (IsAnsweredWhole (call.Send message)) (sym done.answer_is) (record {
-      whole = done.size;
+-- how long the reply to a numbered call is
+pub length-numbered_reply : (answer : NumberedReply)
+    → length (numbered_encoding answer) ≡ 12 + length (plain_calls.reply_encoding answer.reply)
+length-numbered_reply answer =
+    let content : List ℕ = plain_calls.reply_encoding answer.reply in
+    omega (
+      arith,
+      length-append (word NUMBERED) (word 0 ++ (word answer.request ++ content)),
+      length-append (word 0) (word answer.request ++ content),
+      length-append (word answer.request) content,
+      length-word NUMBERED,
+      length-word 0,
+      length-word answer.request,
+    )
+
+plain_answered : (old : State) (space : ℕ) (c : PlainCall) (answer : Reply) (new : State) → LawfulState old
+    → StepsPlain old space c answer new → has_record (Plain c) answer ≡ true → IsAnsweredWhole (Plain c) answer
+plain_answered old space c (reply.Numbered answer) new lawful steps recorded = absurd steps
+plain_answered old space c (reply.Repeated answer) new lawful steps recorded = absurd steps
+plain_answered old space c (reply.Plain answer) new lawful steps recorded =
+    let whole = plain_whole old.ipc space c answer new.ipc lawful.ipc steps.0 recorded in
+    record {
+      whole = whole.whole;
+      number_is = whole.number_is;
+      results = whole.results;
+      call_frame = omega (arith, whole.call_frame);
+      reply_frame = omega (arith, whole.reply_frame);
+    }
+
+made_answered : (old : State) (space : ℕ) (numbered : NumberedCall) (answer : Reply) (new : State) → LawfulState old
+    → IsMade old space numbered answer new → has_record (Numbered numbered) answer ≡ true
+    → IsAnsweredWhole (Numbered numbered) answer
+made_answered old space numbered answer new lawful is recorded =
+    let given : NumberedReply = is.given in
+    let both =
+    both_true (may_be_numbered numbered.call) (plain.has_record numbered.call given.reply)
+    (ap (has_record (Numbered numbered)) (sym is.answer_is) ∙ recorded) in
+    let whole = plain_whole old.ipc space numbered.call given.reply new.ipc lawful.ipc is.step both.1 in
+    subst (IsAnsweredWhole (Numbered numbered)) (sym is.answer_is) (record {
+      whole = whole.whole;
       number_is = refl;
-      results = (refl, refl, refl);
-      call_frame = omega (arith, done.size.1, send_length message);
-      reply_frame = omega (arith, message_length Success 0 0 []);
+      results = (is.request, whole.number_is, whole.results);
+      call_frame = omega (arith, length-numbered numbered, whole.call_frame);
+      reply_frame = omega (arith, length-numbered_reply given, whole.reply_frame);
     })
 
-received_whole : (old : State) (space : ℕ) (names : Names) (limit name : ℕ) (large waited : Bool) (answer : Reply)
-    (new : State) (effects : List Effect) → LawfulAtRest old → finmap.get old.spaces space ≡ Some names
-    → Receives old space names (record { limit = limit; large = large; name = name; waited = waited }) answer new
-    effects → has_record (call.Receive limit large name waited) answer ≡ true
-    → IsAnsweredWhole (call.Receive limit large name waited) answer
-received_whole old space names limit name large waited answer new effects lawful there receives recorded =
-    let done =
-    receive_done old space names (record { limit = limit; large = large; name = name; waited = waited }) answer new
-    effects lawful there receives recorded in
-    subst (IsAnsweredWhole (call.Receive limit large name waited)) (sym done.answer_is) (record {
-      whole = tt;
-      number_is = refl;
-      results = done.brings;
-      call_frame = omega (arith, receive_length limit name large waited);
-      reply_frame = omega (arith, done.small, message_length done.code done.size done.member done.message);
-    })
+numbered_answered : (old : State) (space : ℕ) (numbered : NumberedCall) (answer : Reply) (new : State)
+    → LawfulState old → MakesNumbered old space numbered answer new → has_record (Numbered numbered) answer ≡ true
+    → IsAnsweredWhole (Numbered numbered) answer
+numbered_answered old space numbered answer new lawful makes recorded =
+    elim (outcome_of old space numbered answer new makes) as (λ _. IsAnsweredWhole (Numbered numbered) answer) [
+      | inl refused ↦ absurd (cc (recorded, ap (has_record (Numbered numbered)) refused.refused.0))
+      | inr (inl is) ↦ made_answered old space numbered answer new lawful is recorded
+      | inr (inr again) ↦ absurd (cc (recorded, ap (has_record (Numbered numbered)) again.answer_is))
+    ]
 
--- a refusal of a caller whose space is gone has no record
-refused_none : (c : Call) → has_record c (refused c InvalidTask) ≡ false
-refused_none (call.Send message) = refl
-refused_none (call.Receive limit true name waited) = refl
-refused_none (call.Receive limit false name waited) = refl
-refused_none c = refl
-
-from_whole : (o : Option Names) (old : State) (space : ℕ) (c : Call) (answer : Reply) (new : State)
-    (effects : List Effect) → finmap.get old.spaces space ≡ o → Lawful old → ActsFrom old space o c answer new effects
-    → has_record c answer ≡ true
-    → IsAnsweredWhole c answer
-from_whole None old space c answer new effects there lawful acts recorded =
-    absurd (cc (recorded, ap (has_record c) acts.0 ∙ refused_none c))
-from_whole (Some names) old space (call.Send message) answer new effects there lawful acts recorded =
-    sent_whole old space names message answer new effects acts recorded
-from_whole (Some names) old space (call.Receive limit large name waited) answer new effects there lawful acts recorded =
-    received_whole old space names limit name large waited answer new effects (at_rest old lawful) there acts recorded
-from_whole (Some names) old space c answer new effects there lawful acts recorded = record {
-  whole = tt;
-  number_is = answer_number old space names c answer new effects refl acts;
-  results = answer_results old space names c answer new effects refl acts;
-  call_frame = omega (arith, arguments_within c refl);
-  reply_frame = omega (arith, (from_within (Some names) old space c answer new effects there refl lawful acts).bytes);
-}
-
-pub answered_whole : (old : State) (space : ℕ) (c : Call) (answer : Reply) (new : State) → Lawful old
+pub answered_whole : (old : State) (space : ℕ) (c : Call) (answer : Reply) (new : State) → LawfulState old
     → Step old space c answer new → has_record c answer ≡ true → IsAnsweredWhole c answer
 unfolding Step
-answered_whole old space c answer new lawful step recorded =
-    from_whole (finmap.get old.spaces space) old space c answer step.0 step.1 refl lawful step.2 recorded
+answered_whole old space (Plain c) answer new lawful step recorded =
+    plain_answered old space c answer new lawful step recorded
+answered_whole old space (Numbered numbered) answer new lawful step recorded =
+    numbered_answered old space numbered answer new lawful step recorded
+answered_whole old space Unnumberable answer new lawful step recorded = absurd (cc recorded)
 
 -- What is kept of a step with a record, from a lawful state, is a record that a segment may hold, if its numbers are in
 -- range.
 abbrev pub RecordedStepsAreRecords : Type 0
 RecordedStepsAreRecords =
-    (old : State) (space : ℕ) (c : Call) (answer : Reply) (new : State) → Lawful old → space < 2 ^ 32 → FitsCall c
+    (old : State) (space : ℕ) (c : Call) (answer : Reply) (new : State) → LawfulState old → space < 2 ^ 32 → FitsCall c
     → FitsReply answer → Step old space c answer new → IsTrue (has_record c answer)
     → IsRecord (canonical_record (record { space = space; call = c; reply = answer }))
 

@@ -9,13 +9,14 @@ use Rattle.ipc_laws.specs.BatchLaws.{one_segment}
 use Rattle.ipc_model.specs.state.Circular.{Acyclic}
 use Rattle.ipc_laws.specs.ImageLaws.{image_once}
 use Rattle.ipc_model.specs.encodings.Images.{image_encoding_of}
-use Rattle.ipc_model.specs.state.Lawful.{Lawful}
+use Rattle.ipc_model.specs.state.LawfulState.{LawfulState}
 use Rattle.ipc_laws.specs.OpeningLaws.{opening_is_lawful}
-use Rattle.ipc_model.specs.store.Recovery.{Slots, IsOpen, IsOfEpoch, IsNew, HoldsImage, Continues, IsStored, Encodes, Recovered, IsOtherVersion, HasOtherVersion, image_header, segment_header_length}
+use Rattle.ipc_model.specs.store.Recovery.{Slots, IsOpen, IsOfEpoch, IsNew, HoldsImage, KeepsWhatItMay, Continues, IsStored, Encodes, Recovered, IsOtherVersion, HasOtherVersion, image_header, segment_header_length}
 use Rattle.ipc_laws.specs.Encoding.{lawful_is_encodable}
 use Rattle.ipc_model.specs.state.State.{State}
 use Rattle.ipc_model.specs.calls.Step.{Run}
-use Rattle.ipc_laws.specs.StepsKeep.{FitCalls, one_run, runs_keep_lawful}
+use Rattle.ipc_laws.specs.NumberedSteps.{kept_fits}
+use Rattle.ipc_laws.specs.RunsKeep.{FitCalls, one_run, runs_keep_lawful}
 use Rattle.ipc_model.specs.store.Store.{EncodesSegment, AreRecords, open_gate, image_content_of}
 use Rattle.words.specs.WordLaws.{same_long_word}
 use Rattle.words.specs.Words.{long_word}
@@ -86,6 +87,7 @@ one_image epoch slot one other first second =
     ap (λ (l : List ℕ). drop 8 l) beyond in
     (image_once w one other first.rest second.rest (lawful_is_encodable one first.lawful first.short)
     (lawful_is_encodable other second.lawful second.short)
+    (subst (λ u. KeepsWhatItMay u one) same first.kept) second.kept
     (subst (λ u. image_encoding_of u one ++ first.rest ≡ image_encoding_of w other ++ second.rest) same encodings)).0
 
 -- what the other segment adds is determined
@@ -186,9 +188,10 @@ encodes_once slots base other records more one two = elim one.reading as (λ _. 
 
 -- records that a segment holds have arguments in range
 
-records_fit : (records : List Record) → AreRecords records → FitCalls records
+pub records_fit : (records : List Record) → AreRecords records → FitCalls records
 records_fit [] are = tt
-records_fit (first ∷ records) are = (are.0.call.fits, records_fit records are.1)
+records_fit (first ∷ records) are =
+    ((are.0.call.fits, kept_fits first.reply are.0.reply.fits), records_fit records are.1)
 
 fit_both : (xs ys : List Record) → FitCalls xs → FitCalls ys → FitCalls (xs ++ ys)
 fit_both [] ys first second = second
@@ -201,15 +204,15 @@ next_fit epoch slot next (inr (inr encoded)) = records_fit next encoded.1.encode
 
 -- what a run begins from, and its records, if a disk encodes them
 record Beginning (base : State) (records : List Record) : Type 0 where
-  lawful : Lawful base
-  acyclic : Acyclic base
+  lawful : LawfulState base
+  acyclic : Acyclic base.ipc
   fit : FitCalls records
 
 beginning : (slots : Slots) (base : State) (records : List Record) → Encodes slots base records → Beginning base records
 beginning slots base records encoded = elim encoded.reading as (λ _. Beginning base records) [
   | inl new ↦ record {
-    lawful = subst Lawful (sym new.1) opening_is_lawful.0;
-    acyclic = subst Acyclic (sym new.1) opening_is_lawful.1;
+    lawful = subst LawfulState (sym new.1) opening_is_lawful.0;
+    acyclic = subst (λ (s : State). Acyclic s.ipc) (sym new.1) opening_is_lawful.1;
     fit = subst FitCalls (sym new.2) tt;
   }
   | inr stored ↦ record {
@@ -235,7 +238,7 @@ recovers_once slots one other first second =
     (subst (λ (l : List Record). Run first.base l one) same.1 first.run)) second.run
 
 abbrev pub RecoversLawful : Type 0
-RecoversLawful = (slots : Slots) (state : State) → Recovered slots state → Lawful state × Acyclic state
+RecoversLawful = (slots : Slots) (state : State) → Recovered slots state → LawfulState state × Acyclic state.ipc
 
 pub recovers_lawful : RecoversLawful
 recovers_lawful slots state recovered =

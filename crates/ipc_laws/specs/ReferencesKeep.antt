@@ -20,11 +20,11 @@ use Rattle.ipc_laws.specs.LawfulLaws.{LawfulAtRest}
 use Rattle.ipc_laws.specs.ListLaws.{some_same}
 use Rattle.ipc_laws.specs.MapSums.{weigh, weigh-append}
 use Rattle.ipc_laws.specs.NameChanges.{names_move_lawfully, insert_lawful, remove_lawful}
-use Rattle.ipc_model.specs.state.State.{State, Names, with_names, with_changed, port_held, is_empty_entry, request_of}
+use Rattle.ipc_model.specs.state.Ipc.{Ipc, Names, with_names, with_changed, port_held, is_empty_entry, request_of}
 use Rattle.ipc_laws.specs.Weights.{Weight, target_weigh, entry_weigh, effect_weigh, receive_of, any_of}
 
 -- another entry under a name, or none, keeps the state lawful with the effects
-pub entry_kept : (old : State) (space name : ℕ) (names : Names) (before after : Option Entry) (later : List Effect)
+pub entry_kept : (old : Ipc) (space name : ℕ) (names : Names) (before after : Option Entry) (later : List Effect)
     → LawfulAtRest old → Acyclic old → EntryMove old space name names before after [] later
     → LawfulNames (changed names name after)
     → Kept (with_names old space (changed names name after)) later
@@ -35,16 +35,16 @@ entry_kept old space name names before after later lawful acyclic move fits = re
   acyclic = acyclic;
 }
 
-pub changed_space : (old : State) (space : ℕ) (names : Names) (change : Names → Names)
+pub changed_space : (old : Ipc) (space : ℕ) (names : Names) (change : Names → Names)
     → finmap.get old.spaces space ≡ Some names → with_changed old space change ≡ with_names old space (change names)
 changed_space old space names change there =
-    ap (λ (o : Option Names). elim o as (λ _. State) [ None ↦ old | Some n ↦ with_names old space (change n) ]) there
+    ap (λ (o : Option Names). elim o as (λ _. Ipc) [ None ↦ old | Some n ↦ with_names old space (change n) ]) there
 
 -- what is left of a name: the entry, or nothing where it is empty
 abbrev pub left_of : Entry → Option Entry
 left_of entry = if is_empty_entry entry then None else Some entry
 
-pub left_state : (old : State) (space name : ℕ) (names : Names) (entry : Entry)
+pub left_state : (old : Ipc) (space name : ℕ) (names : Names) (entry : Entry)
     → finmap.get old.spaces space ≡ Some names
     → with_left old space name entry ≡ with_names old space (changed names name (left_of entry))
 left_state old space name names entry there =
@@ -185,7 +185,7 @@ left_lawful names name rights entry lawful at same fits =
     ] refl
 
 -- Fewer references of a send right, and its release where none are left.
-pub send_left_kept : (old : State) (space name : ℕ) (names : Names) (rights : PortRights) (left number : ℕ)
+pub send_left_kept : (old : Ipc) (space name : ℕ) (names : Names) (rights : PortRights) (left number : ℕ)
     → LawfulAtRest old → Acyclic old → finmap.get old.spaces space ≡ Some names
     → finmap.get names name ≡ Some (Port rights)
     → (rights.send == 0) ≡ false → left ≤ MAX_SEND_REFERENCES
@@ -219,7 +219,7 @@ send_left_kept old space name names rights left number lawful acyclic there at s
     let lawful_names : LawfulNames (changed names name (left_of entry)) =
     left_lawful names name rights entry own.2 at refl
     (λ (some_left : _). (not_empty rights.receive left some_left, fits)) in
-    subst (λ (s : State). Kept s later) (sym (left_state old space name names entry there))
+    subst (λ (s : Ipc). Kept s later) (sym (left_state old space name names entry there))
     (entry_kept old space name names (Some (Port rights)) (left_of entry) later lawful acyclic move lawful_names)
 
 -- Fewer or more references of a dead name, which goes with the last.
@@ -248,7 +248,7 @@ dead_lawful names name references left lawful at fits =
           (λ (other serial : ℕ) (e : Entry) (apart : _) (there : _) (held : _) (held_too : _). absurd (cc held))
     ] refl
 
-pub dead_left_kept : (old : State) (space name : ℕ) (names : Names) (references left number : ℕ) → LawfulAtRest old
+pub dead_left_kept : (old : Ipc) (space name : ℕ) (names : Names) (references left number : ℕ) → LawfulAtRest old
     → Acyclic old → finmap.get old.spaces space ≡ Some names → finmap.get names name ≡ Some (Dead references)
     → left ≤ MAX_DEAD_REFERENCES → Kept (actions.dead_left old space name left number).state
     (actions.dead_left old space name left number).effects
@@ -263,7 +263,7 @@ dead_left_kept old space name names references left number lawful acyclic there 
       set = λ (e : _). absurd (cc e);
       released = λ (serial set : ℕ) (port : PortState) (_ : _) (_ : _) (r : _). r;
     } in
-    subst (λ (s : State). Kept s []) (sym (left_state old space name names (Dead left) there))
+    subst (λ (s : Ipc). Kept s []) (sym (left_state old space name names (Dead left) there))
     (entry_kept old space name names (Some (Dead references)) (left_of (Dead left)) [] lawful acyclic move
     (dead_lawful names name references left (lawful.spaces space names there).2 at fits))
 
@@ -351,7 +351,7 @@ no_set_is (SendOnce port target) other e = cc e
 no_set_is Set other e = absurd other
 no_set_is (Dead references) other e = cc e
 
-pub gone_kept : (old : State) (space name : ℕ) (names : Names) (entry : Entry) → LawfulAtRest old → Acyclic old
+pub gone_kept : (old : Ipc) (space name : ℕ) (names : Names) (entry : Entry) → LawfulAtRest old → Acyclic old
     → finmap.get old.spaces space ≡ Some names → finmap.get names name ≡ Some entry → is_no_set entry
     → Kept (with_names old space (finmap.remove names name)) (actions.effects_of_name name entry)
 gone_kept old space name names entry lawful acyclic there at other =

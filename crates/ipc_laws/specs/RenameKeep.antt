@@ -9,8 +9,8 @@ use Rattle.std.specs.FinMap as finmap
 use Rattle.std.specs.FinMap.{find, get-entries, len-remove, entries_sorted, is_sorted}
 use Rattle.std.specs.FinMap.Entries.{below_all}
 use Rattle.codes.specs.declared.kern_return.KernReturn.TheVariants.{InvalidName, InvalidValue, NameExists}
-use Rattle.ipc_model.specs.declared.call.Call.TheVariants as call
-use Rattle.ipc_model.specs.declared.call.Reply.{Reply}
+use Rattle.ipc_model.specs.declared.plain_call.PlainCall.TheVariants as call
+use Rattle.ipc_model.specs.declared.plain_reply.PlainReply.{PlainReply}
 use Rattle.ipc_model.specs.declared.entry.Entry.{Entry}
 use Rattle.ipc_model.specs.declared.entry.Entry.TheVariants.{Port, SendOnce, Set, Dead}
 use Rattle.ipc_model.specs.declared.port.PortState.{PortState}
@@ -35,7 +35,7 @@ use Rattle.ipc_laws.specs.NameChanges.{names_change, insert_lawful, remove_lawfu
 use Rattle.ipc_laws.specs.Others.{number_decided, with_port_lives, with_port_spaces}
 use Rattle.ipc_model.specs.calls.PortCalls.{tests_of, is_no_name, is_in_use}
 use Rattle.ipc_laws.specs.SetsKeep.{Among, found_among, member_of}
-use Rattle.ipc_model.specs.state.State.{State, Names, IsUnused, is_null_or_dead, with_names, with_port, lives, received_port, is_member}
+use Rattle.ipc_model.specs.state.Ipc.{Ipc, Names, IsUnused, is_null_or_dead, with_names, with_port, lives, received_port, is_member}
 use Rattle.ipc_model.specs.calls.Tests.{Tests, first_failing}
 use Rattle.ipc_laws.specs.Weights.{Weight, names_weigh, state_weigh, receive_of, any_of}
 
@@ -84,7 +84,7 @@ others_stand names from to name entry e free at apart =
     get-there (finmap.remove names from) to entry name not_to ∙ get-left names from name apart ∙ at
 
 -- a member is held in its set's space, whatever its name, if the set itself keeps its name
-alongside_moved : (state : State) (space from to serial set : ℕ) (names : Names) (entry : Entry)
+alongside_moved : (state : Ipc) (space from to serial set : ℕ) (names : Names) (entry : Entry)
     → finmap.get state.spaces space ≡ Some names → finmap.get names from ≡ Some entry → finmap.get names to ≡ None
     → (finmap.get names set ≡ Some Set → set ≢ from) → IsHeldAlongsideSet state serial set
     → IsHeldAlongsideSet (with_names state space (moved_names names from to entry)) serial set
@@ -138,7 +138,7 @@ alongside_moved state space from to serial set names entry there at free set_apa
           ]
     ]
 
-entry_moved : (old : State) (space from to : ℕ) (names : Names) (entry : Entry) → (entry ≡ Set → ⊥) → LawfulAtRest old
+entry_moved : (old : Ipc) (space from to : ℕ) (names : Names) (entry : Entry) → (entry ≡ Set → ⊥) → LawfulAtRest old
     → Acyclic old → finmap.get old.spaces space ≡ Some names → finmap.get names from ≡ Some entry → IsUnused names to
     → Kept (with_names old space (moved_names names from to entry)) []
 entry_moved old space from to names entry no_set lawful acyclic there at unused =
@@ -161,7 +161,7 @@ abbrev put_in : ℕ → PortState → PortState
 put_in set p = record p { set = Some set }
 
 -- ports are put in a set, and nothing else changes
-record PutIn (old new : State) (serials : List ℕ) (set : ℕ) : Type 0 where
+record PutIn (old new : Ipc) (serials : List ℕ) (set : ℕ) : Type 0 where
   parts : Parts old → Parts new
   spaces : new.spaces ≡ old.spaces
   weights : (w : Weight) → state_weigh w new ≡ state_weigh w old
@@ -171,14 +171,14 @@ record PutIn (old new : State) (serials : List ℕ) (set : ℕ) : Type 0 where
       → (Among serial serials × (s ≡ set))
       ⊎ ((Among serial serials → ⊥) × (p : PortState) × (finmap.get old.ports serial ≡ Some p) × (p.set ≡ Some s))
 
-same_lives : (state : State) (serial q set : ℕ) → lives (with_port state serial (put_in set)) q ≡ lives state q
+same_lives : (state : Ipc) (serial q set : ℕ) → lives (with_port state serial (put_in set)) q ≡ lives state q
 same_lives state serial q set =
     elim (lives state q) as (λ (b : Bool). lives state q ≡ b → lives (with_port state serial (put_in set)) q ≡ b) [
       | true ↦ λ (live : _). still_lives state serial q (put_in set) live
       | false ↦ λ (dead : _). with_port_lives state serial (put_in set) q dead
     ] refl
 
-one_weighs : (w : Weight) (state : State) (serial set : ℕ)
+one_weighs : (w : Weight) (state : Ipc) (serial set : ℕ)
     → state_weigh w (with_port state serial (put_in set)) ≡ state_weigh w state
 one_weighs w state serial set =
     elim (finmap.get state.ports serial)
@@ -188,12 +188,12 @@ one_weighs w state serial set =
       | Some port ↦ λ (there : _). omega (arith, with_port_weigh w state serial (put_in set) port there)
     ] refl
 
-one_members : (state : State) (serial set other s : ℕ) (port : PortState)
+one_members : (state : Ipc) (serial set other s : ℕ) (port : PortState)
     → finmap.get (with_port state serial (put_in set)).ports other ≡ Some port → port.set ≡ Some s
     → ((other ≡ serial) × (s ≡ set)) ⊎ ((other ≢ serial) × (finmap.get state.ports other ≡ Some port))
 one_members state serial set other s port at is =
     elim (finmap.get state.ports serial) as (λ (o : Option PortState). finmap.get state.ports serial ≡ o
-    → finmap.get (elim o as (λ _. State)
+    → finmap.get (elim o as (λ _. Ipc)
     [ None ↦ state | Some p ↦ record state { ports = finmap.insert state.ports serial (put_in set p) } ]).ports
     other ≡ Some port → ((other ≡ serial) × (s ≡ set))
     ⊎ ((other ≢ serial) × (finmap.get state.ports other ≡ Some port))) [
@@ -211,7 +211,7 @@ one_members state serial set other s port at is =
           ]
     ] refl at
 
-all_put_in : (state : State) (serials : List ℕ) (set : ℕ)
+all_put_in : (state : Ipc) (serials : List ℕ) (set : ℕ)
     → PutIn state (actions.with_ports state serials (put_in set)) serials set
 all_put_in state [] set = record {
   parts = λ (p : _). p;
@@ -222,7 +222,7 @@ all_put_in state [] set = record {
   members = λ (serial s : ℕ) (port : PortState) (at : _) (is : _). inr ((λ (a : _). a), port, at, is);
 }
 all_put_in state (serial ∷ serials) set =
-    let one : State = with_port state serial (put_in set) in
+    let one : Ipc = with_port state serial (put_in set) in
     let rest : PutIn one (actions.with_ports one serials (put_in set)) serials set = all_put_in one serials set in
     record {
       parts =
@@ -305,7 +305,7 @@ among_held test (e ∷ es) serial sorted among =
     ] among
 
 -- a member goes along with its set
-moved_alongside : (state : State) (space from to serial set : ℕ) (names : Names)
+moved_alongside : (state : Ipc) (space from to serial set : ℕ) (names : Names)
     → finmap.get state.spaces space ≡ Some names → finmap.get names from ≡ Some Set → finmap.get names to ≡ None
     → HeldIn (finmap.entries names) serial → set ≡ to
     → IsHeldAlongsideSet (with_names state space (moved_names names from to Set)) serial set
@@ -326,7 +326,7 @@ moved_alongside state space from to serial set names there at free held is_to =
     )
 
 -- and any other stays where it was
-not_moved_alongside : (state : State) (space from to serial set : ℕ) (names : Names)
+not_moved_alongside : (state : Ipc) (space from to serial set : ℕ) (names : Names)
     → finmap.get state.spaces space ≡ Some names → finmap.get names from ≡ Some Set → finmap.get names to ≡ None
     → ((name : ℕ) (entry : Entry) → finmap.get names name ≡ Some entry → received_port entry ≡ Some serial → set ≢ from)
     → IsHeldAlongsideSet state serial set
@@ -354,13 +354,13 @@ not_moved_alongside state space from to serial set names there at free apart
           (λ (_ : _). apart name e at_here is) (other, held_names, name, e, at_space, at_name, is, alongside)
     ]
 
-set_moved : (old : State) (space from to : ℕ) (names : Names) → LawfulAtRest old → Acyclic old
+set_moved : (old : Ipc) (space from to : ℕ) (names : Names) → LawfulAtRest old → Acyclic old
     → finmap.get old.spaces space ≡ Some names → finmap.get names from ≡ Some Set → IsUnused names to
     → Kept (with_names (actions.members_in old names from (Some to)) space (moved_names names from to Set)) []
 set_moved old space from to names lawful acyclic there at unused =
     let mid : MidCall old empty_hand = mid_of old lawful acyclic in
     let serials : List ℕ = actions.serials_of_members old names from in
-    let along : State = actions.with_ports old serials (put_in to) in
+    let along : Ipc = actions.with_ports old serials (put_in to) in
     let put : PutIn old along serials to = all_put_in old serials to in
     let after : Names = moved_names names from to Set in
     let there_along : finmap.get along.spaces space ≡ Some names =
@@ -400,7 +400,7 @@ set_moved old space from to names lawful acyclic there at unused =
       acyclic = fewer_edges old (with_names along space after) put.edges mid.acyclic;
     }) tt (λ (q : ℕ). refl)
 
-renamed_kept : (old : State) (space from to : ℕ) (names : Names) (entry : Entry) → LawfulAtRest old → Acyclic old
+renamed_kept : (old : Ipc) (space from to : ℕ) (names : Names) (entry : Entry) → LawfulAtRest old → Acyclic old
     → finmap.get old.spaces space ≡ Some names → finmap.get names from ≡ Some entry → IsUnused names to
     → Kept (actions.renamed old space names from to entry) []
 renamed_kept old space from to names (Port rights) lawful acyclic there at unused =
@@ -412,7 +412,7 @@ renamed_kept old space from to names Set lawful acyclic there at unused =
 renamed_kept old space from to names (Dead references) lawful acyclic there at unused =
     entry_moved old space from to names (Dead references) (λ (e : _). cc e) lawful acyclic there at unused
 
-pub rename_kept : (old : State) (space from to : ℕ) (names : Names) (answer : Reply) (new : State)
+pub rename_kept : (old : Ipc) (space from to : ℕ) (names : Names) (answer : PlainReply) (new : Ipc)
     (effects : List Effect) → to < 2 ^ 32 → LawfulAtRest old → Acyclic old → finmap.get old.spaces space ≡ Some names
     → first_failing (tests_of old space names (call.Rename from to)) ≡ None
     → Done old space names (call.Rename from to) answer new effects → Kept new effects
@@ -427,7 +427,7 @@ rename_kept old space from to names answer new effects fits lawful acyclic there
     → Kept new effects) [
       | None ↦ λ (_ : _) (acts : _). absurd acts
       | Some entry ↦ λ (at : _) (acts : _).
-          subst (λ (s : State). Kept s effects) (sym acts.1)
+          subst (λ (s : Ipc). Kept s effects) (sym acts.1)
           (subst (λ (l : List Effect). Kept (actions.renamed old space names from to entry) l) (sym acts.2)
           (renamed_kept old space from to names entry lawful acyclic there at
           (chosen_unused names to real.0 free.0 fits)))

@@ -8,8 +8,8 @@ use Rattle.std.specs.FinMap.{len-insert}
 use Rattle.codes.specs.declared.kern_return.KernReturn.TheVariants.{InvalidName, InvalidRight, InvalidValue, InvalidArgument, InvalidCapability, UrefsOverflow, NoSpace}
 use Rattle.codes.specs.declared.limits.TheConstants.{MAX_NAMES, MAX_DEAD_REFERENCES}
 use Rattle.codes.specs.declared.name.TheConstants.{MACH_PORT_NULL}
-use Rattle.ipc_model.specs.declared.call.Call.TheVariants as call
-use Rattle.ipc_model.specs.declared.call.Reply.{Reply}
+use Rattle.ipc_model.specs.declared.plain_call.PlainCall.TheVariants as call
+use Rattle.ipc_model.specs.declared.plain_reply.PlainReply.{PlainReply}
 use Rattle.ipc_model.specs.declared.entry.Entry.{Entry}
 use Rattle.ipc_model.specs.declared.entry.Entry.TheVariants.{Port, SendOnce, Set, Dead}
 use Rattle.ipc_model.specs.declared.message.PortInMessage.{PortInMessage}
@@ -38,7 +38,7 @@ use Rattle.ipc_model.specs.calls.PortCalls.{tests_of, tests_of_copy_in, tests_of
 use Rattle.ipc_laws.specs.ReferencesKeep.{changed_space}
 use Rattle.ipc_laws.specs.RightsKeep.{copied_in, names_are}
 use Rattle.ipc_model.specs.messages.Sending.{live_port}
-use Rattle.ipc_model.specs.state.State.{State, Names, IsUnused, with_names, with_entry, with_port, port_held, received_port, request_of, entry_at}
+use Rattle.ipc_model.specs.state.Ipc.{Ipc, Names, IsUnused, with_names, with_entry, with_port, port_held, received_port, request_of, entry_at}
 use Rattle.ipc_laws.specs.Takes.{Quiet, quiet_none, quiet_both, MidTaken, taken_mid, kind_taken, with_right, weighs_live}
 use Rattle.ipc_model.specs.calls.Tests.{Tests, first_failing}
 use Rattle.ipc_laws.specs.Weights.{Weight, target_weigh, entry_weigh, receive_of, any_of}
@@ -49,7 +49,7 @@ target_hand target w = target_weigh w target
 
 -- What is shown where a request is set: the former target is in hand, the effects hold no receive right, and the space
 -- has as many names.
-record MidRequest (space : ℕ) (names : Names) (after : State × List Effect) (former : Option ℕ) : Type 0 where
+record MidRequest (space : ℕ) (names : Names) (after : Ipc × List Effect) (former : Option ℕ) : Type 0 where
   mid : MidCall after.0 (target_hand former)
   quiet : Quiet after.1
   later : Names
@@ -61,19 +61,19 @@ no_receive q None = refl
 no_receive q (Some serial) = refl
 
 -- a target that isn't kept leaves the hand
-let_go : (state : State) (target : Option ℕ) → MidCall state (target_hand target) → MidCall state (target_hand None)
+let_go : (state : Ipc) (target : Option ℕ) → MidCall state (target_hand target) → MidCall state (target_hand None)
 let_go state target mid =
     mid_hand state (target_hand target) (target_hand None) mid (λ (q : ℕ). sym (no_receive q target))
     (λ (q : ℕ) (dead : _). omega arith)
 
-unchanged : (state : State) (space : ℕ) (names : Names) (target : Option ℕ) → MidCall state (target_hand target)
+unchanged : (state : Ipc) (space : ℕ) (names : Names) (target : Option ℕ) → MidCall state (target_hand target)
     → finmap.get state.spaces space ≡ Some names → MidRequest space names (state, []) None
 unchanged state space names target mid there =
     record { mid = let_go state target mid; quiet = quiet_none; later = names; there = there; long = refl }
 
 -- a dead-name request, kept with the name
 
-kept_with_name : (state : State) (space name : ℕ) (names : Names) (before after : Entry) (target former : Option ℕ)
+kept_with_name : (state : Ipc) (space name : ℕ) (names : Names) (before after : Entry) (target former : Option ℕ)
     (effects : List Effect) → Quiet effects → MidCall state (target_hand target)
     → finmap.get state.spaces space ≡ Some names → finmap.get names name ≡ Some before
     → LawfulEntry after → ((serial : ℕ) → port_held after ≡ Some serial → port_held before ≡ Some serial)
@@ -101,18 +101,18 @@ kept_with_name state space name names before after target former effects quiet m
       set = λ (e : _). absurd (not_a_set (some_same before Set e));
     }) mid in
     record {
-      mid = subst (λ (s : State). MidCall s (target_hand former)) (sym same) step;
+      mid = subst (λ (s : Ipc). MidCall s (target_hand former)) (sym same) step;
       quiet = quiet;
       later = finmap.insert names name after;
       there =
-          ap (λ (s : State). finmap.get s.spaces space) same
+          ap (λ (s : Ipc). finmap.get s.spaces space) same
           ∙ get-here state.spaces space (finmap.insert names name after);
       long =
           len-insert nat_cmp_total names name after ∙ ap
           (λ (b : Bool). if b then finmap.len names else finmap.len names + 1) (ap is_some at);
     }
 
-set_of_name : (state : State) (space name : ℕ) (names : Names) (entry : Entry) (target : Option ℕ)
+set_of_name : (state : Ipc) (space name : ℕ) (names : Names) (entry : Entry) (target : Option ℕ)
     → MidCall state (target_hand target) → finmap.get state.spaces space ≡ Some names
     → finmap.get names name ≡ Some entry
     → ((references : ℕ) → entry ≡ Dead references → is_some target ≡ true → references < MAX_DEAD_REFERENCES)
@@ -143,7 +143,7 @@ with_destroyed target p = record p { port_destroyed_target = target }
 abbrev with_senders : Option ℕ → PortState → PortState
 with_senders target p = record p { no_senders_target = target }
 
-kept_with_port : (state : State) (space serial : ℕ) (names : Names) (port : PortState) (change : PortState → PortState)
+kept_with_port : (state : Ipc) (space serial : ℕ) (names : Names) (port : PortState) (change : PortState → PortState)
     (target former : Option ℕ) (effects : List Effect) → Quiet effects → MidCall state (target_hand target)
     → finmap.get state.spaces space ≡ Some names
     → finmap.get state.ports serial ≡ Some port → PortStep state serial change (target_hand target) (target_hand former)
@@ -156,7 +156,7 @@ kept_with_port state space serial names port change target former effects quiet 
   long = refl;
 }
 
-destroyed_step : (state : State) (serial : ℕ) (port : PortState) (target : Option ℕ)
+destroyed_step : (state : Ipc) (serial : ℕ) (port : PortState) (target : Option ℕ)
     → MidCall state (target_hand target) → finmap.get state.ports serial ≡ Some port
     → PortStep state serial (with_destroyed target) (target_hand target) (target_hand port.port_destroyed_target)
 destroyed_step state serial port target mid at =
@@ -180,7 +180,7 @@ destroyed_step state serial port target mid at =
           mid.acyclic;
     }
 
-senders_step : (state : State) (serial : ℕ) (port : PortState) (target : Option ℕ) → MidCall state (target_hand target)
+senders_step : (state : Ipc) (serial : ℕ) (port : PortState) (target : Option ℕ) → MidCall state (target_hand target)
     → finmap.get state.ports serial ≡ Some port
     → PortStep state serial (with_senders target) (target_hand target) (target_hand port.no_senders_target)
 senders_step state serial port target mid at =
@@ -203,7 +203,7 @@ senders_step state serial port target mid at =
           (changed_edges state serial (with_senders target) (λ (inner : ℕ) (p : PortState) (e : _). e)) mid.acyclic;
     }
 
-set_of_port : (state : State) (space serial variant sync : ℕ) (names : Names) (port : PortState) (target : Option ℕ)
+set_of_port : (state : Ipc) (space serial variant sync : ℕ) (names : Names) (port : PortState) (target : Option ℕ)
     → MidCall state (target_hand target) → finmap.get state.spaces space ≡ Some names
     → finmap.get state.ports serial ≡ Some port
     → MidRequest space names (port_request_set state variant sync serial target)
@@ -246,7 +246,7 @@ set_of_port state space serial variant sync names port (Some target) mid there a
     ]
 
 -- whichever is asked for
-set_of_entry : (state : State) (space name variant sync : ℕ) (names : Names) (entry : Entry) (target : Option ℕ)
+set_of_entry : (state : Ipc) (space name variant sync : ℕ) (names : Names) (entry : Entry) (target : Option ℕ)
     → MidCall state (target_hand target) → finmap.get state.spaces space ≡ Some names
     → finmap.get names name ≡ Some entry
     → ((references : ℕ) → (variant == 72) ≡ true → entry ≡ Dead references → is_some target ≡ true
@@ -255,14 +255,14 @@ set_of_entry : (state : State) (space name variant sync : ℕ) (names : Names) (
 set_of_entry state space name variant sync names entry target mid there at room =
     elim (variant == 72) as (λ (b : Bool). (variant == 72) ≡ b
     → MidRequest space names (if b then dead_name_request_set state space name target entry
-    else elim (received_port entry) as (λ _. State × List Effect)
+    else elim (received_port entry) as (λ _. Ipc × List Effect)
     [ None ↦ (state, []) | Some serial ↦ port_request_set state variant sync serial target ])
     (if b then request_of entry else target_of_port state variant (received_port entry))) [
       | true ↦ λ (named : _). set_of_name state space name names entry target mid there at
           (λ (references : ℕ) (is : _) (some : _). room references named is some)
       | false ↦ λ (_ : _).
           elim (received_port entry) as (λ (o : Option ℕ). received_port entry ≡ o
-          → MidRequest space names (elim o as (λ _. State × List Effect)
+          → MidRequest space names (elim o as (λ _. Ipc × List Effect)
           [ None ↦ (state, []) | Some serial ↦ port_request_set state variant sync serial target ])
           (target_of_port state variant o)) [
             | None ↦ λ (_ : _). unchanged state space names target mid there
@@ -281,12 +281,12 @@ set_of_entry state space name variant sync names entry target mid there at room 
 
 -- The former target comes back under a new name.
 
-given_back : (space : ℕ) (names : Names) (after : State × List Effect) (former : Option ℕ) (given : ℕ) (new : State)
+given_back : (space : ℕ) (names : Names) (after : Ipc × List Effect) (former : Option ℕ) (given : ℕ) (new : Ipc)
     (notices effects : List Effect) → MidRequest space names after former → Quiet notices
     → (is_some former && names_are_used_up names) ≡ false → GivesBack after.0 space former given new
     → effects ≡ notices ++ after.1 → Kept new effects
 given_back space names after None given new notices effects request quiet room back are =
-    subst (λ (s : State). Kept s effects) (sym back.1) (subst (λ (l : List Effect). Kept after.0 l) (sym are)
+    subst (λ (s : Ipc). Kept s effects) (sym back.1) (subst (λ (l : List Effect). Kept after.0 l) (sym are)
     (kept_of_mid after.0 (target_hand None) (notices ++ after.1) request.mid
     (quiet_both notices after.1 quiet request.quiet).waits
     (λ (q : ℕ). (quiet_both notices after.1 quiet request.quiet).receives q)))
@@ -304,7 +304,7 @@ given_back space names after (Some former) given new notices effects request qui
     let as_said : new ≡ with_names after.0 space (finmap.insert request.later given (SendOnce former None)) =
     back.1 ∙ changed_space after.0 space request.later
     (λ (n : Names). finmap.insert n given (SendOnce former None)) request.there in
-    subst (λ (s : State). Kept s effects) (sym as_said)
+    subst (λ (s : Ipc). Kept s effects) (sym as_said)
     (subst (λ (l : List Effect). Kept
     (with_names after.0 space (finmap.insert request.later given (SendOnce former None))) l) (sym are)
     (kept_of_mid _ empty_hand (notices ++ after.1) named (quiet_both notices after.1 quiet request.quiet).waits
@@ -340,8 +340,8 @@ variant_tests names name variant sync is passes =
     ap (λ (v : ℕ). first_failing (tests_of_variant names name v sync false)) (sym (number_same variant 72 is)) ∙ passes
 
 -- A request is set in a state, and its former target is given back.
-requested_kept : (space name variant sync : ℕ) (cancels : Bool) (taken : TakenTarget) (names : Names) (answer : Reply)
-    (new : State) (effects : List Effect) → MidCall taken.state (target_hand taken.target) → Quiet taken.notices
+requested_kept : (space name variant sync : ℕ) (cancels : Bool) (taken : TakenTarget) (names : Names) (answer : PlainReply)
+    (new : Ipc) (effects : List Effect) → MidCall taken.state (target_hand taken.target) → Quiet taken.notices
     → finmap.get taken.state.spaces space ≡ Some names → (is_some taken.target ≡ true → cancels ≡ false)
     → first_failing (tests_of_request taken.state space name variant sync cancels) ≡ None
     → Requested taken.state space name variant sync taken answer new effects
@@ -368,14 +368,14 @@ requested_kept space name variant sync cancels taken names answer new effects mi
     let request : MidRequest space names (request_set_under taken.state space name variant sync taken.target)
     (target_under taken.state names variant name) =
     subst (λ (o : Option Entry). MidRequest space names
-    (elim o as (λ _. State × List Effect) [
+    (elim o as (λ _. Ipc × List Effect) [
       | None ↦ (taken.state, [])
       | Some entry ↦
           request_set taken.state space name variant sync taken.target entry
     ])
     (target_under taken.state names variant name)) (sym under_name)
     (elim (finmap.get names name) as (λ (o : Option Entry). finmap.get names name ≡ o
-    → MidRequest space names (elim o as (λ _. State × List Effect)
+    → MidRequest space names (elim o as (λ _. Ipc × List Effect)
     [ None ↦ (taken.state, []) | Some entry ↦ request_set taken.state space name variant sync taken.target entry ])
     (option_and_then (target_now taken.state variant) o)) [
       | None ↦ λ (_ : _). unchanged taken.state space names taken.target mid there
@@ -421,7 +421,7 @@ target_in_hand space serial taken mid port once =
     mid_hand taken.state (with_right empty_hand taken.right) (target_hand (Some serial)) mid.mid
     (λ (q : ℕ). sym (weighs (receive_of q))) (λ (q : ℕ) (dead : _). omega (arith, weighs (any_of q)))
 
-by_null : (old : State) (space name variant sync disposition : ℕ) (names : Names) (answer : Reply) (new : State)
+by_null : (old : Ipc) (space name variant sync disposition : ℕ) (names : Names) (answer : PlainReply) (new : Ipc)
     (effects : List Effect) → LawfulAtRest old → Acyclic old → finmap.get old.spaces space ≡ Some names
     → first_failing (tests_of_request old space name variant sync true) ≡ None
     → Requested old space name variant sync (taken_target old None) answer new effects → Kept new effects
@@ -432,8 +432,8 @@ by_null old space name variant sync disposition names answer new effects lawful 
     requested_kept space name variant sync true (taken_target old None) names answer new effects mid quiet_none there
     (λ (some : _). absurd (cc some)) passes done
 
-by_name : (old : State) (space name variant sync notify_name disposition : ℕ) (names : Names) (answer : Reply)
-    (new : State) (effects : List Effect) → LawfulAtRest old → Acyclic old → finmap.get old.spaces space ≡ Some names
+by_name : (old : Ipc) (space name variant sync notify_name disposition : ℕ) (names : Names) (answer : PlainReply)
+    (new : Ipc) (effects : List Effect) → LawfulAtRest old → Acyclic old → finmap.get old.spaces space ≡ Some names
     → first_failing (tests_of_copy_in old space notify_name (notify_disposition disposition) InvalidCapability
     (λ taken serial. tests_of_request taken.state space name variant sync false)) ≡ None
     → Requested old space name variant sync
@@ -461,8 +461,8 @@ by_name old space name variant sync notify_name disposition names answer new eff
     (subst (λ (o : Option Taken). Requested old space name variant sync (taken_target old o) answer new effects)
     taken_is done)
 
-pub request_kept : (old : State) (space name variant sync notify_name disposition : ℕ) (names : Names) (answer : Reply)
-    (new : State) (effects : List Effect) → LawfulAtRest old → Acyclic old → finmap.get old.spaces space ≡ Some names
+pub request_kept : (old : Ipc) (space name variant sync notify_name disposition : ℕ) (names : Names) (answer : PlainReply)
+    (new : Ipc) (effects : List Effect) → LawfulAtRest old → Acyclic old → finmap.get old.spaces space ≡ Some names
     → first_failing (tests_of old space names (call.RequestNotification name variant sync notify_name disposition))
     ≡ None → Done old space names (call.RequestNotification name variant sync notify_name disposition) answer new
     effects → Kept new effects

@@ -10,8 +10,8 @@ use Rattle.std.specs.FinMap.{get-entries, len-empty}
 use Rattle.codes.specs.declared.kern_return.KernReturn.{KernReturn}
 use Rattle.codes.specs.declared.kern_return.KernReturn.TheVariants.{InvalidName, InvalidRight, InvalidValue, InvalidCapability, NameExists, RightExists, UrefsOverflow, NoSpace, ResourceShortage}
 use Rattle.codes.specs.declared.limits.TheConstants.{MAX_NAMES, MAX_SPACES}
-use Rattle.ipc_model.specs.declared.call.Call.TheVariants as call
-use Rattle.ipc_model.specs.declared.call.Reply.{Reply}
+use Rattle.ipc_model.specs.declared.plain_call.PlainCall.TheVariants as call
+use Rattle.ipc_model.specs.declared.plain_reply.PlainReply.{PlainReply}
 use Rattle.ipc_model.specs.declared.entry.Entry.{Entry}
 use Rattle.ipc_model.specs.declared.message.CarriedRight.{CarriedRight}
 use Rattle.ipc_model.specs.declared.message.PortInMessage.{PortInMessage}
@@ -40,13 +40,13 @@ use Rattle.ipc_laws.specs.OpeningLaws.{total-empty, no_names_lawful}
 use Rattle.ipc_laws.specs.Others.{number_same}
 use Rattle.ipc_model.specs.calls.PortCalls.{tests_of, tests_of_copy_in, tests_of_taken, tests_of_insert, tests_of_extract, names_in, is_no_name, is_in_use, names_are_used_up, stands_elsewhere, is_taken_otherwise, passes_bound, is_send_once_kind}
 use Rattle.ipc_model.specs.messages.Sending.{live_port}
-use Rattle.ipc_model.specs.state.State.{State, Names, is_null_or_dead, with_names, port_held, is_number}
+use Rattle.ipc_model.specs.state.Ipc.{Ipc, Names, is_null_or_dead, with_names, port_held, is_number}
 use Rattle.ipc_laws.specs.Takes.{MidTaken, taken_mid, with_right}
 use Rattle.ipc_model.specs.calls.Tests.{Tests, first_failing}
 use Rattle.ipc_laws.specs.Weights.{Weight, names_weigh, entry_weigh, state_weigh, receive_of, any_of}
 
 -- what passing the tests of a right that is copied in shows: it was taken, and names a port
-pub record CopiedIn (old : State) (space name : ℕ) (disposition : Option Disposition)
+pub record CopiedIn (old : Ipc) (space name : ℕ) (disposition : Option Disposition)
     (later : Taken → ℕ → Tests) : Type 0 where
   pub by : Disposition
   pub taken : Taken
@@ -64,7 +64,7 @@ live_is (in_message.Live other) serial is = ap (λ k. in_message.Live k) (some_s
 never_passes : (code : KernReturn) → first_failing ((true, code) ∷ []) ≡ None → ⊥
 never_passes code e = cc e
 
-pub copied_in : (old : State) (space name : ℕ) (disposition : Option Disposition) (code : KernReturn)
+pub copied_in : (old : Ipc) (space name : ℕ) (disposition : Option Disposition) (code : KernReturn)
     (later : Taken → ℕ → Tests) → first_failing (tests_of_copy_in old space name disposition code later) ≡ None
     → CopiedIn old space name disposition later
 copied_in old space name None code later passes = absurd (never_passes InvalidValue passes)
@@ -93,21 +93,21 @@ copied_in old space name (Some by) code later passes =
           ] refl e
     ] refl passes
 
-pub taken_is : (old : State) (space name disposition : ℕ) (by : Disposition) (taken : Taken)
+pub taken_is : (old : Ipc) (space name disposition : ℕ) (by : Disposition) (taken : Taken)
     → disposition_of disposition ≡ Some by → copy_in old space name by ≡ Some taken
     → taken_by old space name disposition ≡ Some taken
 taken_is old space name disposition by taken known is = ap (option_and_then (copy_in old space name)) known ∙ is
 
-pub names_are : (state : State) (space : ℕ) (names : Names) → finmap.get state.spaces space ≡ Some names
+pub names_are : (state : Ipc) (space : ℕ) (names : Names) → finmap.get state.spaces space ≡ Some names
     → names_in state space ≡ names
 names_are state space names there =
     ap (λ (o : Option Names). elim o as (λ _. Names) [ None ↦ finmap.empty | Some n ↦ n ]) there
 
 -- a call that has nothing left in hand, with the notices of its copy in
-pub done_with_notices : (state new : State) (notices effects : List Effect) (space : ℕ) (hand : Hand) (taken : Taken)
+pub done_with_notices : (state new : Ipc) (notices effects : List Effect) (space : ℕ) (hand : Hand) (taken : Taken)
     → MidTaken space hand taken → MidCall state empty_hand → new ≡ state → effects ≡ taken.notices → Kept new effects
 done_with_notices state new notices effects space hand taken mid after same are =
-    subst (λ (s : State). Kept s effects) (sym same)
+    subst (λ (s : Ipc). Kept s effects) (sym same)
     (subst (λ (l : List Effect). Kept state l) (sym are)
     (kept_of_mid state empty_hand taken.notices after mid.quiet.waits (λ (q : ℕ). mid.quiet.receives q)))
 
@@ -121,7 +121,7 @@ room_for names right fits wants =
     ap {B = ℕ} (λ (b : Bool). if b then 1 else 0) wants in
     omega (arith, one, ltb-false MAX_NAMES (finmap.len names + names_needed names [] (right ∷ [])) fits)
 
-extracted_kept : (old : State) (space : ℕ) (taken : Taken) (answer : Reply) (new : State) (effects : List Effect)
+extracted_kept : (old : Ipc) (space : ℕ) (taken : Taken) (answer : PlainReply) (new : Ipc) (effects : List Effect)
     → MidTaken space empty_hand taken
     → nat_lt MAX_NAMES (finmap.len (names_in taken.state space) + names_needed (names_in taken.state space) []
     (taken.right ∷ [])) ≡ false → Extracted (Some taken) space answer new effects → Kept new effects
@@ -135,7 +135,7 @@ extracted_kept old space taken answer new effects mid fits (name, _, (may, same,
     (names_after (names_in taken.state space) taken.right.kind taken.right.port name)) new taken.notices effects
     space empty_hand taken mid arrived.mid same are
 
-pub extract_kept : (old : State) (space name disposition : ℕ) (names : Names) (answer : Reply) (new : State)
+pub extract_kept : (old : Ipc) (space name disposition : ℕ) (names : Names) (answer : PlainReply) (new : Ipc)
     (effects : List Effect) → LawfulAtRest old → Acyclic old → finmap.get old.spaces space ≡ Some names
     → first_failing (tests_of old space names (call.ExtractRight name disposition)) ≡ None
     → Done old space names (call.ExtractRight name disposition) answer new effects → Kept new effects
@@ -211,7 +211,7 @@ holds_port kind.Receive serial entry e = ((λ (is : _). cc is), that_port (port_
 holds_port kind.Send serial entry e = ((λ (is : _). cc is), that_port (port_held entry) serial e)
 holds_port kind.SendOnce serial entry e = absurd (cc e)
 
-inserted_arrives : (state : State) (space name serial : ℕ) (names : Names) (what : RightKind) → name < 2 ^ 32
+inserted_arrives : (state : Ipc) (space name serial : ℕ) (names : Names) (what : RightKind) → name < 2 ^ 32
     → is_null_or_dead name ≡ false → MidCall state (with_one empty_hand what serial)
     → finmap.get state.spaces space ≡ Some names
     → (not (is_send_once_kind what) && stands_elsewhere names name serial) ≡ false
@@ -236,7 +236,7 @@ inserted_arrives state space name serial names what fits real mid there elsewher
     ] refl otherwise full
 
 -- (the right that was taken, as it arrives)
-inserted_kept : (old : State) (space name serial : ℕ) (taken : Taken) (new : State) (effects : List Effect)
+inserted_kept : (old : Ipc) (space name serial : ℕ) (taken : Taken) (new : Ipc) (effects : List Effect)
     → name < 2 ^ 32 → is_null_or_dead name ≡ false → MidTaken space empty_hand taken
     → taken.right.port ≡ in_message.Live serial
     → first_failing (tests_of_insert space name taken serial) ≡ None → Inserted (Some taken) space name new effects
@@ -266,7 +266,7 @@ inserted_kept old space name serial taken new effects fits real mid port passes 
     done_with_notices (with_names taken.state space (names_after names what taken.right.port name)) new taken.notices
     effects space empty_hand taken mid as_said done.0 done.1
 
-pub insert_kept : (old : State) (space name right_name disposition : ℕ) (names : Names) (answer : Reply) (new : State)
+pub insert_kept : (old : Ipc) (space name right_name disposition : ℕ) (names : Names) (answer : PlainReply) (new : Ipc)
     (effects : List Effect) → name < 2 ^ 32 → LawfulAtRest old → Acyclic old → finmap.get old.spaces space ≡ Some names
     → first_failing (tests_of old space names (call.InsertRight name right_name disposition)) ≡ None
     → Done old space names (call.InsertRight name right_name disposition) answer new effects → Kept new effects
@@ -291,19 +291,19 @@ insert_kept old space name right_name disposition names answer new effects fits 
 no_names_weigh : (w : Weight) → names_weigh w finmap.empty ≡ 0
 no_names_weigh w = total-empty {X = Entry} (λ n e. entry_weigh w e)
 
-new_space_weighs : (w : Weight) (state : State) (number : ℕ) → finmap.get state.spaces number ≡ None
+new_space_weighs : (w : Weight) (state : Ipc) (number : ℕ) → finmap.get state.spaces number ≡ None
     → state_weigh w (with_names state number finmap.empty) ≡ state_weigh w state
 unfolding state_weigh
 new_space_weighs w state number free =
     omega (arith, total-new (λ s n. names_weigh w n) state.spaces number finmap.empty free, no_names_weigh w)
 
-held_elsewhere : (state : State) (number serial set : ℕ) (names : Names) → finmap.get state.spaces number ≡ None
+held_elsewhere : (state : Ipc) (number serial set : ℕ) (names : Names) → finmap.get state.spaces number ≡ None
     → IsHeldAlongsideSet state serial set → IsHeldAlongsideSet (with_names state number names) serial set
 held_elsewhere state number serial set names free (space, held_names, name, entry, there, at, is, alongside) =
     let apart : space ≢ number = λ (same : _). cc (sym free ∙ ap (finmap.get state.spaces) (sym same) ∙ there) in
     (space, held_names, name, entry, get-there state.spaces number names space apart ∙ there, at, is, alongside)
 
-new_space_mid : (state : State) (number : ℕ) (hand : Hand) → IsUnusedSpace state number → MidCall state hand
+new_space_mid : (state : Ipc) (number : ℕ) (hand : Hand) → IsUnusedSpace state number → MidCall state hand
     → MidCall (with_names state number finmap.empty) hand
 new_space_mid state number hand unused mid = record {
   parts = record {
@@ -336,11 +336,11 @@ new_space_mid state number hand unused mid = record {
   acyclic = mid.acyclic;
 }
 
-created_kept : (space : ℕ) (taken : Taken) (answer : Reply) (new : State) (effects : List Effect)
+created_kept : (space : ℕ) (taken : Taken) (answer : PlainReply) (new : Ipc) (effects : List Effect)
     → MidTaken space empty_hand taken → Created (Some taken) answer new effects → Kept new effects
 created_kept space taken answer new effects mid (number, name, unused, _, may, same, are) =
     let right : CarriedRight = taken.right in
-    let made : State = with_names taken.state number finmap.empty in
+    let made : Ipc = with_names taken.state number finmap.empty in
     let with_space : MidCall made (with_right empty_hand right) =
     new_space_mid taken.state number (with_right empty_hand right) unused mid.mid in
     let arrived =
@@ -353,7 +353,7 @@ created_kept space taken answer new effects mid (number, name, unused, _, may, s
     done_with_notices (with_names taken.state number named) new taken.notices effects space empty_hand taken mid
     one_state same are
 
-pub create_kept : (old : State) (space name disposition : ℕ) (names : Names) (answer : Reply) (new : State)
+pub create_kept : (old : Ipc) (space name disposition : ℕ) (names : Names) (answer : PlainReply) (new : Ipc)
     (effects : List Effect) → LawfulAtRest old → Acyclic old → finmap.get old.spaces space ≡ Some names
     → first_failing (tests_of old space names (call.SpaceCreate name disposition)) ≡ None
     → Done old space names (call.SpaceCreate name disposition) answer new effects → Kept new effects

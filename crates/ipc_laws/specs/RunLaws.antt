@@ -1,18 +1,18 @@
 -- Runs of the machine that follow one another, and those of what is kept.
 use Rattle.std.specs.Prelude.{◌↔◌, List, [], ◌∷◌, ◌++◌, map}
-use Rattle.std.proofs.Common.{refl, subst}
+use Rattle.std.proofs.Common.{refl, subst, inl}
 use Rattle.ipc_model.specs.declared.record.Record.{Record}
 use Rattle.ipc_model.specs.state.State.{State}
 use Rattle.ipc_model.specs.calls.Step.{Step, Run}
 use Rattle.ipc_model.specs.encodings.Encodings.{canonical_record}
-use Rattle.ipc_laws.specs.CanonicalLaws.{made_as_canonical}
-use Rattle.ipc_laws.specs.StepsKeep.{FitCalls}
+use Rattle.ipc_laws.specs.CanonicalRecords.{replayed_as_canonical}
+use Rattle.ipc_laws.specs.RunsKeep.{FitCalls}
 
 -- one more step
 pub run-push : (old mid new : State) (records : List Record) (next : Record) → Run old records mid
     → Step mid next.space next.call next.reply new → Run old (records ++ next ∷ []) new
 run-push old mid new [] next so_far step =
-    (new, subst (λ (s : State). Step s next.space next.call next.reply new) so_far step, refl)
+    (new, inl (subst (λ (s : State). Step s next.space next.call next.reply new) so_far step), refl)
 run-push old mid new (first ∷ records) next so_far step =
     (so_far.0, so_far.1, run-push so_far.0 mid new records next so_far.2 step)
 
@@ -32,7 +32,7 @@ RecordsRunAsCanonical =
 pub run_as_canonical : RecordsRunAsCanonical
 run_as_canonical old [] new fits = ((λ run. run), (λ run. run))
 run_as_canonical old (first ∷ records) new fits =
-    let here = λ (mid : State). made_as_canonical old first.space first.call first.reply mid fits.0 in
+    let here = λ (mid : State). replayed_as_canonical old first mid fits.0.0 in
     let there = λ (mid : State). run_as_canonical mid records new fits.1 in (
       (λ run. (run.0, (here run.0).0 run.1, (there run.0).0 run.2)),
       (λ run. (run.0, (here run.0).1 run.1, (there run.0).1 run.2)),

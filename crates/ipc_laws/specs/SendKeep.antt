@@ -20,7 +20,7 @@ use Rattle.ipc_laws.specs.MapSums.{weigh, weigh-append}
 use Rattle.ipc_laws.specs.PortItems.{by_type, kinds_of_type, stored_kinds, no_kinds}
 use Rattle.ipc_model.specs.messages.Sending as sending
 use Rattle.ipc_model.specs.messages.Sending.{TakenRights, TakenDestination, destination_at, TakenHeader, TakenReply, passed, take_right, take_rights, take_item, take_items, take_destination, take_reply, take_reply_first, take_destination_first, take_header, live_port}
-use Rattle.ipc_model.specs.state.State.{State, Names, is_null_or_dead}
+use Rattle.ipc_model.specs.state.Ipc.{Ipc, Names, is_null_or_dead}
 use Rattle.ipc_laws.specs.Takes.{Quiet, quiet_none, quiet_both, taken_mid, kind_taken, with_right}
 use Rattle.ipc_model.specs.calls.Tests.{and_then, or_refused}
 use Rattle.ipc_laws.specs.UntouchedMessages.{and_then_if, if_if}
@@ -235,7 +235,7 @@ live_at in_message.Null serial is = absurd (cc is)
 live_at in_message.Dead serial is = absurd (cc is)
 live_at (in_message.Live other) serial is = ap (λ k. in_message.Live k) (some_same other serial is)
 
-destination_mid : (space name : ℕ) (state : State) (hand : Hand) (names : Names) (disposition : Disposition)
+destination_mid : (space name : ℕ) (state : Ipc) (hand : Hand) (names : Names) (disposition : Disposition)
     → received_kind disposition ≢ kind.Receive → MidCall state hand → finmap.get state.spaces space ≡ Some names
     → IfOk (take_destination state space name disposition) (MidDestination space hand)
 destination_mid space name state hand names disposition sends mid there =
@@ -272,7 +272,7 @@ abbrev pub RepliesBy : Option Disposition → Type 0
 RepliesBy None = Unit {0}
 RepliesBy (Some disposition) = received_kind disposition ≢ kind.Receive
 
-reply_mid : (space name : ℕ) (state : State) (hand : Hand) (names : Names) (reply : Option Disposition)
+reply_mid : (space name : ℕ) (state : Ipc) (hand : Hand) (names : Names) (reply : Option Disposition)
     → RepliesBy reply → MidCall state hand → finmap.get state.spaces space ≡ Some names
     → IfOk (take_reply state space name reply) (MidReply space hand)
 reply_mid space name state hand names None by mid there = record {
@@ -324,7 +324,7 @@ reply_mid space name state hand names (Some disposition) by mid there =
           ] refl
     ]
 
-header_of_reply : (space remote local : ℕ) (state : State) (names : Names) (destination : Disposition)
+header_of_reply : (space remote local : ℕ) (state : Ipc) (names : Names) (destination : Disposition)
     (reply : Option Disposition) → received_kind destination ≢ kind.Receive → RepliesBy reply → MidCall state empty_hand
     → finmap.get state.spaces space ≡ Some names
     → IfOk (take_reply_first state space remote destination local reply) (MidHeader space)
@@ -346,7 +346,7 @@ header_of_reply space remote local state names destination reply sends by mid th
       replies = one.sends;
     }))
 
-header_of_destination : (space remote local : ℕ) (state : State) (names : Names) (destination : Disposition)
+header_of_destination : (space remote local : ℕ) (state : Ipc) (names : Names) (destination : Disposition)
     (reply : Option Disposition) → received_kind destination ≢ kind.Receive → RepliesBy reply → MidCall state empty_hand
     → finmap.get state.spaces space ≡ Some names
     → IfOk (take_destination_first state space remote destination local reply) (MidHeader space)
@@ -369,7 +369,7 @@ header_of_destination space remote local state names destination reply sends by 
       replies = two.sends;
     }))
 
-pub header_mid : (space remote local : ℕ) (state : State) (names : Names) (destination : Disposition)
+pub header_mid : (space remote local : ℕ) (state : Ipc) (names : Names) (destination : Disposition)
     (reply : Option Disposition) → received_kind destination ≢ kind.Receive → RepliesBy reply → MidCall state empty_hand
     → finmap.get state.spaces space ≡ Some names
     → IfOk (take_header state space remote destination local reply) (MidHeader space)

@@ -7,8 +7,8 @@ use Rattle.std.specs.List.{list_any}
 use Rattle.std.specs.FinMap as finmap
 use Rattle.codes.specs.declared.kern_return.KernReturn.{KernReturn}
 use Rattle.codes.specs.declared.kern_return.KernReturn.TheVariants.{Success}
-use Rattle.ipc_model.specs.declared.call.Call.TheVariants as call
-use Rattle.ipc_model.specs.declared.call.Reply.{Reply}
+use Rattle.ipc_model.specs.declared.plain_call.PlainCall.TheVariants as call
+use Rattle.ipc_model.specs.declared.plain_reply.PlainReply.{PlainReply}
 use Rattle.ipc_model.specs.declared.message.CarriedRight.{CarriedRight}
 use Rattle.ipc_model.specs.declared.message.Message.{Message}
 use Rattle.ipc_model.specs.declared.message.PortInMessage.{PortInMessage}
@@ -32,8 +32,8 @@ use Rattle.ipc_laws.specs.Ranks.{TravelsOnce, met_more, one_carrier, few_above, 
 use Rattle.ipc_laws.specs.ReadyKeep.{MidReady, ready_mid}
 use Rattle.ipc_model.specs.messages.Receiving.{without_message}
 use Rattle.ipc_model.specs.messages.Sending.{Ready, ready_to_send, sent, goes_in_circle, live_port}
-use Rattle.ipc_model.specs.state.State.{State, Names, lives}
-use Rattle.ipc_model.specs.calls.Step.{ActsIn}
+use Rattle.ipc_model.specs.state.Ipc.{Ipc, Names, lives}
+use Rattle.ipc_model.specs.calls.PlainStep.{ActsIn}
 use Rattle.ipc_laws.specs.Takes.{own_weight}
 use Rattle.ipc_laws.specs.Weights.{Weight, message_weigh, port_weigh, effect_weigh, receive_of, any_of}
 use Rattle.words.specs.Words.{AreBytes}
@@ -70,11 +70,11 @@ receive_is inner right is =
     ] is
 
 -- such a right weighs no more than all together, and makes no circle if none does
-record Carried (state : State) (queue : ℕ) (rank : ℕ → ℕ) (rights : List CarriedRight) (inner : ℕ) : Type 0 where
+record Carried (state : Ipc) (queue : ℕ) (rank : ℕ → ℕ) (rights : List CarriedRight) (inner : ℕ) : Type 0 where
   lighter : rank inner < heavy rank rights
   free : is_circular state inner queue ≡ false
 
-carried_one : (state : State) (queue : ℕ) (rank : ℕ → ℕ) (rights : List CarriedRight) (inner : ℕ)
+carried_one : (state : Ipc) (queue : ℕ) (rank : ℕ → ℕ) (rights : List CarriedRight) (inner : ℕ)
     → list_any (is_receive_right inner) rights ≡ true → list_any (goes_in_circle state queue) rights ≡ false
     → Carried state queue rank rights inner
 unfolding port_heavy
@@ -99,10 +99,10 @@ carried_one state queue rank (right ∷ rights) inner any none =
           record { lighter = omega (arith, rest.lighter); free = rest.free }
     ] refl any
 
-raised : State → (ℕ → ℕ) → ℕ → ℕ → ℕ → ℕ
+raised : Ipc → (ℕ → ℕ) → ℕ → ℕ → ℕ → ℕ
 raised state rank queue more x = rank x + cond (meets state (finmap.len state.ports) x queue) more 0
 
-queued_acyclic : (state : State) (queue : ℕ) (message : Message) → TravelsOnce state
+queued_acyclic : (state : Ipc) (queue : ℕ) (message : Message) → TravelsOnce state
     → list_any (goes_in_circle state queue) message.rights ≡ false → Acyclic state
     → Acyclic (queued state queue message)
 unfolding raised is_circular
@@ -205,7 +205,7 @@ sent_kept ready is =
       | false ↦ λ (none : _). queued_kept ready is none
     ] refl
 
-pub send_kept : (old : State) (space : ℕ) (names : Names) (message : List ℕ) (answer : Reply) (new : State)
+pub send_kept : (old : Ipc) (space : ℕ) (names : Names) (message : List ℕ) (answer : PlainReply) (new : Ipc)
     (effects : List Effect) → AreBytes message → LawfulAtRest old → Acyclic old
     → finmap.get old.spaces space ≡ Some names
     → ActsIn old space names (call.Send message) answer new effects → Kept new effects
@@ -216,7 +216,7 @@ send_kept old space names message answer new effects fits lawful acyclic there a
     × (effects ≡ (sent ready).1))
     (λ code. (answer ≡ without_message code 0 0) × (new ≡ old) × (effects ≡ [])) → Kept new effects) [
       | Ok ready ↦ λ (is : _) (done : _). subst
-          (λ (s : State). Kept s effects) (sym done.1)
+          (λ (s : Ipc). Kept s effects) (sym done.1)
           (subst (λ (l : List Effect). Kept (sent ready).0 l) (sym done.2) (sent_kept ready is))
       | Err code ↦ λ (_ : _) (refused : _). kept_as old new effects lawful acyclic refused.1 refused.2
     ] (ready_mid old space names message fits (mid_of old lawful acyclic) there) acts

@@ -21,20 +21,20 @@ use Rattle.ipc_laws.specs.NameChanges.{NamesMove, names_move_lawfully, remove_la
 use Rattle.ipc_laws.specs.Others.{number_decided, with_port_spaces}
 use Rattle.ipc_laws.specs.PortChanges.{PortMove, port_moves_lawfully}
 use Rattle.ipc_laws.specs.ReferencesKeep.{gone_kept}
-use Rattle.ipc_model.specs.state.State.{State, Names, with_names, with_port, received_port, is_member, is_number}
+use Rattle.ipc_model.specs.state.Ipc.{Ipc, Names, with_names, with_port, received_port, is_member, is_number}
 use Rattle.ipc_laws.specs.Weights.{Weight, entry_weigh, receive_of, any_of}
 
 -- a port is taken out of its set
 abbrev pub taken_out : PortState → PortState
 taken_out p = record p { set = None }
 
-out_kept : (state : State) (serial : ℕ) → LawfulAtRest state → Acyclic state
+out_kept : (state : Ipc) (serial : ℕ) → LawfulAtRest state → Acyclic state
     → Kept (with_port state serial taken_out) []
 out_kept state serial lawful acyclic =
     elim (finmap.get state.ports serial)
     as (λ (o : Option PortState). finmap.get state.ports serial ≡ o → Kept (with_port state serial taken_out) []) [
-      | None ↦ λ (none : _). subst (λ (s : State). Kept s [])
-          (sym (ap (λ (o : Option PortState). elim o as (λ _. State)
+      | None ↦ λ (none : _). subst (λ (s : Ipc). Kept s [])
+          (sym (ap (λ (o : Option PortState). elim o as (λ _. Ipc)
           [ None ↦ state | Some p ↦ record state { ports = finmap.insert state.ports serial (taken_out p) } ])
           none)) (record { lawful = lawful; acyclic = acyclic })
       | Some port ↦ λ (there : _).
@@ -56,7 +56,7 @@ out_kept state serial lawful acyclic =
           record { lawful = kept.0; acyclic = kept.1 }
     ] refl
 
-pub all_out_kept : (state : State) (serials : List ℕ) → LawfulAtRest state → Acyclic state
+pub all_out_kept : (state : Ipc) (serials : List ℕ) → LawfulAtRest state → Acyclic state
     → Kept (actions.with_ports state serials taken_out) []
 all_out_kept state [] lawful acyclic = record { lawful = lawful; acyclic = acyclic }
 all_out_kept state (serial ∷ serials) lawful acyclic =
@@ -64,7 +64,7 @@ all_out_kept state (serial ∷ serials) lawful acyclic =
     all_out_kept (with_port state serial taken_out) serials first.lawful first.acyclic
 
 -- spaces stay
-pub all_out_spaces : (state : State) (serials : List ℕ)
+pub all_out_spaces : (state : Ipc) (serials : List ℕ)
     → (actions.with_ports state serials taken_out).spaces ≡ state.spaces
 all_out_spaces state [] = refl
 all_out_spaces state (serial ∷ serials) =
@@ -77,12 +77,12 @@ Among n [] = ⊥
 Among n (m ∷ ms) = (n ≡ m) ⊎ Among n ms
 
 -- what a port keeps after one was taken out
-one_out : (state : State) (serial other set : ℕ) (port : PortState)
+one_out : (state : Ipc) (serial other set : ℕ) (port : PortState)
     → finmap.get (with_port state serial taken_out).ports other ≡ Some port → port.set ≡ Some set → (other ≢ serial)
     × (finmap.get state.ports other ≡ Some port)
 one_out state serial other set port at is =
     elim (finmap.get state.ports serial) as (λ (o : Option PortState). finmap.get state.ports serial ≡ o
-    → finmap.get (elim o as (λ _. State)
+    → finmap.get (elim o as (λ _. Ipc)
     [ None ↦ state | Some p ↦ record state { ports = finmap.insert state.ports serial (taken_out p) } ]).ports other
     ≡ Some port → (other ≢ serial) × (finmap.get state.ports other ≡ Some port)) [
       | None ↦ λ (none : _) (there : _).
@@ -98,7 +98,7 @@ one_out state serial other set port at is =
           ]
     ] refl at
 
-pub still_in : (state : State) (serials : List ℕ) (other set : ℕ) (port : PortState)
+pub still_in : (state : Ipc) (serials : List ℕ) (other set : ℕ) (port : PortState)
     → finmap.get (actions.with_ports state serials taken_out).ports other ≡ Some port → port.set ≡ Some set
     → (Among other serials → ⊥) × (finmap.get state.ports other ≡ Some port)
 still_in state [] other set port at is = ((λ (a : _). a), at)
@@ -115,7 +115,7 @@ among_more n None ms among = among
 among_more n (Some m) ms among = inr among
 
 -- an entry that holds the receive right of a port in the set is one of a member
-pub member_of : (old : State) (set other : ℕ) (entry : Entry) (port : PortState) → received_port entry ≡ Some other
+pub member_of : (old : Ipc) (set other : ℕ) (entry : Entry) (port : PortState) → received_port entry ≡ Some other
     → finmap.get old.ports other ≡ Some port → port.set ≡ Some set → is_member old set entry ≡ true
 member_of old set other entry port held there is =
     ap (λ (o : Option ℕ). elim (option_and_then (λ serial. finmap.get old.ports serial) o) as (λ _. Bool)
@@ -153,7 +153,7 @@ found_among test (e ∷ es) name serial entry there passes is =
     ] there
 
 -- No port of which a name of the space holds the receive right is still in the set.
-pub none_in_set : (old : State) (names : Names) (set : ℕ) (other : ℕ) (name : ℕ) (entry : Entry) (port : PortState)
+pub none_in_set : (old : Ipc) (names : Names) (set : ℕ) (other : ℕ) (name : ℕ) (entry : Entry) (port : PortState)
     → finmap.get names name ≡ Some entry → received_port entry ≡ Some other
     → finmap.get (actions.members_in old names set None).ports other ≡ Some port → port.set ≡ Some set → ⊥
 none_in_set old names set other name entry port at held there is =
@@ -164,7 +164,7 @@ none_in_set old names set other name entry port at held there is =
 -- A set goes: its members are taken out, and its name ceases to be.
 
 -- a member that is held in another set's space is still held there
-alongside_left : (state : State) (space name : ℕ) (names : Names) (serial set : ℕ) (port : PortState)
+alongside_left : (state : Ipc) (space name : ℕ) (names : Names) (serial set : ℕ) (port : PortState)
     → finmap.get state.spaces space ≡ Some names → finmap.get names name ≡ Some Set
     → ((member : ℕ) (entry : Entry) (p : PortState) → finmap.get names member ≡ Some entry
     → received_port entry ≡ Some serial → finmap.get state.ports serial ≡ Some p → p.set ≡ Some name → ⊥)
@@ -207,7 +207,7 @@ alongside_left state space name names serial set port there at_set empty live is
           )
     ]
 
-set_move : (cleared : State) (space name : ℕ) (names : Names) → finmap.get cleared.spaces space ≡ Some names
+set_move : (cleared : Ipc) (space name : ℕ) (names : Names) → finmap.get cleared.spaces space ≡ Some names
     → finmap.get names name ≡ Some Set → LawfulNames names
     → ((other member : ℕ) (entry : Entry) (port : PortState) → finmap.get names member ≡ Some entry
     → received_port entry ≡ Some other → finmap.get cleared.ports other ≡ Some port → port.set ≡ Some name → ⊥)
@@ -232,12 +232,12 @@ set_move cleared space name names there at lawful empty = record {
       ];
 }
 
-pub set_gone_kept : (old : State) (space name : ℕ) (names : Names) → LawfulAtRest old → Acyclic old
+pub set_gone_kept : (old : Ipc) (space name : ℕ) (names : Names) → LawfulAtRest old → Acyclic old
     → finmap.get old.spaces space ≡ Some names → finmap.get names name ≡ Some Set
     → Kept (with_names (actions.members_in old names name None) space (finmap.remove names name)) []
 set_gone_kept old space name names lawful acyclic there at =
     let serials : List ℕ = actions.serials_of_members old names name in
-    let cleared : State = actions.with_ports old serials taken_out in
+    let cleared : Ipc = actions.with_ports old serials taken_out in
     let kept = all_out_kept old serials lawful acyclic in
     let there_still : finmap.get cleared.spaces space ≡ Some names =
     ap (λ (s : finmap.FinMap nat_cmp Names). finmap.get s space) (all_out_spaces old serials) ∙ there in
@@ -251,7 +251,7 @@ set_gone_kept old space name names lawful acyclic there at =
     }
 
 -- mach_port_destroy: a set, or any other name
-pub destroyed_kept : (old : State) (space name : ℕ) (names : Names) (entry : Entry) → LawfulAtRest old → Acyclic old
+pub destroyed_kept : (old : Ipc) (space name : ℕ) (names : Names) (entry : Entry) → LawfulAtRest old → Acyclic old
     → finmap.get old.spaces space ≡ Some names → finmap.get names name ≡ Some entry
     → Kept (actions.destroyed old space names name entry).state (actions.destroyed old space names name entry).effects
 destroyed_kept old space name names (Port rights) lawful acyclic there at =

@@ -18,7 +18,7 @@ use Rattle.ipc_laws.specs.MapSums.{weigh, total, weight, weigh-append, weigh-le,
 use Rattle.ipc_model.specs.messages.Notices.{Notice, notice_message}
 use Rattle.ipc_model.specs.messages.Notices as notice
 use Rattle.ipc_model.specs.state.Placed.{send_count}
-use Rattle.ipc_model.specs.state.State.{State, Names, with_port, lives, request_of}
+use Rattle.ipc_model.specs.state.Ipc.{Ipc, Names, with_port, lives, request_of}
 
 -- what a request weighs
 abbrev pub one_if_some : Option ℕ → ℕ
@@ -42,7 +42,7 @@ abbrev pub names_weight : ℕ → Names → ℕ
 names_weight space names = total entry_weight names
 
 -- carried reply and body rights, requests and live ports
-unfoldable pub state_weight : State → ℕ
+unfoldable pub state_weight : Ipc → ℕ
 state_weight state = total names_weight state.spaces + total port_weight state.ports
 
 -- an effect that is left: itself, and what a notice will carry
@@ -51,11 +51,11 @@ effect_weight (release kind serial) = 1
 effect_weight (notify target what) = 1 + message_weight (notice_message what)
 
 -- The measure of a state with effects left: carried reply and body rights, requests, live ports, and effects.
-abbrev pub measure : State → List Effect → ℕ
+abbrev pub measure : Ipc → List Effect → ℕ
 measure state effects = state_weight state + weigh effect_weight effects
 
 -- a change of a live port
-with_port_weight : (state : State) (serial : ℕ) (change : PortState → PortState) (port : PortState)
+with_port_weight : (state : Ipc) (serial : ℕ) (change : PortState → PortState) (port : PortState)
     → finmap.get state.ports serial ≡ Some port
     → state_weight (with_port state serial change) + port_weight serial port
     ≡ state_weight state + port_weight serial (change port)
@@ -68,18 +68,18 @@ with_port_weight state serial change port there =
     (finmap.insert state.ports serial (change port)) + weight port_weight serial o
     ≡ total port_weight state.ports + port_weight serial (change port)) there inserted in
     let is : with_port state serial change ≡ record state { ports = finmap.insert state.ports serial (change port) } =
-    ap (λ (o : Option PortState). elim o as (λ _. State)
+    ap (λ (o : Option PortState). elim o as (λ _. Ipc)
     [ None ↦ state | Some p ↦ record state { ports = finmap.insert state.ports serial (change p) } ]) there in
-    omega (arith, before, ap (λ (s : State). total names_weight s.spaces + total port_weight s.ports) is)
+    omega (arith, before, ap (λ (s : Ipc). total names_weight s.spaces + total port_weight s.ports) is)
 
-absent_port : (state : State) (serial : ℕ) (change : PortState → PortState) → finmap.get state.ports serial ≡ None
+absent_port : (state : Ipc) (serial : ℕ) (change : PortState → PortState) → finmap.get state.ports serial ≡ None
     → with_port state serial change ≡ state
 absent_port state serial change none =
-    ap (λ (o : Option PortState). elim o as (λ _. State)
+    ap (λ (o : Option PortState). elim o as (λ _. Ipc)
     [ None ↦ state | Some p ↦ record state { ports = finmap.insert state.ports serial (change p) } ]) none
 
 -- a message that is queued adds at most what it carries
-queued_weight : (state : State) (serial : ℕ) (message : Message)
+queued_weight : (state : Ipc) (serial : ℕ) (message : Message)
     → state_weight (queued state serial message) ≤ state_weight state + message_weight message
 queued_weight state serial message =
     elim (finmap.get state.ports serial)
@@ -100,7 +100,7 @@ queued_weight state serial message =
     ] refl
 
 -- a request of a port that is taken, and its notice
-taken_weight : (state : State) (serial : ℕ) (port : PortState) (target : ℕ) (change : PortState → PortState)
+taken_weight : (state : Ipc) (serial : ℕ) (port : PortState) (target : ℕ) (change : PortState → PortState)
     (what : Notice) → finmap.get state.ports serial ≡ Some port
     → port_weight serial (change port) + message_weight (notice_message what) ≤ port_weight serial port
     → state_weight (notified (with_port state serial change) target what) ≤ state_weight state
@@ -112,7 +112,7 @@ taken_weight state serial port target change what there less =
       queued_weight (with_port state serial change) target (notice_message what),
     )
 
-no_senders_weight : (state : State) (serial : ℕ) (port : PortState) (target : Option ℕ)
+no_senders_weight : (state : Ipc) (serial : ℕ) (port : PortState) (target : Option ℕ)
     → finmap.get state.ports serial ≡ Some port → port.no_senders_target ≡ target
     → state_weight (notified_no_senders state serial port target) ≤ state_weight state
 no_senders_weight state serial port None there is = omega arith
@@ -121,7 +121,7 @@ no_senders_weight state serial port (Some target) there is =
     (λ (p : PortState). record p { no_senders_target = None }) (notice.NoSenders port.make_send_count) there
     (omega (arith, ap one_if_some is))
 
-send_released_weight : (state : State) (serial : ℕ) (port : PortState) → finmap.get state.ports serial ≡ Some port
+send_released_weight : (state : Ipc) (serial : ℕ) (port : PortState) → finmap.get state.ports serial ≡ Some port
     → state_weight (send_released state serial port) ≤ state_weight state
 send_released_weight state serial port there =
     elim (send_count state serial == 0)
@@ -263,7 +263,7 @@ names_at_death serial space names =
           (λ (e : ℕ × Entry). entry_at_death serial e.0 e.1) entries,
     )
 
-spaces_at_death : (state : State) (serial : ℕ)
+spaces_at_death : (state : Ipc) (serial : ℕ)
     → total names_weight (map_values (map_values (entry_after_death serial)) state.spaces) + weigh effect_weight
     (dead_name_notices state serial) ≤ total names_weight state.spaces
 spaces_at_death state serial =
@@ -282,7 +282,7 @@ spaces_at_death state serial =
     )
 
 -- The port itself is one more than what its death adds.
-death_weight : (state : State) (serial : ℕ) (port : PortState) → finmap.get state.ports serial ≡ Some port
+death_weight : (state : Ipc) (serial : ℕ) (port : PortState) → finmap.get state.ports serial ≡ Some port
     → state_weight (after_death state serial) + weigh effect_weight (effects_of_death state serial port)
     < state_weight state
 unfolding state_weight
@@ -308,7 +308,7 @@ death_weight state serial port there =
     )
 
 -- a receive right that is released: sent to the target of a request, or its port dies
-receive_released_weight : (state : State) (serial : ℕ) (port : PortState) (target : Option ℕ)
+receive_released_weight : (state : Ipc) (serial : ℕ) (port : PortState) (target : Option ℕ)
     → finmap.get state.ports serial ≡ Some port → port.port_destroyed_target ≡ target
     → state_weight (receive_released_to state serial port target).0 + weigh effect_weight
     (receive_released_to state serial port target).1 ≤ state_weight state
@@ -331,7 +331,7 @@ receive_released_weight state serial port (Some target) there is =
       | false ↦ omega (arith, death_weight state serial port there)
     ]
 
-released_weight : (state : State) (serial : ℕ) (port : PortState) (kind : RightKind)
+released_weight : (state : Ipc) (serial : ℕ) (port : PortState) (kind : RightKind)
     → finmap.get state.ports serial ≡ Some port
     → state_weight (released state serial port kind).0 + weigh effect_weight (released state serial port kind).1
     ≤ state_weight state
@@ -341,7 +341,7 @@ released_weight state serial port kind.SendOnce there =
 released_weight state serial port kind.Receive there =
     receive_released_weight state serial port port.port_destroyed_target there refl
 
-effect_lowers : (state : State) (first : Effect)
+effect_lowers : (state : Ipc) (first : Effect)
     → state_weight (effect state first).0 + weigh effect_weight (effect state first).1
     < state_weight state + effect_weight first
 unfolding effect
@@ -357,7 +357,7 @@ effect_lowers state (notify target what) = omega (arith, queued_weight state tar
 -- Each effect lowers the measure.
 abbrev pub EffectsLower : Type 0
 EffectsLower =
-    (state : State) (first : Effect) (rest : List Effect)
+    (state : Ipc) (first : Effect) (rest : List Effect)
     → measure (effect state first).0 (rest ++ (effect state first).1) < measure state (first ∷ rest)
 
 pub effects_lower : EffectsLower
@@ -365,7 +365,7 @@ effects_lower state first rest =
     omega (arith, effect_lowers state first, weigh-append effect_weight rest (effect state first).1)
 
 -- so the list drains
-settles_within : (n : ℕ) (state : State) (effects : List Effect) → measure state effects < n → (end : State)
+settles_within : (n : ℕ) (state : Ipc) (effects : List Effect) → measure state effects < n → (end : Ipc)
     × Settles state effects end
 settles_within zero state effects less = absurd (omega (arith, less))
 settles_within (suc n) state [] less = (state, settled)
@@ -377,7 +377,7 @@ settles_within (suc n) state (first ∷ rest) less =
 
 -- Every list of effects settles.
 abbrev pub AlwaysSettles : Type 0
-AlwaysSettles = (state : State) (effects : List Effect) → (end : State) × Settles state effects end
+AlwaysSettles = (state : Ipc) (effects : List Effect) → (end : Ipc) × Settles state effects end
 
 pub always_settles : AlwaysSettles
 always_settles state effects = settles_within (measure state effects + 1) state effects (omega arith)

@@ -7,8 +7,8 @@ use Rattle.std.specs.Ordering.{nat_cmp, eq_by_cmp}
 use Rattle.std.specs.FinMap as finmap
 use Rattle.std.specs.FinMap.{find, get-entries}
 use Rattle.codes.specs.declared.kern_return.KernReturn.TheVariants.{Failure}
-use Rattle.ipc_model.specs.declared.call.Call.TheVariants as call
-use Rattle.ipc_model.specs.declared.call.Reply.{Reply}
+use Rattle.ipc_model.specs.declared.plain_call.PlainCall.TheVariants as call
+use Rattle.ipc_model.specs.declared.plain_reply.PlainReply.{PlainReply}
 use Rattle.ipc_model.specs.declared.entry.Entry.{Entry}
 use Rattle.ipc_model.specs.declared.port.PortState.{PortState}
 use Rattle.ipc_model.specs.calls.Actions as actions
@@ -28,7 +28,7 @@ use Rattle.ipc_laws.specs.Others.{number_decided}
 use Rattle.ipc_model.specs.calls.PortCalls.{tests_of}
 use Rattle.ipc_laws.specs.ReferencesKeep.{name_weighs, name_waits}
 use Rattle.ipc_laws.specs.SetsKeep.{Among, among_more, taken_out, all_out_kept, all_out_spaces, still_in}
-use Rattle.ipc_model.specs.state.State.{State, Names, received_port}
+use Rattle.ipc_model.specs.state.Ipc.{Ipc, Names, received_port}
 use Rattle.ipc_model.specs.calls.Tests.{first_failing}
 use Rattle.ipc_laws.specs.Weights.{Weight, entry_weigh, names_weigh, state_weigh, effect_weigh, receive_of, any_of}
 
@@ -47,7 +47,7 @@ held_among (e ∷ es) name serial entry there is =
           (held_among es name serial entry later is)
     ] there
 
-without_weighs : (w : Weight) (state : State) (space : ℕ) (names : Names) → finmap.get state.spaces space ≡ Some names
+without_weighs : (w : Weight) (state : Ipc) (space : ℕ) (names : Names) → finmap.get state.spaces space ≡ Some names
     → state_weigh w (record state { spaces = finmap.remove state.spaces space }) + names_weigh w names
     ≡ state_weigh w state
 unfolding state_weigh
@@ -59,13 +59,13 @@ without_weighs w state space names there =
     (total-remove (λ s n. names_weigh w n) state.spaces space) in
     omega (arith, taken)
 
-space_still : (state : State) (space other : ℕ) (names : Names)
+space_still : (state : Ipc) (space other : ℕ) (names : Names)
     → finmap.get (finmap.remove state.spaces space) other ≡ Some names → finmap.get state.spaces other ≡ Some names
 space_still state space other names at =
     sym (get-left state.spaces space other (left_apart state.spaces space other names at)) ∙ at
 
 -- members in other spaces stay in the spaces of their sets
-alongside_left : (state : State) (space : ℕ) (names : Names) (serial set : ℕ)
+alongside_left : (state : Ipc) (space : ℕ) (names : Names) (serial set : ℕ)
     → finmap.get state.spaces space ≡ Some names
     → ((name : ℕ) (entry : Entry) → finmap.get names name ≡ Some entry → received_port entry ≡ Some serial → ⊥)
     → IsHeldAlongsideSet state serial set
@@ -91,7 +91,7 @@ alongside_left state space names serial set there none_in
     ]
 
 -- the space goes, and its names' rights are in hand
-space_gone_mid : (state : State) (space : ℕ) (names : Names) → (space == 1) ≡ false
+space_gone_mid : (state : Ipc) (space : ℕ) (names : Names) → (space == 1) ≡ false
     → finmap.get state.spaces space ≡ Some names → MidCall state empty_hand
     → ((serial set : ℕ) (port : PortState) → finmap.get state.ports serial ≡ Some port → port.set ≡ Some set
     → (name : ℕ) (entry : Entry) → finmap.get names name ≡ Some entry → received_port entry ≡ Some serial → ⊥)
@@ -137,14 +137,14 @@ all_weigh q names =
     (λ (e : ℕ × Entry). entry_weigh (receive_of q) e.1)
     (λ (e : ℕ × Entry). name_weighs q e.0 e.1) (finmap.entries names)
 
-pub space_destroy_kept : (old : State) (space : ℕ) (names : Names) (answer : Reply) (new : State)
+pub space_destroy_kept : (old : Ipc) (space : ℕ) (names : Names) (answer : PlainReply) (new : Ipc)
     (effects : List Effect) → LawfulAtRest old → Acyclic old → finmap.get old.spaces space ≡ Some names
     → first_failing (tests_of old space names call.SpaceDestroy) ≡ None
     → Done old space names call.SpaceDestroy answer new effects → Kept new effects
 unfolding Done tests_of
 space_destroy_kept old space names answer new effects lawful acyclic there passes done =
     let not_first : (space == 1) ≡ false = (first_passes (space == 1, Failure) [] passes).0 in
-    let outside : State = actions.with_ports old (actions.received_serials names) taken_out in
+    let outside : Ipc = actions.with_ports old (actions.received_serials names) taken_out in
     let kept = all_out_kept old (actions.received_serials names) lawful acyclic in
     let spaces : outside.spaces ≡ old.spaces = all_out_spaces old (actions.received_serials names) in
     let there_still : finmap.get outside.spaces space ≡ Some names =
@@ -158,7 +158,7 @@ space_destroy_kept old space names answer new effects lawful acyclic there passe
     let as_said : MidCall (record outside { spaces = finmap.remove old.spaces space }) (λ w. names_weigh w names) =
     subst (λ (s : finmap.FinMap nat_cmp Names). MidCall (record outside { spaces = finmap.remove s space })
     (λ w. names_weigh w names)) spaces gone in
-    subst (λ (s : State). Kept s effects) (sym done.1)
+    subst (λ (s : Ipc). Kept s effects) (sym done.1)
     (subst (λ (l : List Effect). Kept (record outside { spaces = finmap.remove old.spaces space }) l) (sym done.2)
     (kept_of_mid _ (λ w. names_weigh w names) later as_said
     (waiting-flat_map (λ (e : ℕ × Entry). actions.effects_of_name e.0 e.1) (finmap.entries names)

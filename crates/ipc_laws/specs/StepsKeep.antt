@@ -1,20 +1,19 @@
 -- The calls whose steps are shown to leave lawful and acyclic states.
 use Rattle.std.specs.Prelude.{◌^◌, not, ◌≡◌, ◌⊎◌, ℕ, zero, suc, ◌-◌, ◌<◌, Bool, true, false, ◌&&◌, ◌||◌, ◌==◌, List, [], ◌∷◌, Option, None, Some, is_some, if◌then◌else◌, refl}
-use Rattle.std.proofs.Common.{◌∙◌, sym, subst, inl, inr, arith}
+use Rattle.std.proofs.Common.{sym, subst, inl, inr, arith}
 use Rattle.std.specs.FinMap as finmap
 use Rattle.codes.specs.declared.kern_return.KernReturn.{KernReturn}
 use Rattle.codes.specs.declared.kern_return.KernReturn.TheVariants.{InvalidName, InvalidRight, InvalidValue, NoSpace, NameExists, ResourceShortage}
 use Rattle.codes.specs.declared.right.Right.TheVariants as right
-use Rattle.ipc_model.specs.declared.call.Call.{Call}
-use Rattle.ipc_model.specs.declared.call.Call.TheVariants as call
-use Rattle.ipc_model.specs.declared.call.Reply.{Reply}
+use Rattle.ipc_model.specs.declared.plain_call.PlainCall.{PlainCall}
+use Rattle.ipc_model.specs.declared.plain_call.PlainCall.TheVariants as call
+use Rattle.ipc_model.specs.declared.plain_reply.PlainReply.{PlainReply}
 use Rattle.ipc_model.specs.declared.entry.Entry.{Entry}
 use Rattle.ipc_model.specs.declared.entry.Entry.TheVariants.{Port, SendOnce, Set, Dead}
 use Rattle.ipc_model.specs.declared.entry.PortRights.{PortRights}
 use Rattle.ipc_model.specs.calls.Actions as actions
 use Rattle.ipc_model.specs.calls.Actions.{ActsOn, Done}
 use Rattle.ipc_laws.specs.AllocateKeep.{allocated_kept, chosen_unused}
-use Rattle.ipc_model.specs.declared.record.Record.{Record}
 use Rattle.ipc_laws.specs.CallsKeep.{Kept, kept_as, first_passes, simple_kept}
 use Rattle.ipc_model.specs.state.Circular.{Acyclic}
 use Rattle.ipc_laws.specs.EffectRanks.{settled_is_lawful}
@@ -32,11 +31,11 @@ use Rattle.ipc_laws.specs.SentKeep.{send_kept}
 use Rattle.ipc_laws.specs.SpacesKeep.{space_destroy_kept}
 use Rattle.ipc_laws.specs.ReferencesKeep.{send_left_kept, dead_left_kept, gone_kept, changed_space}
 use Rattle.ipc_laws.specs.SetsKeep.{destroyed_kept}
-use Rattle.ipc_model.specs.state.State.{State, Names, is_null_or_dead, ports_are_used_up}
-use Rattle.ipc_model.specs.calls.Step.{Step, Run, ActsIn, ActsFrom}
-use Rattle.ipc_laws.specs.StepLaws.{Called, one_new_state}
+use Rattle.ipc_model.specs.state.Ipc.{Ipc, Names, is_null_or_dead, ports_are_used_up}
+use Rattle.ipc_model.specs.calls.PlainStep.{PlainStep, ActsIn, ActsFrom}
+use Rattle.ipc_laws.specs.StepLaws.{Called}
 use Rattle.ipc_model.specs.calls.Tests.{Tests, first_failing}
-use Rattle.ipc_model.specs.encodings.Encodings.{FitsCall}
+use Rattle.ipc_model.specs.encodings.PlainCalls.{FitsCall}
 
 -- mach_port_deallocate
 
@@ -52,7 +51,7 @@ has_references : (rights : PortRights) → LawfulEntry (Port rights)
     → (false || (has_receive (Port rights) && rights.send == 0)) ≡ false → (rights.send == 0) ≡ false
 has_references rights lawful passes = some_left rights.receive rights.port rights.send lawful.0 passes
 
-deallocated_kept : (old : State) (space name : ℕ) (names : Names) (entry : Entry) → LawfulAtRest old → Acyclic old
+deallocated_kept : (old : Ipc) (space name : ℕ) (names : Names) (entry : Entry) → LawfulAtRest old → Acyclic old
     → finmap.get old.spaces space ≡ Some names → finmap.get names name ≡ Some entry
     → (is_set entry || (has_receive entry && send_references entry == 0)) ≡ false
     → Kept (actions.deallocated old space names name entry).state
@@ -62,7 +61,7 @@ deallocated_kept old space name names (Port rights) lawful acyclic there at pass
     send_left_kept old space name names rights (rights.send - 1) 7 lawful acyclic there at
     (has_references rights own passes) (omega (arith, own.1))
 deallocated_kept old space name names (SendOnce port target) lawful acyclic there at passes =
-    subst (λ (s : State). Kept s (actions.effects_of_name name (SendOnce port target)))
+    subst (λ (s : Ipc). Kept s (actions.effects_of_name name (SendOnce port target)))
     (sym (changed_space old space names (λ (n : Names). finmap.remove n name) there))
     (gone_kept old space name names (SendOnce port target) lawful acyclic there at tt)
 deallocated_kept old space name names Set lawful acyclic there at passes = absurd (cc passes)
@@ -70,7 +69,7 @@ deallocated_kept old space name names (Dead references) lawful acyclic there at 
     let own = ((lawful.spaces space names there).2.named name (Dead references) at).2 in
     dead_left_kept old space name names references (references - 1) 7 lawful acyclic there at (omega (arith, own.1))
 
-deallocate_kept : (old : State) (space name : ℕ) (names : Names) (answer : Reply) (new : State) (effects : List Effect)
+deallocate_kept : (old : Ipc) (space name : ℕ) (names : Names) (answer : PlainReply) (new : Ipc) (effects : List Effect)
     → LawfulAtRest old → Acyclic old → finmap.get old.spaces space ≡ Some names
     → first_failing (tests_of old space names (call.Deallocate name)) ≡ None
     → Done old space names (call.Deallocate name) answer new effects → Kept new effects
@@ -86,18 +85,18 @@ deallocate_kept old space name names answer new effects lawful acyclic there pas
     → ActsOn o (actions.deallocated old space names name) answer new effects → Kept new effects) [
       | None ↦ λ (_ : _) (_ : _) (acts : _). absurd acts
       | Some entry ↦ λ (at : _) (allowed : _) (acts : _).
-          subst (λ (s : State). Kept s effects) (sym acts.1)
+          subst (λ (s : Ipc). Kept s effects) (sym acts.1)
           (subst (λ (l : List Effect). Kept (actions.deallocated old space names name entry).state l) (sym acts.2)
           (deallocated_kept old space name names entry lawful acyclic there at allowed))
     ] refl free done
 
 -- mach_port_allocate and mach_port_allocate_name
 
-given_as : (state new : State) (effects : List Effect) → Kept state [] → new ≡ state → effects ≡ [] → Kept new effects
+given_as : (state new : Ipc) (effects : List Effect) → Kept state [] → new ≡ state → effects ≡ [] → Kept new effects
 given_as state new effects kept same none =
-    subst (λ (s : State). Kept s effects) (sym same) (subst (λ (l : List Effect). Kept state l) (sym none) kept)
+    subst (λ (s : Ipc). Kept s effects) (sym same) (subst (λ (l : List Effect). Kept state l) (sym none) kept)
 
-allocate_kept : (old : State) (space which : ℕ) (names : Names) (answer : Reply) (new : State) (effects : List Effect)
+allocate_kept : (old : Ipc) (space which : ℕ) (names : Names) (answer : PlainReply) (new : Ipc) (effects : List Effect)
     → LawfulAtRest old → Acyclic old → finmap.get old.spaces space ≡ Some names
     → first_failing (tests_of old space names (call.Allocate which)) ≡ None
     → Done old space names (call.Allocate which) answer new effects → Kept new effects
@@ -115,7 +114,7 @@ allocate_kept old space which names answer new effects lawful acyclic there pass
     given_as (actions.allocated old space names which done.0) new effects
     (allocated_kept old space names which done.0 lawful acyclic there done.1 room.0 ports.0) done.3 done.4
 
-allocate_name_kept : (old : State) (space which name : ℕ) (names : Names) (answer : Reply) (new : State)
+allocate_name_kept : (old : Ipc) (space which name : ℕ) (names : Names) (answer : PlainReply) (new : Ipc)
     (effects : List Effect) → name < 2 ^ 32 → LawfulAtRest old → Acyclic old → finmap.get old.spaces space ≡ Some names
     → first_failing (tests_of old space names (call.AllocateName which name)) ≡ None
     → Done old space names (call.AllocateName which name) answer new effects → Kept new effects
@@ -138,7 +137,7 @@ allocate_name_kept old space which name names answer new effects fits lawful acy
 
 -- mach_port_destroy
 
-destroy_kept : (old : State) (space name : ℕ) (names : Names) (answer : Reply) (new : State) (effects : List Effect)
+destroy_kept : (old : Ipc) (space name : ℕ) (names : Names) (answer : PlainReply) (new : Ipc) (effects : List Effect)
     → LawfulAtRest old → Acyclic old → finmap.get old.spaces space ≡ Some names
     → Done old space names (call.Destroy name) answer new effects → Kept new effects
 unfolding Done
@@ -147,7 +146,7 @@ destroy_kept old space name names answer new effects lawful acyclic there done =
     → ActsOn o (actions.destroyed old space names name) answer new effects → Kept new effects) [
       | None ↦ λ (_ : _) (acts : _). absurd acts
       | Some entry ↦ λ (at : _) (acts : _).
-          subst (λ (s : State). Kept s effects) (sym acts.1)
+          subst (λ (s : Ipc). Kept s effects) (sym acts.1)
           (subst (λ (l : List Effect). Kept (actions.destroyed old space names name entry).state l) (sym acts.2)
           (destroyed_kept old space name names entry lawful acyclic there at))
     ] refl done
@@ -158,7 +157,7 @@ abbrev references_in : ℕ → Option Entry → ℕ
 references_in which None = 0
 references_in which (Some entry) = references_of which entry
 
-modify_kept : (old : State) (space name which delta : ℕ) (names : Names) (answer : Reply) (new : State)
+modify_kept : (old : Ipc) (space name which delta : ℕ) (names : Names) (answer : PlainReply) (new : Ipc)
     (effects : List Effect) → LawfulAtRest old → Acyclic old → finmap.get old.spaces space ≡ Some names
     → first_failing (tests_of old space names (call.ModRefs name which delta)) ≡ None
     → Done old space names (call.ModRefs name which delta) answer new effects → Kept new effects
@@ -180,14 +179,14 @@ modify_kept old space name which delta names answer new effects lawful acyclic t
           first_passes (is_no_name names name, InvalidName)
           ((references_of which entry == 0, InvalidRight) ∷ last) known.1 in
           let some = first_passes (references_of which entry == 0, InvalidRight) last named.1 in
-          subst (λ (s : State). Kept s effects) (sym acts.1)
+          subst (λ (s : Ipc). Kept s effects) (sym acts.1)
           (subst (λ (l : List Effect). Kept (actions.modified old space names name entry which delta).state l)
           (sym acts.2)
           (modified_kept old space name names entry which delta lawful acyclic there at known.0 some.0 some.1))
     ] refl passes done
 
 -- every call that passes its tests
-done_kept : (old : State) (space : ℕ) (names : Names) (c : Call) (answer : Reply) (new : State) (effects : List Effect)
+done_kept : (old : Ipc) (space : ℕ) (names : Names) (c : PlainCall) (answer : PlainReply) (new : Ipc) (effects : List Effect)
     → FitsCall c → LawfulAtRest old → Acyclic old → finmap.get old.spaces space ≡ Some names
     → first_failing (tests_of old space names c) ≡ None → Done old space names c answer new effects → Kept new effects
 unfolding Done
@@ -244,8 +243,8 @@ done_kept old space names (call.MoveMember member after) answer new effects fits
     simple_kept old space names (call.MoveMember member after) answer new effects refl fits lawful acyclic there passes
     done
 
-called_kept : (refusal : Option KernReturn) (old : State) (space : ℕ) (names : Names) (c : Call) (answer : Reply)
-    (new : State) (effects : List Effect) → refusal ≡ first_failing (tests_of old space names c) → FitsCall c
+called_kept : (refusal : Option KernReturn) (old : Ipc) (space : ℕ) (names : Names) (c : PlainCall) (answer : PlainReply)
+    (new : Ipc) (effects : List Effect) → refusal ≡ first_failing (tests_of old space names c) → FitsCall c
     → LawfulAtRest old → Acyclic old → finmap.get old.spaces space ≡ Some names
     → Called refusal old space names c answer new effects → Kept new effects
 called_kept None old space names c answer new effects is fits lawful acyclic there called =
@@ -253,7 +252,7 @@ called_kept None old space names c answer new effects is fits lawful acyclic the
 called_kept (Some code) old space names c answer new effects is fits lawful acyclic there called =
     kept_as old new effects lawful acyclic called.1 called.2
 
-acts_kept : (old : State) (space : ℕ) (names : Names) (c : Call) (answer : Reply) (new : State) (effects : List Effect)
+acts_kept : (old : Ipc) (space : ℕ) (names : Names) (c : PlainCall) (answer : PlainReply) (new : Ipc) (effects : List Effect)
     → FitsCall c → LawfulAtRest old → Acyclic old → finmap.get old.spaces space ≡ Some names
     → ActsIn old space names c answer new effects → Kept new effects
 acts_kept old space names (call.Send message) answer new effects fits lawful acyclic there acts =
@@ -265,7 +264,7 @@ acts_kept old space names c answer new effects fits lawful acyclic there acts =
     called_kept (first_failing (tests_of old space names c)) old space names c answer new effects refl fits lawful
     acyclic there acts
 
-from_kept : (old : State) (space : ℕ) (o : Option Names) (c : Call) (answer : Reply) (new : State)
+from_kept : (old : Ipc) (space : ℕ) (o : Option Names) (c : PlainCall) (answer : PlainReply) (new : Ipc)
     (effects : List Effect) → finmap.get old.spaces space ≡ o → FitsCall c → LawfulAtRest old → Acyclic old
     → ActsFrom old space o c answer new effects → Kept new effects
 from_kept old space None c answer new effects there fits lawful acyclic acts =
@@ -273,45 +272,16 @@ from_kept old space None c answer new effects there fits lawful acyclic acts =
 from_kept old space (Some names) c answer new effects there fits lawful acyclic acts =
     acts_kept old space names c answer new effects fits lawful acyclic there acts
 
--- Every step keeps a state lawful and acyclic, if the call's arguments are in range.
-abbrev pub StepsKeepLawful : Type 0
-StepsKeepLawful =
-    (old : State) (space : ℕ) (c : Call) (answer : Reply) (new : State) → FitsCall c → Lawful old → Acyclic old
-    → Step old space c answer new → Lawful new × Acyclic new
+-- Every plain step keeps a state lawful and acyclic, if the call's arguments are in range.
+abbrev pub PlainStepsKeepLawful : Type 0
+PlainStepsKeepLawful =
+    (old : Ipc) (space : ℕ) (c : PlainCall) (answer : PlainReply) (new : Ipc) → FitsCall c → Lawful old → Acyclic old
+    → PlainStep old space c answer new → Lawful new × Acyclic new
 
-pub steps_keep_lawful : StepsKeepLawful
-unfolding Step
-steps_keep_lawful old space c answer new fits lawful acyclic step =
+pub plain_steps_keep_lawful : PlainStepsKeepLawful
+unfolding PlainStep
+plain_steps_keep_lawful old space c answer new fits lawful acyclic step =
     let acted =
     from_kept old space (finmap.get old.spaces space) c answer step.0 step.1 refl fits
     (at_rest old lawful) acyclic step.2 in
     settled_is_lawful step.0 step.1 new acted.lawful acted.acyclic step.3
-
--- So every run of records from a lawful and acyclic state ends in one.
-abbrev pub FitCalls : List Record → Type 0
-FitCalls [] = Unit {0}
-FitCalls (first ∷ records) = FitsCall first.call × FitCalls records
-
-abbrev pub RunsKeepLawful : Type 0
-RunsKeepLawful =
-    (old : State) (records : List Record) (new : State) → FitCalls records → Lawful old → Acyclic old
-    → Run old records new → Lawful new × Acyclic new
-
-pub runs_keep_lawful : RunsKeepLawful
-runs_keep_lawful old [] new fits lawful acyclic run = (subst Lawful (sym run) lawful, subst Acyclic (sym run) acyclic)
-runs_keep_lawful old (first ∷ records) new fits lawful acyclic (mid, step, rest) =
-    let kept = steps_keep_lawful old first.space first.call first.reply mid fits.0 lawful acyclic step in
-    runs_keep_lawful mid records new fits.1 kept.0 kept.1 rest
-
--- and in only one state: the records determine what recovery reaches when it replays them.
-abbrev pub OneRun : Type 0
-OneRun =
-    (old : State) (records : List Record) (one other : State) → FitCalls records → Lawful old → Acyclic old
-    → Run old records one → Run old records other → one ≡ other
-
-pub one_run : OneRun
-one_run old [] one other fits lawful acyclic here there = here ∙ sym there
-one_run old (first ∷ records) one other fits lawful acyclic (mid, step, rest) (middle, step_too, rest_too) =
-    let same : middle ≡ mid = one_new_state old first.space first.call first.reply middle mid lawful step_too step in
-    let kept = steps_keep_lawful old first.space first.call first.reply mid fits.0 lawful acyclic step in
-    one_run mid records one other fits.1 kept.0 kept.1 rest (subst (λ (s : State). Run s records other) same rest_too)

@@ -5,7 +5,9 @@ use Rattle.std.proofs.lemmas.List.{append-nil}
 use Rattle.codes.specs.StoreVersion.{current}
 use Rattle.codes.specs.declared.store_version.StoreVersion.{StoreVersion}
 use Rattle.ipc_model.specs.declared.call.Call.{Call}
-use Rattle.ipc_model.specs.declared.call.Call.TheVariants.{SetQlimit}
+use Rattle.ipc_model.specs.declared.call.Call.TheVariants.{Plain, Numbered, Unnumberable}
+use Rattle.ipc_model.specs.declared.plain_call.PlainCall.{PlainCall}
+use Rattle.ipc_model.specs.declared.plain_call.PlainCall.TheVariants.{SetQlimit}
 use Rattle.ipc_model.specs.declared.record.Record.{Record}
 use Rattle.ipc_model.specs.store.Store.{open_gate, batch_encoding, batches_encoding, all_records, IsClosed, NoneEmpty, AreRecords, AreWithin, IsWithin, EncodesBatches, EncodesSegment, IsInUseOf}
 
@@ -70,8 +72,13 @@ within-join version [] more are are_too = are_too
 within-join version (first ∷ records) more are are_too = (are.0, within-join version records more are.1 are_too)
 
 pub within_current : (c : Call) → IsWithin current c
-within_current (SetQlimit name limit) = tt
-within_current c = tt
+within_current (Plain c) = plain_within c
+  where
+    plain_within : (c : PlainCall) → IsWithin current (Plain c)
+    plain_within (SetQlimit name limit) = tt
+    plain_within c = tt
+within_current (Numbered numbered) = tt
+within_current Unnumberable = tt
 
 pub all_within : (records : List Record) → AreWithin current records
 all_within [] = tt

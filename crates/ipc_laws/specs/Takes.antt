@@ -30,7 +30,7 @@ use Rattle.ipc_laws.specs.MapSums.{weigh, weigh-append}
 use Rattle.ipc_laws.specs.NameChanges.{remove_lawful}
 use Rattle.ipc_laws.specs.Others.{with_port_spaces}
 use Rattle.ipc_laws.specs.ReferencesKeep.{left_of, left_state, left_receive, left_waits, deleted_receive, deleted_waits, no_target, left_weighs, port_weighs, fewer_weigh, left_lawful, dead_weighs, dead_lawful, not_set, not_empty, changed_space}
-use Rattle.ipc_model.specs.state.State.{State, Names, with_names, with_port, without_name, lives, next_count, entry_at, is_empty_entry}
+use Rattle.ipc_model.specs.state.Ipc.{Ipc, Names, with_names, with_port, without_name, lives, next_count, entry_at, is_empty_entry}
 use Rattle.ipc_laws.specs.Weights.{Weight, entry_weigh, carried_weigh, effect_weigh, receive_of, any_of}
 
 -- effects that hold no receive right, and wait
@@ -67,7 +67,7 @@ pub record MidTaken (space : ℕ) (hand : Hand) (taken : Taken) : Type 0 where
   pub there : finmap.get taken.state.spaces space ≡ Some names
 
 -- a right that an entry holds names a live port
-pub weighs_live : (state : State) (hand : Hand) (space name serial : ℕ) (names : Names) (entry : Entry)
+pub weighs_live : (state : Ipc) (hand : Hand) (space name serial : ℕ) (names : Names) (entry : Entry)
     → MidCall state hand → finmap.get state.spaces space ≡ Some names → finmap.get names name ≡ Some entry
     → 1 ≤ entry_weigh (any_of serial) entry → lives state serial ≡ true
 weighs_live state hand space name serial names entry mid there at weighs =
@@ -85,7 +85,7 @@ weighs_live state hand space name serial names entry mid there at weighs =
 pub own_weight : (q : ℕ) (what : RightKind) → any_of q what q ≡ 1
 own_weight q what = ap {B = ℕ} (λ (b : Bool). cond b 1 0) (eq-eqb q q refl)
 
-pub port_live : (state : State) (hand : Hand) (space name : ℕ) (names : Names) (rights : PortRights)
+pub port_live : (state : Ipc) (hand : Hand) (space name : ℕ) (names : Names) (rights : PortRights)
     → MidCall state hand → finmap.get state.spaces space ≡ Some names → finmap.get names name ≡ Some (Port rights)
     → lives state rights.port ≡ true
 port_live state hand space name names rights mid there at =
@@ -93,7 +93,7 @@ port_live state hand space name names rights mid there at =
     (held_weighs rights.port (Port rights)
     ((mid.parts.spaces space names there).2.named name (Port rights) at).2 refl)
 
-once_live : (state : State) (hand : Hand) (space name port : ℕ) (target : Option ℕ) (names : Names) → MidCall state hand
+once_live : (state : Ipc) (hand : Hand) (space name port : ℕ) (target : Option ℕ) (names : Names) → MidCall state hand
     → finmap.get state.spaces space ≡ Some names → finmap.get names name ≡ Some (SendOnce port target)
     → lives state port ≡ true
 once_live state hand space name port target names mid there at =
@@ -101,12 +101,12 @@ once_live state hand space name port target names mid there at =
     (omega (arith, own_weight port kind.SendOnce))
 
 -- a right to a live port weighs nothing for a dead one
-pub live_zero : (state : State) (serial q : ℕ) (what : RightKind) → lives state serial ≡ true → lives state q ≡ false
+pub live_zero : (state : Ipc) (serial q : ℕ) (what : RightKind) → lives state serial ≡ true → lives state q ≡ false
     → any_of q what serial ≡ 0
 live_zero state serial q what live dead = apart_zero q serial what (live_apart state serial q live dead)
 
 -- a name that is left with an entry, or goes
-leaving_taken : (state : State) (space name : ℕ) (names : Names) (hand : Hand) (right : CarriedRight) (entry : Entry)
+leaving_taken : (state : Ipc) (space name : ℕ) (names : Names) (hand : Hand) (right : CarriedRight) (entry : Entry)
     → finmap.get state.spaces space ≡ Some names
     → MidCall (with_names state space (changed names name (left_of entry))) (with_right hand right)
     → MidTaken space hand (taken_leaving state space name right entry)
@@ -114,15 +114,15 @@ leaving_taken state space name names hand right entry there mid =
     let same : with_left state space name entry ≡ with_names state space (changed names name (left_of entry)) =
     left_state state space name names entry there in
     record {
-      mid = subst (λ (s : State). MidCall s (with_right hand right)) (sym same) mid;
+      mid = subst (λ (s : Ipc). MidCall s (with_right hand right)) (sym same) mid;
       quiet = quiet_left name entry;
       names = changed names name (left_of entry);
       there =
-          ap (λ (s : State). finmap.get s.spaces space) same
+          ap (λ (s : Ipc). finmap.get s.spaces space) same
           ∙ get-here state.spaces space (changed names name (left_of entry));
     }
 
-keeping_taken : (state : State) (space : ℕ) (names : Names) (hand : Hand) (right : CarriedRight)
+keeping_taken : (state : Ipc) (space : ℕ) (names : Names) (hand : Hand) (right : CarriedRight)
     → finmap.get state.spaces space ≡ Some names → MidCall state (with_right hand right)
     → MidTaken space hand (taken_keeping state right)
 keeping_taken state space names hand right there mid =
@@ -135,7 +135,7 @@ left_less w entry =
     [ true ↦ omega arith | false ↦ omega arith ]
 
 -- a copied or made right: one more right in hand, to a live port
-more_in_hand : (state : State) (hand : Hand) (what : RightKind) (serial : ℕ) → ((q : ℕ) → receive_of q what serial ≡ 0)
+more_in_hand : (state : Ipc) (hand : Hand) (what : RightKind) (serial : ℕ) → ((q : ℕ) → receive_of q what serial ≡ 0)
     → lives state serial ≡ true → MidCall state hand
     → MidCall state (with_right hand (record { kind = what; port = Live serial }))
 more_in_hand state hand what serial none live mid =
@@ -148,7 +148,7 @@ more_in_hand state hand what serial none live mid =
 abbrev moved : PortState → PortState
 moved p = record p { set = None; sequence_number = 0; make_send_count = 0 }
 
-moved_mid : (state : State) (serial : ℕ) (hand : Hand) → lives state serial ≡ true → MidCall state hand
+moved_mid : (state : Ipc) (serial : ℕ) (hand : Hand) → lives state serial ≡ true → MidCall state hand
     → MidCall (moved_port state serial) hand
 moved_mid state serial hand live mid =
     let at = lives_some state serial live in
@@ -172,24 +172,24 @@ moved_mid state serial hand live mid =
     }) mid
 
 -- a moved port is in no set
-moved_out_of_set : (state : State) (serial set : ℕ) (port : PortState) → lives state serial ≡ true
+moved_out_of_set : (state : Ipc) (serial set : ℕ) (port : PortState) → lives state serial ≡ true
     → finmap.get (moved_port state serial).ports serial ≡ Some port → port.set ≡ Some set → ⊥
 moved_out_of_set state serial set port live at is =
     let before = lives_some state serial live in
     let same : moved before.0 ≡ port =
     some_same (moved before.0) port
     (sym (get-here state.ports serial (moved before.0)) ∙ ap
-    (λ (s : State). finmap.get s.ports serial) (sym (with_port_there state serial moved before.0 before.1))
+    (λ (s : Ipc). finmap.get s.ports serial) (sym (with_port_there state serial moved before.0 before.1))
     ∙ at) in
     cc (ap (λ (p : PortState). p.set) same ∙ is)
 
-take_receive : (state : State) (hand : Hand) (space name : ℕ) (names : Names) (rights : PortRights) → MidCall state hand
+take_receive : (state : Ipc) (hand : Hand) (space name : ℕ) (names : Names) (rights : PortRights) → MidCall state hand
     → finmap.get state.spaces space ≡ Some names → finmap.get names name ≡ Some (Port rights) → rights.receive ≡ true
     → MidTaken space hand (taken_leaving (moved_port state rights.port) space name
     (record { kind = kind.Receive; port = Live rights.port }) (Port (record rights { receive = false })))
 take_receive state hand space name names rights mid there at holds =
     let live : lives state rights.port ≡ true = port_live state hand space name names rights mid there at in
-    let out : State = moved_port state rights.port in
+    let out : Ipc = moved_port state rights.port in
     let there_out : finmap.get out.spaces space ≡ Some names =
     ap (λ (s : finmap.FinMap _ Names). finmap.get s space) (with_port_spaces state rights.port moved) ∙ there in
     let entry : Entry = Port (record rights { receive = false }) in
@@ -229,7 +229,7 @@ still_received : (port send left serial : ℕ) (receive : Bool) (target : Option
 still_received port send left serial true target is = is
 still_received port send left serial false target is = absurd (cc is)
 
-take_send : (state : State) (hand : Hand) (space name : ℕ) (names : Names) (rights : PortRights) → MidCall state hand
+take_send : (state : Ipc) (hand : Hand) (space name : ℕ) (names : Names) (rights : PortRights) → MidCall state hand
     → finmap.get state.spaces space ≡ Some names → finmap.get names name ≡ Some (Port rights)
     → (rights.send == 0) ≡ false
     → MidTaken space hand (taken_leaving state space name (record { kind = kind.Send; port = Live rights.port })
@@ -265,7 +265,7 @@ take_send state hand space name names rights mid there at some =
       set = λ (e : _). absurd (not_set rights e);
     }) mid)
 
-take_copy : (state : State) (hand : Hand) (space name : ℕ) (names : Names) (rights : PortRights) → MidCall state hand
+take_copy : (state : Ipc) (hand : Hand) (space name : ℕ) (names : Names) (rights : PortRights) → MidCall state hand
     → finmap.get state.spaces space ≡ Some names → finmap.get names name ≡ Some (Port rights)
     → MidTaken space hand (taken_keeping state (record { kind = kind.Send; port = Live rights.port }))
 take_copy state hand space name names rights mid there at =
@@ -273,7 +273,7 @@ take_copy state hand space name names rights mid there at =
     (more_in_hand state hand kind.Send rights.port
     (λ (q : ℕ). refl) (port_live state hand space name names rights mid there at) mid)
 
-take_make_once : (state : State) (hand : Hand) (space name : ℕ) (names : Names) (rights : PortRights)
+take_make_once : (state : Ipc) (hand : Hand) (space name : ℕ) (names : Names) (rights : PortRights)
     → MidCall state hand → finmap.get state.spaces space ≡ Some names → finmap.get names name ≡ Some (Port rights)
     → MidTaken space hand (taken_keeping state (record { kind = kind.SendOnce; port = Live rights.port }))
 take_make_once state hand space name names rights mid there at =
@@ -290,7 +290,7 @@ next_fits n fits = elim (n == 2 ^ 32 - 1) as (λ (b : Bool). (n == 2 ^ 32 - 1) �
   | false ↦ λ (e : _). omega (arith, eqb-false n (2 ^ 32 - 1) e)
 ] refl
 
-counted_mid : (state : State) (serial : ℕ) (hand : Hand) → lives state serial ≡ true → MidCall state hand
+counted_mid : (state : Ipc) (serial : ℕ) (hand : Hand) → lives state serial ≡ true → MidCall state hand
     → MidCall (with_port state serial counted) hand
 counted_mid state serial hand live mid =
     let at = lives_some state serial live in
@@ -313,13 +313,13 @@ counted_mid state serial hand live mid =
           (changed_edges state serial counted (λ (inner : ℕ) (p : PortState) (e : _). e)) mid.acyclic;
     }) mid
 
-take_make : (state : State) (hand : Hand) (space name : ℕ) (names : Names) (rights : PortRights) → MidCall state hand
+take_make : (state : Ipc) (hand : Hand) (space name : ℕ) (names : Names) (rights : PortRights) → MidCall state hand
     → finmap.get state.spaces space ≡ Some names → finmap.get names name ≡ Some (Port rights)
     → MidTaken space hand (taken_keeping (with_port state rights.port counted)
     (record { kind = kind.Send; port = Live rights.port }))
 take_make state hand space name names rights mid there at =
     let live : lives state rights.port ≡ true = port_live state hand space name names rights mid there at in
-    let made : State = with_port state rights.port counted in
+    let made : Ipc = with_port state rights.port counted in
     let there_made : finmap.get made.spaces space ≡ Some names =
     ap (λ (s : finmap.FinMap _ Names). finmap.get s space) (with_port_spaces state rights.port counted) ∙ there in
     let after : MidCall made hand = counted_mid state rights.port hand live mid in
@@ -327,7 +327,7 @@ take_make state hand space name names rights mid there at =
     (more_in_hand made hand kind.Send rights.port
     (λ (q : ℕ). refl) (port_live made hand space name names rights after there_made at) after)
 
-take_once : (state : State) (hand : Hand) (space name port : ℕ) (target : Option ℕ) (names : Names) → MidCall state hand
+take_once : (state : Ipc) (hand : Hand) (space name port : ℕ) (target : Option ℕ) (names : Names) → MidCall state hand
     → finmap.get state.spaces space ≡ Some names → finmap.get names name ≡ Some (SendOnce port target)
     → MidTaken space hand (record {
       right = record { kind = kind.SendOnce; port = Live port };
@@ -350,15 +350,15 @@ take_once state hand space name port target names mid there at =
       set = λ (e : _). absurd (cc e);
     }) mid in
     record {
-      mid = subst (λ (s : State). MidCall s (with_right hand right)) (sym same) after;
+      mid = subst (λ (s : Ipc). MidCall s (with_right hand right)) (sym same) after;
       quiet = quiet_deleted name target;
       names = finmap.remove names name;
       there =
-          ap (λ (s : State). finmap.get s.spaces space) same ∙ get-here state.spaces space (finmap.remove names name);
+          ap (λ (s : Ipc). finmap.get s.spaces space) same ∙ get-here state.spaces space (finmap.remove names name);
     }
 
 -- a dead name arrives as MACH_PORT_DEAD, which weighs nothing
-take_dead : (state : State) (hand : Hand) (space name references : ℕ) (what : RightKind) (names : Names)
+take_dead : (state : Ipc) (hand : Hand) (space name references : ℕ) (what : RightKind) (names : Names)
     → MidCall state hand → finmap.get state.spaces space ≡ Some names → finmap.get names name ≡ Some (Dead references)
     → MidTaken space hand (taken_leaving state space name (record { kind = what; port = in_message.Dead })
     (Dead (references - 1)))
@@ -378,7 +378,7 @@ take_dead state hand space name references what names mid there at =
       set = λ (e : _). absurd (cc e);
     }) mid)
 
-nothing_in_hand : (state : State) (hand : Hand) (what : RightKind) → MidCall state hand
+nothing_in_hand : (state : Ipc) (hand : Hand) (what : RightKind) → MidCall state hand
     → MidCall state (with_right hand (record { kind = what; port = in_message.Dead }))
 nothing_in_hand state hand what mid =
     mid_hand state hand (with_right hand (record { kind = what; port = in_message.Dead })) mid (λ (q : ℕ). omega arith)
@@ -390,7 +390,7 @@ same_taken : (space : ℕ) (hand : Hand) (one taken : Taken) → Some one ≡ So
     → MidTaken space hand taken
 same_taken space hand one taken is mid = subst (MidTaken space hand) (some_same one taken is) mid
 
-pub entry_taken : (state : State) (hand : Hand) (space name : ℕ) (names : Names) (disposition : Disposition)
+pub entry_taken : (state : Ipc) (hand : Hand) (space name : ℕ) (names : Names) (disposition : Disposition)
     (entry : Entry) (taken : Taken) → MidCall state hand → finmap.get state.spaces space ≡ Some names
     → finmap.get names name ≡ Some entry
     → taken_of_entry state space name disposition entry ≡ Some taken → MidTaken space hand taken
@@ -466,7 +466,7 @@ entry_taken state hand space name names MakeSend (Dead references) taken mid the
 entry_taken state hand space name names MakeSendOnce (Dead references) taken mid there at is = absurd (cc is)
 
 -- What copy in takes comes to hand, and the rest stays lawful.
-pub taken_mid : (state : State) (hand : Hand) (space name : ℕ) (names : Names) (disposition : Disposition)
+pub taken_mid : (state : Ipc) (hand : Hand) (space name : ℕ) (names : Names) (disposition : Disposition)
     (taken : Taken) → MidCall state hand → finmap.get state.spaces space ≡ Some names
     → copy_in state space name disposition ≡ Some taken
     → MidTaken space hand taken
@@ -496,7 +496,7 @@ kind_unless : (b : Bool) (what : RightKind) (one taken : Taken) → one.right.ki
 kind_unless true what one taken is same = absurd (cc same)
 kind_unless false what one taken is same = same_kind_taken what one taken is same
 
-entry_kind : (state : State) (space name : ℕ) (disposition : Disposition) (entry : Entry) (taken : Taken)
+entry_kind : (state : Ipc) (space name : ℕ) (disposition : Disposition) (entry : Entry) (taken : Taken)
     → taken_of_entry state space name disposition entry ≡ Some taken → taken.right.kind ≡ received_kind disposition
 entry_kind state space name MoveReceive (Port rights) taken is =
     kind_if rights.receive kind.Receive
@@ -543,7 +543,7 @@ entry_kind state space name MoveReceive (Dead references) taken is = absurd (cc 
 entry_kind state space name MakeSend (Dead references) taken is = absurd (cc is)
 entry_kind state space name MakeSendOnce (Dead references) taken is = absurd (cc is)
 
-pub kind_taken : (state : State) (space name : ℕ) (disposition : Disposition) (taken : Taken)
+pub kind_taken : (state : Ipc) (space name : ℕ) (disposition : Disposition) (taken : Taken)
     → copy_in state space name disposition ≡ Some taken → taken.right.kind ≡ received_kind disposition
 unfolding copy_in
 kind_taken state space name disposition taken is =

@@ -5,7 +5,7 @@ use Rattle.std.specs.List.{list_any}
 use Rattle.codes.specs.declared.kern_return.KernReturn.{KernReturn}
 use Rattle.codes.specs.declared.kern_return.KernReturn.TheVariants.{SendInvalidDest, SendInvalidReply, SendInvalidRight, SendNoBuffer, SendInvalidHeader}
 use Rattle.codes.specs.declared.limits.TheConstants.{MAX_MESSAGE_PORTS}
-use Rattle.ipc_model.specs.declared.call.Reply.{Reply}
+use Rattle.ipc_model.specs.declared.plain_reply.PlainReply.{PlainReply}
 use Rattle.ipc_model.specs.declared.message.Message.{Message}
 use Rattle.ipc_model.specs.declared.port.PortState.{PortState}
 use Rattle.ipc_model.specs.rights.CopyIn.{Taken, copy_in}
@@ -17,7 +17,7 @@ use Rattle.ipc_laws.specs.ReceiveLaws.{Outcomes, was_large, was_lacking, was_rec
 use Rattle.ipc_model.specs.messages.Receiving.{ReceiveArguments, Receives, Received, TooLarge, without_oldest, receive_refusal}
 use Rattle.ipc_model.specs.messages.Sending as sending
 use Rattle.ipc_model.specs.messages.Sending.{TakenRights, TakenDestination, TakenHeader, TakenReply, Ready, ready_to_send, sent, take_right, take_rights, take_item, take_items, take_destination, take_reply, take_header, live_port, ready_of_taken, ready_of_header, ready_of_items}
-use Rattle.ipc_model.specs.state.State.{State, Names, is_null_or_dead, next_count}
+use Rattle.ipc_model.specs.state.Ipc.{Ipc, Names, is_null_or_dead, next_count}
 use Rattle.ipc_model.specs.calls.Tests.{Tests, and_then, or_refused, unless_failing}
 use Rattle.ipc_laws.specs.Untouched.{Confined, nothing, follow, own_names, port_change, TakenConfined, copied_in}
 
@@ -49,10 +49,10 @@ any_ok (Err code) = tt
 
 -- the rights of a body
 
-abbrev RightsConfined : State → ℕ → Option TakenRights → Type 0
+abbrev RightsConfined : Ipc → ℕ → Option TakenRights → Type 0
 RightsConfined old space taken = IfSome taken (λ (t : TakenRights). Confined old t.state space)
 
-next_taken : (old : State) (space : ℕ) (taken : TakenRights) (next : Option Taken) → Confined old taken.state space
+next_taken : (old : Ipc) (space : ℕ) (taken : TakenRights) (next : Option Taken) → Confined old taken.state space
     → TakenConfined taken.state space next
     → RightsConfined old space (option_map
     (λ (n : Taken). record {
@@ -63,7 +63,7 @@ next_taken : (old : State) (space : ℕ) (taken : TakenRights) (next : Option Ta
 next_taken old space taken None first second = tt
 next_taken old space taken (Some next) first second = follow old taken.state next.state space first second
 
-right_there : (old : State) (space name : ℕ) (disposition : Disposition) (taken : TakenRights)
+right_there : (old : Ipc) (space name : ℕ) (disposition : Disposition) (taken : TakenRights)
     → Confined old taken.state space → RightsConfined old space (take_right space name disposition taken)
 right_there old space name disposition taken first =
     elim (is_null_or_dead name) as (λ (b : Bool). RightsConfined old space
@@ -82,7 +82,7 @@ right_there old space name disposition taken first =
           (copied_in taken.state space name disposition)
     ]
 
-rights_there : (old : State) (space : ℕ) (disposition : Disposition) (names : List ℕ) (taken : TakenRights)
+rights_there : (old : Ipc) (space : ℕ) (disposition : Disposition) (names : List ℕ) (taken : TakenRights)
     → Confined old taken.state space → RightsConfined old space (take_rights space disposition names taken)
 rights_there old space disposition [] taken first = first
 rights_there old space disposition (name ∷ names) taken first =
@@ -94,13 +94,13 @@ rights_there old space disposition (name ∷ names) taken first =
       | Some next ↦ λ (here : _). rights_there old space disposition names next here
     ] (right_there old space name disposition taken first)
 
-item_there : (old : State) (space : ℕ) (item : Item) (disposition : Option Disposition) (taken : TakenRights)
+item_there : (old : Ipc) (space : ℕ) (item : Item) (disposition : Option Disposition) (taken : TakenRights)
     → Confined old taken.state space → RightsConfined old space (take_item space item disposition taken)
 item_there old space item None taken first = first
 item_there old space item (Some disposition) taken first =
     rights_there old space disposition (names_of_item item) taken first
 
-items_there : (old : State) (space : ℕ) (items : List Item) (taken : TakenRights) → Confined old taken.state space
+items_there : (old : Ipc) (space : ℕ) (items : List Item) (taken : TakenRights) → Confined old taken.state space
     → RightsConfined old space (take_items space items taken)
 items_there old space [] taken first = first
 items_there old space (item ∷ items) taken first =
@@ -114,7 +114,7 @@ items_there old space (item ∷ items) taken first =
 
 -- the rights of a header
 
-destination_there : (old state : State) (space name : ℕ) (disposition : Disposition) → Confined old state space
+destination_there : (old state : Ipc) (space name : ℕ) (disposition : Disposition) → Confined old state space
     → IfOk (take_destination state space name disposition) (λ (t : TakenDestination). Confined old t.taken.state space)
 destination_there old state space name disposition first =
     and_then_if (λ (t : Taken). Confined state t.state space)
@@ -128,7 +128,7 @@ destination_there old state space name disposition first =
     (or_refused SendInvalidDest (live_port taken.right.port)) _
     (any_ok _) (λ (serial : ℕ) (_ : _). follow old state taken.state space first here))
 
-reply_there : (old state : State) (space name : ℕ) (disposition : Option Disposition) → Confined old state space
+reply_there : (old state : Ipc) (space name : ℕ) (disposition : Option Disposition) → Confined old state space
     → IfOk (take_reply state space name disposition) (λ (t : TakenReply). Confined old t.state space)
 reply_there old state space name None first = first
 reply_there old state space name (Some disposition) first =
@@ -140,7 +140,7 @@ reply_there old state space name (Some disposition) first =
     (copied_in state space name disposition))
     (λ (taken : Taken) (here : _). follow old state taken.state space first here))
 
-header_there : (old : State) (space remote : ℕ) (destination : Disposition) (local : ℕ) (reply : Option Disposition)
+header_there : (old : Ipc) (space remote : ℕ) (destination : Disposition) (local : ℕ) (reply : Option Disposition)
     → IfOk (take_header old space remote destination local reply) (λ (t : TakenHeader). Confined old t.state space)
 header_there old space remote destination local reply =
     if_if (λ (t : TakenHeader). Confined old t.state space) (sending.reply_goes_first destination reply) _ _
@@ -158,19 +158,19 @@ header_there old space remote destination local reply =
     (λ (t : TakenHeader). Confined old t.state space) (take_reply first.taken.state space local reply) _
     (reply_there old first.taken.state space local reply here) (λ (second : TakenReply) (there : _). there)))
 
-abbrev pub ReadyConfined : State → ℕ → Ready → Type 0
+abbrev pub ReadyConfined : Ipc → ℕ → Ready → Type 0
 ReadyConfined old space ready = Confined old ready.state space
 
 -- the steps from items to a message that is ready
 
-of_taken_there : (old : State) (space : ℕ) (parts : UsedParts) (items : List Item) (header : TakenHeader)
+of_taken_there : (old : Ipc) (space : ℕ) (parts : UsedParts) (items : List Item) (header : TakenHeader)
     (taken : TakenRights) → Confined old taken.state space
     → IfOk (ready_of_taken parts items header taken) (ReadyConfined old space)
 of_taken_there old space parts items header taken here =
     let ready : Ready = sending.ready_message parts items header taken in
     unless_if (ReadyConfined old space) (sending.tests_of_queue ready) (Ok ready) here
 
-of_header_there : (old : State) (space : ℕ) (parts : UsedParts) (items : List Item) (header : TakenHeader)
+of_header_there : (old : Ipc) (space : ℕ) (parts : UsedParts) (items : List Item) (header : TakenHeader)
     → Confined old header.state space → IfOk (ready_of_header space parts items header) (ReadyConfined old space)
 of_header_there old space parts items header here =
     let start : TakenRights = record { rights = []; state = header.state; notices = [] } in
@@ -180,7 +180,7 @@ of_header_there old space parts items header here =
     (items_there old space items start here))
     (λ (taken : TakenRights) (there : _). of_taken_there old space parts items header taken there)
 
-of_items_there : (old : State) (space : ℕ) (parts : UsedParts) (destination : Disposition) (reply : Option Disposition)
+of_items_there : (old : Ipc) (space : ℕ) (parts : UsedParts) (destination : Disposition) (reply : Option Disposition)
     (items : List Item) → IfOk (ready_of_items old space parts destination reply items) (ReadyConfined old space)
 of_items_there old space parts destination reply items =
     unless_if (ReadyConfined old space)
@@ -192,16 +192,16 @@ of_items_there old space parts destination reply items =
     (header_there old space parts.remote destination parts.local reply)
     (λ (header : TakenHeader) (here : _). of_header_there old space parts items header here))
 
-abbrev ready_of_reply : State → ℕ → UsedParts → Disposition → Option Disposition → Result Ready KernReturn
+abbrev ready_of_reply : Ipc → ℕ → UsedParts → Disposition → Option Disposition → Result Ready KernReturn
 ready_of_reply old space parts destination reply =
     and_then (sending.items_if_complex parts.complex parts.body) (ready_of_items old space parts destination reply)
 
-abbrev ready_of_destination : State → ℕ → UsedParts → Disposition → Result Ready KernReturn
+abbrev ready_of_destination : Ipc → ℕ → UsedParts → Disposition → Result Ready KernReturn
 ready_of_destination old space parts destination =
     and_then (sending.reply_disposition parts.local_disposition parts.local)
     (ready_of_reply old space parts destination)
 
-pub ready_there : (old : State) (space : ℕ) (bytes : List ℕ)
+pub ready_there : (old : Ipc) (space : ℕ) (bytes : List ℕ)
     → IfOk (ready_to_send old space bytes) (ReadyConfined old space)
 unfolding ready_to_send
 ready_there old space bytes =
@@ -224,7 +224,7 @@ sent_as b ready =
     if b then (ready.state, ready.notices ++ (release ready.message.destination ready.port ∷ releases_of ready.message))
     else (queued ready.state ready.port ready.message, ready.notices)
 
-pub sent_there : (old : State) (space : ℕ) (ready : Ready) → Confined old ready.state space
+pub sent_there : (old : Ipc) (space : ℕ) (ready : Ready) → Confined old ready.state space
     → Confined old (sent ready).0 space
 unfolding sent
 sent_there old space ready first =
@@ -238,39 +238,39 @@ sent_there old space ready first =
 
 -- a receive
 
-taken_out : (old : State) (space serial : ℕ) → Confined old (without_oldest old serial) space
+taken_out : (old : Ipc) (space serial : ℕ) → Confined old (without_oldest old serial) space
 taken_out old space serial =
     port_change old space serial
     (λ (port : PortState). record port
     { messages = drop 1 port.messages; sequence_number = next_count port.sequence_number })
 
-large_there : (old : State) (space member serial : ℕ) (message : Message) (keeps : Bool) (answer : Reply) (new : State)
+large_there : (old : Ipc) (space member serial : ℕ) (message : Message) (keeps : Bool) (answer : PlainReply) (new : Ipc)
     (effects : List Effect) → TooLarge old member serial message keeps answer new effects → Confined old new space
 large_there old space member serial message true answer new effects large =
-    subst (λ (s : State). Confined old s space) (sym large.1) (nothing old space)
+    subst (λ (s : Ipc). Confined old s space) (sym large.1) (nothing old space)
 large_there old space member serial message false answer new effects large =
-    subst (λ (s : State). Confined old s space) (sym large.1) (taken_out old space serial)
+    subst (λ (s : Ipc). Confined old s space) (sym large.1) (taken_out old space serial)
 
-received_there : (old : State) (space : ℕ) (names : Names) (member serial : ℕ) (port : PortState) (message : Message)
-    (answer : Reply) (new : State) (effects : List Effect)
+received_there : (old : Ipc) (space : ℕ) (names : Names) (member serial : ℕ) (port : PortState) (message : Message)
+    (answer : PlainReply) (new : Ipc) (effects : List Effect)
     → Received old space names member serial port message answer new effects → Confined old new space
 received_there old space names member serial port message answer new effects received =
-    subst (λ (s : State). Confined old s space) (sym received.4)
+    subst (λ (s : Ipc). Confined old s space) (sym received.4)
     (follow old (without_oldest old serial) _ space (taken_out old space serial)
     (own_names (without_oldest old serial) space received.1))
 
-outcome_there : (old : State) (space : ℕ) (names : Names) (arguments : ReceiveArguments) (member serial : ℕ)
-    (port : PortState) (message : Message) (answer : Reply) (new : State) (effects : List Effect)
+outcome_there : (old : Ipc) (space : ℕ) (names : Names) (arguments : ReceiveArguments) (member serial : ℕ)
+    (port : PortState) (message : Message) (answer : PlainReply) (new : Ipc) (effects : List Effect)
     → Outcomes old space names arguments member serial port message answer new effects → Confined old new space
 outcome_there old space names arguments member serial port message answer new effects (was_large large) =
     large_there old space member serial message arguments.large answer new effects large
 outcome_there old space names arguments member serial port message answer new effects (was_lacking is as_before none) =
-    subst (λ (s : State). Confined old s space) (sym as_before) (nothing old space)
+    subst (λ (s : Ipc). Confined old s space) (sym as_before) (nothing old space)
 outcome_there old space names arguments member serial port message answer new effects (was_received whole) =
     received_there old space names member serial port message answer new effects whole
 
-pub receive_there : (old : State) (space : ℕ) (names : Names) (arguments : ReceiveArguments) (answer : Reply)
-    (new : State)
+pub receive_there : (old : Ipc) (space : ℕ) (names : Names) (arguments : ReceiveArguments) (answer : PlainReply)
+    (new : Ipc)
     (effects : List Effect) → Receives old space names arguments answer new effects → Confined old new space
 receive_there old space names arguments answer new effects receives =
     elim (receive_refusal old names arguments)
@@ -279,5 +279,5 @@ receive_there old space names arguments answer new effects receives =
           outcome_there old space names arguments taken.member taken.serial taken.port taken.message answer new effects
           (outcome_of old space names arguments taken.member taken.serial taken.port taken.message answer new effects
           taken.takes)
-      | Some code ↦ λ (refused : _). subst (λ (s : State). Confined old s space) (sym refused.1) (nothing old space)
+      | Some code ↦ λ (refused : _). subst (λ (s : Ipc). Confined old s space) (sym refused.1) (nothing old space)
     ] receives

@@ -17,7 +17,7 @@ use Rattle.ipc_model.specs.effects.Effects.{Effect, release, notify}
 use Rattle.ipc_model.specs.state.Lawful.{right_of_effect, placed_with, count_with, rights_count}
 use Rattle.ipc_laws.specs.MapSums.{weigh, total, weigh-append, weigh-flat_map, weigh-map, weigh-same}
 use Rattle.ipc_model.specs.state.Placed.{Right, Place, placed, same_kind, right_to, right_of_carried, right_of_reply, right_of_target, rights_of_message, rights_of_port, rights_of_entry, rights_of_space, held, reply, body, dead_name_request, no_senders_request, port_destroyed_request}
-use Rattle.ipc_model.specs.state.State.{State, Names}
+use Rattle.ipc_model.specs.state.Ipc.{Ipc, Names}
 
 -- what a right of a kind to a port weighs, wherever it stands
 abbrev pub Weight : Type 0
@@ -59,7 +59,7 @@ port_weigh w serial port =
 abbrev pub names_weigh : Weight → Names → ℕ
 names_weigh w names = total (λ name entry. entry_weigh w entry) names
 
-unfoldable pub state_weigh : Weight → State → ℕ
+unfoldable pub state_weigh : Weight → Ipc → ℕ
 state_weigh w state = total (λ space names. names_weigh w names) state.spaces + total (port_weigh w) state.ports
 
 abbrev pub effect_weigh : Weight → Effect → ℕ
@@ -159,7 +159,7 @@ weigh-space w space names =
     ∙ weigh-same (λ (e : ℕ × Entry). weigh (right_weigh w) (rights_of_entry space e.0 e.1))
     (λ (e : ℕ × Entry). entry_weigh w e.1) (λ (e : ℕ × Entry). weigh-entry w space e.0 e.1) (finmap.entries names)
 
-pub weigh-placed : (w : Weight) (state : State) → weigh (right_weigh w) (placed state) ≡ state_weigh w state
+pub weigh-placed : (w : Weight) (state : Ipc) → weigh (right_weigh w) (placed state) ≡ state_weigh w state
 unfolding placed state_weigh
 weigh-placed w state =
     let spaces : List (ℕ × Names) = finmap.entries state.spaces in
@@ -191,7 +191,7 @@ weigh-effect : (w : Weight) (first : Effect) → right_weigh w (right_of_effect 
 weigh-effect w (release kind serial) = refl
 weigh-effect w (notify target what) = refl
 
-pub count-receive : (state : State) (effects : List Effect) (serial : ℕ)
+pub count-receive : (state : Ipc) (effects : List Effect) (serial : ℕ)
     → count_with kind.Receive state effects serial
     ≡ state_weigh (receive_of serial) state + weigh (effect_weigh (receive_of serial)) effects
 count-receive state effects serial =
@@ -205,6 +205,6 @@ count-receive state effects serial =
       weigh-same (λ (e : Effect). right_weigh w (right_of_effect e)) (effect_weigh w) (weigh-effect w) effects,
     )
 
-pub count-any : (state : State) (serial : ℕ) → rights_count state serial ≡ state_weigh (any_of serial) state
+pub count-any : (state : Ipc) (serial : ℕ) → rights_count state serial ≡ state_weigh (any_of serial) state
 count-any state serial =
     count-weigh (λ (r : Right). r.port == serial) (placed state) ∙ weigh-placed (any_of serial) state

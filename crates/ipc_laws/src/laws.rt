@@ -1,16 +1,20 @@
 // Laws over the definitions. Each is the contract of a function that does nothing, so that the check proves it.
 ghost use Rattle.ipc_laws.specs.Circles.{CirclesLeadUp};
-ghost use Rattle.ipc_laws.specs.StepsKeep.{OneRun, RunsKeepLawful, StepsKeepLawful};
+ghost use Rattle.ipc_laws.specs.NumberedSteps.{OneNewState, StepsKeepLawful};
+ghost use Rattle.ipc_laws.specs.RunsKeep.{OneRun, RunsKeepLawful};
 ghost use Rattle.ipc_laws.specs.EffectRanks.{EffectsKeepAcyclic, SettledIsLawful};
 ghost use Rattle.ipc_laws.specs.EffectsKeep.{EffectsKeepLawful};
 ghost use Rattle.ipc_laws.specs.HistoryLaws.{LegalIsInOrder, LegalStaysLegal, MeetingIsLegal, PlacesHoldCalls, ReadsOwnWrites};
 ghost use Rattle.ipc_laws.specs.ImageLaws.{ImagesHaveOneEncoding};
 ghost use Rattle.ipc_laws.specs.ItemLaws.{ItemsTileBodies, TiledBodiesHaveItems};
-ghost use Rattle.ipc_laws.specs.CanonicalLaws.{CallsAreMadeAsCanonical, MessagesAreSentAsCanonical};
+ghost use Rattle.ipc_laws.specs.CanonicalLaws.{MessagesAreSentAsCanonical};
+ghost use Rattle.ipc_laws.specs.CanonicalRecords.{CallsAreMadeAsCanonical};
 ghost use Rattle.ipc_laws.specs.NameChanges.{NamesMoveLawfully};
 ghost use Rattle.ipc_laws.specs.LawfulLaws.{LawfulIsAtRest};
+ghost use Rattle.ipc_laws.specs.OnceLaws.{CallsAreMadeOnce};
+ghost use Rattle.ipc_model.specs.history.Once.{KeptChangesNothing};
 ghost use Rattle.ipc_laws.specs.OpeningLaws.{OpeningIsLawful};
-ghost use Rattle.ipc_laws.specs.OtherSpaces.{OthersFade, SpacesAreMade};
+ghost use Rattle.ipc_laws.specs.StepsElsewhere.{OthersFade, SpacesAreMade};
 ghost use Rattle.ipc_laws.specs.OwnedPlaces.{RecordsAreOwned};
 ghost use Rattle.ipc_laws.specs.PortChanges.{PortMovesLawfully};
 ghost use Rattle.ipc_laws.specs.RecordedMessages.{RecordedSendsAreDone};
@@ -21,8 +25,8 @@ ghost use Rattle.ipc_laws.specs.RecoveryLaws.{RecoversKnownVersions, RecoversLaw
 ghost use Rattle.ipc_laws.specs.RunLaws.{RecordsRunAsCanonical};
 ghost use Rattle.ipc_laws.specs.Encoding.{LawfulIsEncodable};
 ghost use Rattle.ipc_laws.specs.Settling.{AlwaysSettles, EffectsLower};
-ghost use Rattle.ipc_laws.specs.EncodingLaws.{RecordsHaveOneEncoding};
-ghost use Rattle.ipc_laws.specs.StepLaws.{OneEnd, OneNewState};
+ghost use Rattle.ipc_laws.specs.RecordEncodings.{RecordsHaveOneEncoding};
+ghost use Rattle.ipc_laws.specs.StepLaws.{OneEnd};
 ghost use Rattle.ipc_laws.specs.WorldLaws.{NotNowExactly, AcknowledgedIsStored, AcknowledgedWithinApplied};
 ghost use Rattle.ipc_laws.specs.WorldRuns.{AppliedIsRun, NothingNewIsAcknowledged, LogsFit, TicketsAreSteps};
 
@@ -265,4 +269,15 @@ pub fn meeting_is_legal()
 /// If the sessions are all that there were, each record of a legal history stands at a place of one of them.
 pub fn records_are_owned()
     ensures { RecordsAreOwned }
+{}
+
+/// Numbered calls are made once: each space keeps the reply of its last numbered record, whose requests never fall, and
+/// a call that is asked for again is answered by that reply.
+pub fn calls_are_made_once()
+    ensures { CallsAreMadeOnce }
+{}
+
+/// A record whose request its space keeps already changes nothing.
+pub fn kept_changes_nothing()
+    ensures { KeptChangesNothing }
 {}

@@ -1,3 +1,4 @@
 -- Calls, replies, records and images in bytes.
-pub mod Images
 pub mod Encodings
+pub mod Images
+pub mod PlainCalls

@@ -1,5 +1,5 @@
 ghost use Rattle.std.specs.Prelude.{◌≡◌};
-ghost use Rattle.ipc_model.specs.state.State.{request_bit};
+ghost use Rattle.ipc_model.specs.state.Ipc.{request_bit};
 
 use codes::Right;
 
@@ -39,7 +39,7 @@ pub enum Entry {
 
 impl Entry {
     ghost use Rattle.std.specs.Prelude.{◌≡◌};
-    ghost use Rattle.ipc_model.specs.state.State.{type_of};
+    ghost use Rattle.ipc_model.specs.state.Ipc.{type_of};
 
     /// The name's type: a bit for each right that it holds, and one for a dead-name request (`mach_port_type`).
     pub fn type_bits(&self) -> u32

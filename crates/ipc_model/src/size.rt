@@ -1,5 +1,5 @@
 ghost use Rattle.std.specs.Prelude.{true, false, ◌≡◌};
-ghost use Rattle.ipc_model.specs.encodings.Encodings.{IsMessageSize};
+ghost use Rattle.ipc_model.specs.encodings.PlainCalls.{IsMessageSize};
 
 use codes::{HEADER_LENGTH, MAX_MESSAGE_SIZE};
 

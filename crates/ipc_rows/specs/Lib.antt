@@ -5,6 +5,7 @@ pub mod RowsDeaths
 pub mod RowsHistory
 pub mod RowsMessages
 pub mod RowsNames
+pub mod RowsNumbered
 pub mod RowsReceives
 pub mod RowsRecovery
 pub mod RowsRights

@@ -14,10 +14,10 @@ use Rattle.ipc_model.specs.calls.PortCalls.{names_in, is_in_some_set, name_is, i
 use Rattle.ipc_model.specs.calls.PortCalls as port_calls
 use Rattle.ipc_model.specs.messages.Receiving.{port_under, oldest_under, is_in_set, all_empty, without_oldest}
 use Rattle.ipc_model.specs.messages.Sending.{is_full, tests_of_queue, TakenRights, passed, take_rights, take_right, goes_in_circle}
-use Rattle.ipc_model.specs.state.State.{State, Names, is_null_or_dead, entry_at, with_names, with_changed, with_entry, without_name, with_port, lives, ports_are_used_up, name_of_port, is_member, members_of}
+use Rattle.ipc_model.specs.state.Ipc.{Ipc, Names, is_null_or_dead, entry_at, with_names, with_changed, with_entry, without_name, with_port, lives, ports_are_used_up, name_of_port, is_member, members_of}
 
 -- what a name stands for once a port has died
-pub entry-after_death : (state : State) (serial space name : ℕ)
+pub entry-after_death : (state : Ipc) (serial space name : ℕ)
     → entry_at (after_death state serial) space name ≡ option_map (entry_after_death serial) (entry_at state space name)
 entry-after_death state serial space name =
     let look : Names → Option Entry = λ names. finmap.get names name in
@@ -54,7 +54,7 @@ take_one space name d names start taken named copied =
     (λ (o : Option Taken). later (add o)) copied
 
 -- an effect adds these to the list, which is then drained
-pub settles_adding : {state end : State} {first : Effect} {rest : List Effect} (added : List Effect)
+pub settles_adding : {state end : Ipc} {first : Effect} {rest : List Effect} (added : List Effect)
     → (effect state first).1 ≡ added → Settles (effect state first).0 (rest ++ added) end
     → Settles state (first ∷ rest) end
 settles_adding {state} {end} {first} {rest} added is later =

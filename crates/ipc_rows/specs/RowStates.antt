@@ -9,7 +9,14 @@ use Rattle.ipc_model.specs.declared.message.PortInMessage.TheVariants.{Live}
 use Rattle.ipc_model.specs.declared.message.RightKind.{RightKind}
 use Rattle.ipc_model.specs.declared.message.RightKind.TheVariants as kind
 use Rattle.ipc_model.specs.declared.port.PortState.{PortState}
-use Rattle.ipc_model.specs.state.State.{State, Names, new_port}
+use Rattle.ipc_model.specs.state.Ipc.{Ipc, Names, new_port}
+use Rattle.ipc_model.specs.declared.call.Call.{Call}
+use Rattle.ipc_model.specs.declared.call.Call.TheVariants as call
+use Rattle.ipc_model.specs.declared.plain_call.PlainCall.{PlainCall}
+use Rattle.ipc_model.specs.declared.plain_reply.PlainReply.{PlainReply}
+use Rattle.ipc_model.specs.declared.reply.Reply.{Reply}
+use Rattle.ipc_model.specs.declared.reply.Reply.TheVariants as reply
+use Rattle.ipc_model.specs.state.State.{State}
 
 -- a name's send and receive rights of a port, without a dead-name request
 abbrev pub rights_to : ℕ → Bool → ℕ → Entry
@@ -20,7 +27,7 @@ abbrev pub names_of : List (ℕ × Entry) → Names
 names_of entries = finmap.from_entries entries
 
 -- a state with only space 1, in which the next port gets serial 10
-abbrev pub in_space_1 : List (ℕ × Entry) → List (ℕ × PortState) → State
+abbrev pub in_space_1 : List (ℕ × Entry) → List (ℕ × PortState) → Ipc
 in_space_1 entries ports =
     record { spaces = finmap.insert finmap.empty 1 (names_of entries); ports = finmap.from_entries ports; next = 10 }
 
@@ -37,14 +44,14 @@ abbrev pub live : RightKind → ℕ → CarriedRight
 live of_kind serial = record { kind = of_kind; port = Live serial }
 
 -- what waits in a port's queue
-abbrev pub queue_of : State → ℕ → Option (List Message)
+abbrev pub queue_of : Ipc → ℕ → Option (List Message)
 queue_of state serial = option_map (λ (port : PortState). port.messages) (finmap.get state.ports serial)
 
-abbrev pub message_count : State → ℕ → Option ℕ
+abbrev pub message_count : Ipc → ℕ → Option ℕ
 message_count state serial = option_map (λ (messages : List Message). length messages) (queue_of state serial)
 
 -- one port, whose receive right and one send reference stand under the name 0x100
-abbrev pub one_port : List Message → State
+abbrev pub one_port : List Message → Ipc
 one_port messages = in_space_1 ((0x100, rights_to 1 true 1) ∷ []) ((1, with_queue messages) ∷ [])
 
 abbrev pub hello : Message
@@ -67,3 +74,13 @@ asking =
       rights = [];
       body = [];
     }
+
+-- A state whose spaces keep no replies, and plain calls and replies.
+abbrev pub keeps_none : Ipc → State
+keeps_none ipc = record { ipc = ipc; kept = finmap.empty }
+
+abbrev pub asked : PlainCall → Call
+asked c = call.Plain c
+
+abbrev pub answered : PlainReply → Reply
+answered r = reply.Plain r

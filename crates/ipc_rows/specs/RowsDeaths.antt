@@ -19,7 +19,7 @@ use Rattle.ipc_model.specs.messages.Receiving.{received_encoding, without_oldest
 use Rattle.ipc_rows.specs.RowRules.{rows, entry-after_death}
 use Rattle.ipc_rows.specs.RowStates.{rights_to, names_of, in_space_1, with_queue, live, queue_of, message_count}
 use Rattle.ipc_model.specs.messages.Sending.{sent}
-use Rattle.ipc_model.specs.state.State.{State, new_port, type_of, entry_at}
+use Rattle.ipc_model.specs.state.Ipc.{Ipc, new_port, type_of, entry_at}
 
 -- a message that carries a receive right, sent by a send right
 abbrev pub carrying : ℕ → Message
@@ -34,7 +34,7 @@ carrying serial =
     }
 
 -- A port's receive right is sent to the port itself; two send references stay with the name.
-abbrev pub own_way : State
+abbrev pub own_way : Ipc
 own_way = in_space_1 ((0x100, rights_to 1 false 2) ∷ []) ((1, new_port) ∷ [])
 
 -- the message would carry the right to its own queue: it is destroyed, with its destination and its right
@@ -67,7 +67,7 @@ own_way-gone = simp rows
 
 -- The receive right of port 1 waits in port 2's queue; that of port 2 is then sent to port 1, by the send right that
 -- stays under 0x100. Each would carry the other.
-abbrev pub two_ways : State
+abbrev pub two_ways : Ipc
 two_ways = in_space_1 ((0x100, rights_to 1 false 1) ∷ []) ((1, new_port) ∷ (2, with_queue (carrying 1 ∷ [])) ∷ [])
 
 pub two_ways-circular : (sent (record { message = carrying 2; port = 1; state = two_ways; notices = [] })).1
@@ -95,7 +95,7 @@ two_ways_2-died = simp rows
 pub two_ways-left : entry_at (effect two_ways (release kind.Receive 2)).0 1 0x100 ≡ Some (rights_to 1 false 1)
 two_ways-left = ap (λ s. entry_at s 1 0x100) two_ways_2-died ∙ entry-after_death two_ways 2 1 0x100 ∙ simp rows
 
-abbrev pub one_way : State
+abbrev pub one_way : Ipc
 one_way = in_space_1 ((0x100, rights_to 1 false 1) ∷ []) ((1, new_port) ∷ [])
 
 one_way_1-died : (effect one_way (release kind.Receive 1)).0 ≡ after_death one_way 1
@@ -114,7 +114,7 @@ two_ways-third_port = simp rows
 abbrev pub notified_of : PortState
 notified_of = record new_port { port_destroyed_target = Some 3 }
 
-abbrev pub to_be_notified : State
+abbrev pub to_be_notified : Ipc
 to_be_notified =
     in_space_1 ((0x100, rights_to 3 true 0) ∷ [])
     ((1, with_queue (carrying 2 ∷ [])) ∷ (2, notified_of) ∷ (3, new_port) ∷ [])
@@ -123,7 +123,7 @@ pub notified-released : (effect to_be_notified (release kind.Receive 1)).1 ≡ r
 unfolding effect
 notified-released = simp rows
 
-abbrev pub carrier_dead : State
+abbrev pub carrier_dead : Ipc
 carrier_dead = in_space_1 ((0x100, rights_to 3 true 0) ∷ []) ((2, notified_of) ∷ (3, new_port) ∷ [])
 
 -- the receive right goes to port 3 as a notice, and port 2 lives, without the request
@@ -143,7 +143,7 @@ unfolding items_of
 notified-received = refl
 
 -- a request that would bring the right to its own queue: the port dies
-abbrev pub tells_itself : State
+abbrev pub tells_itself : Ipc
 tells_itself = in_space_1 [] ((1, record new_port { port_destroyed_target = Some 1 }) ∷ [])
 
 pub itself-dead : finmap.get (effect tells_itself (release kind.Receive 1)).0.ports 1 ≡ None
@@ -154,7 +154,7 @@ itself-dead = simp rows
 abbrev pub watched : Entry
 watched = Port (record { port = 1; receive = false; send = 1; dead_name_target = Some 2 })
 
-abbrev pub watching : State
+abbrev pub watching : Ipc
 watching = in_space_1 ((0x100, watched) ∷ []) ((1, new_port) ∷ (2, new_port) ∷ [])
 
 -- its port dies: a notice, and one more reference
@@ -199,7 +199,7 @@ watched-deleted_received = refl
 abbrev pub watched_by_itself : Entry
 watched_by_itself = Port (record { port = 1; receive = false; send = 1; dead_name_target = Some 1 })
 
-abbrev pub watching_itself : State
+abbrev pub watching_itself : Ipc
 watching_itself = in_space_1 ((0x100, watched_by_itself) ∷ []) ((1, new_port) ∷ [])
 
 watching_itself_1-died : (effect watching_itself (release kind.Receive 1)).0 ≡ after_death watching_itself 1
@@ -229,7 +229,7 @@ target-gone = ap (λ s. entry_at s 1 0x100) watching_2-died ∙ entry-after_deat
 
 -- A new port from which no send right was made yet: a no-senders request with sync 1 is kept, and one with sync 0 is
 -- answered at once.
-abbrev pub new_one : State
+abbrev pub new_one : Ipc
 new_one = in_space_1 ((0x100, rights_to 1 true 0) ∷ []) ((1, new_port) ∷ [])
 
 pub no_senders-kept : (port_request_set new_one 70 1 1 (Some 1)).1 ≡ []
@@ -261,7 +261,7 @@ pub no_senders-former : target_of_port (in_space_1 [] ((1, asked) ∷ [])) 70 (S
 no_senders-former = simp rows
 
 -- the last send right of a port goes: its request is answered
-abbrev pub last_sender : State
+abbrev pub last_sender : Ipc
 last_sender =
     in_space_1 ((0x100, rights_to 1 true 0) ∷ [])
     ((1, record new_port { make_send_count = 1; no_senders_target = Some 1 }) ∷ [])
@@ -283,7 +283,7 @@ pub no_senders-received : received_encoding (notice_message (notice.NoSenders 1)
 no_senders-received = refl
 
 -- a send right to the same port, which the message brought, keeps the count above zero
-abbrev pub brought_sender : State
+abbrev pub brought_sender : Ipc
 brought_sender =
     in_space_1 ((0x100, rights_to 1 true 1) ∷ [])
     ((1, record new_port { make_send_count = 1; no_senders_target = Some 1 }) ∷ [])
@@ -298,7 +298,7 @@ pub destroy-send_first : (destroyed brought_sender 1 (names_of ((0x100, rights_t
 destroy-send_first = refl
 
 -- its release is answered before the port dies, so the notice goes out
-abbrev pub last_rights : State
+abbrev pub last_rights : Ipc
 last_rights =
     in_space_1 [] ((1, record new_port { make_send_count = 1; no_senders_target = Some 2 }) ∷ (2, new_port) ∷ [])
 
@@ -308,7 +308,7 @@ unfolding effect placed
 destroy-notice = simp rows
 
 -- A send-once right that isn't used: its name goes, and a notice is sent by it, which holds the right.
-abbrev pub unused : State
+abbrev pub unused : Ipc
 unused = in_space_1 ((0x100, rights_to 1 true 0) ∷ (0x101, SendOnce 1 None) ∷ []) ((1, new_port) ∷ [])
 
 pub once-destroyed : (destroyed unused 1 (names_of ((0x100, rights_to 1 true 0) ∷ (0x101, SendOnce 1 None) ∷ [])) 0x101
@@ -327,7 +327,7 @@ pub once-received : received_encoding (notice_message notice.SendOnce) 0x100 0 [
     ≡ 0 ∷ 18 ∷ 0 ∷ 0 ∷ 24 ∷ 0 ∷ 0 ∷ 0 ∷ 0 ∷ 0 ∷ 0 ∷ 0 ∷ 0 ∷ 1 ∷ 0 ∷ 0 ∷ 0 ∷ 0 ∷ 0 ∷ 0 ∷ 71 ∷ 0 ∷ 0 ∷ 0 ∷ []
 once-received = refl
 
-abbrev pub once_waits : State
+abbrev pub once_waits : Ipc
 once_waits = in_space_1 ((0x100, rights_to 1 true 0) ∷ []) ((1, with_queue (notice_message notice.SendOnce ∷ [])) ∷ [])
 
 pub once-counted_after : send_once_count (without_oldest once_waits 1) 1 ≡ 0

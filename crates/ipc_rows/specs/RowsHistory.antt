@@ -4,24 +4,28 @@ use Rattle.std.specs.FinMap as finmap
 use Rattle.std.specs.List.{list_any}
 use Rattle.std.proofs.Common.{inl, inr, ◌∙◌, sym, ap, subst, arith}
 use Rattle.codes.specs.declared.kern_return.KernReturn.TheVariants.{InvalidName, InvalidTask}
-use Rattle.ipc_model.specs.declared.call.Call.TheVariants as call
-use Rattle.ipc_model.specs.declared.call.Reply.{Reply}
-use Rattle.ipc_model.specs.declared.call.Reply.TheVariants as reply
+use Rattle.ipc_model.specs.declared.plain_call.PlainCall.TheVariants as call
+use Rattle.ipc_model.specs.declared.reply.Reply.{Reply}
+use Rattle.ipc_model.specs.declared.plain_reply.PlainReply.TheVariants as reply
 use Rattle.ipc_model.specs.declared.record.Record.{Record}
 use Rattle.ipc_model.specs.calls.Actions.{Done}
 use Rattle.ipc_model.specs.calls.PortCalls.{tests_of}
-use Rattle.ipc_model.specs.calls.Step.{Step, Answer, ActsFrom, Run}
+use Rattle.ipc_model.specs.calls.PlainStep.{PlainStep, ActsFrom}
+use Rattle.ipc_model.specs.calls.Step.{Step, Answer, Run}
 use Rattle.ipc_model.specs.effects.Effects.{Effect, settled}
 use Rattle.ipc_model.specs.history.History.{Session, Operation, Sessions, called, redeemed, redeemed_for_another, redemption, IsNew, Legal, AreAll, Meet, IsLegalHistory, space_after}
+use Rattle.ipc_model.specs.declared.plain_reply.PlainReply.{PlainReply}
+use Rattle.ipc_model.specs.declared.reply.Reply.TheVariants as upper
+use Rattle.ipc_model.specs.state.Ipc.{Ipc, opening_ipc}
 use Rattle.ipc_model.specs.state.State.{State, opening_state}
 use Rattle.ipc_laws.specs.OpeningLaws.{opening_is_lawful}
-use Rattle.ipc_laws.specs.StepsKeep.{one_run}
+use Rattle.ipc_laws.specs.RunsKeep.{one_run}
 use Rattle.ipc_rows.specs.RowRules.{rows}
-use Rattle.ipc_rows.specs.RowsSteps.{allocate-step}
-use Rattle.ipc_rows.specs.RowsWorld.{allocation, one_allocated, two_allocated, second-step, unknown-refused}
+use Rattle.ipc_rows.specs.RowsWorld.{allocation, first-step, one_allocated, two_allocated, second-step, unknown-refused}
+use Rattle.ipc_rows.specs.RowStates.{answered, asked}
 
 abbrev pub allocated_name : ℕ → Record
-allocated_name name = record { space = 1; call = allocation; reply = reply.Allocate name }
+allocated_name name = record { space = 1; call = allocation; reply = answered (reply.Allocate name) }
 
 -- a new store, with an allocation of each of two sessions
 abbrev pub two_records : List Record
@@ -33,24 +37,24 @@ new_session = record { space = 1; seen = 0; acknowledged = 0; tickets = []; plac
 -- The first session allocates, asks for the type of the other's name, and gets the reply.
 abbrev pub first_operations : List Operation
 first_operations =
-    called allocation (reply.Allocate 0x100) ∷ called (call.Type 0x101) (reply.Type 0x20000) ∷ redeemed 2 ∷ []
+    called allocation (answered (reply.Allocate 0x100)) ∷ called (asked (call.Type 0x101)) (answered (reply.Type 0x20000)) ∷ redeemed 2 ∷ []
 
 abbrev pub first_session : Session
 first_session = record { space = 1; seen = 2; acknowledged = 2; tickets = 1 ∷ 2 ∷ []; places = 0 ∷ [] }
 
 -- The other allocates, and gets no reply.
 abbrev pub other_operations : List Operation
-other_operations = called allocation (reply.Allocate 0x101) ∷ []
+other_operations = called allocation (answered (reply.Allocate 0x101)) ∷ []
 
 abbrev pub other_session : Session
 other_session = record { space = 1; seen = 2; acknowledged = 0; tickets = 2 ∷ []; places = 1 ∷ [] }
 
-pub type-answer : Answer two_allocated 1 (call.Type 0x101) (reply.Type 0x20000)
-unfolding Step Done tests_of
-type-answer = (two_allocated, [], simp rows (refl, refl, refl), settled)
+pub type-answer : Answer two_allocated 1 (asked (call.Type 0x101)) (answered (reply.Type 0x20000))
+unfolding Step PlainStep Done tests_of
+type-answer = ((two_allocated.ipc, [], simp rows (refl, refl, refl), settled), refl)
 
 pub two_records-run : Run opening_state two_records two_allocated
-two_records-run = (one_allocated, allocate-step, (two_allocated, second-step, refl))
+two_records-run = (one_allocated, inl first-step, (two_allocated, inl second-step, refl))
 
 new-session : IsNew two_records new_session
 new-session = record { space = refl; within = omega arith; acknowledged = refl; tickets = refl; places = refl }
@@ -146,8 +150,8 @@ pub same_place-no_meeting : (one other : Session) → Meet first_session sees_on
 same_place-no_meeting one other meet = meet.apart 0 1 0 (omega arith) (omega arith) refl
 
 -- a task that attaches itself is in that space from then on, if the call is done
-pub attach-moves : (space_after 1 (call.Attach 2) (reply.Done 0) ≡ 2)
-    × (space_after 1 (call.Attach 2) (reply.Refused 0 InvalidTask) ≡ 1)
+pub attach-moves : (space_after 1 (asked (call.Attach 2)) (answered (reply.Done 0)) ≡ 2)
+    × (space_after 1 (asked (call.Attach 2)) (answered (reply.Refused 0 InvalidTask)) ≡ 1)
 attach-moves = (refl, refl)
 
 -- Histories that aren't legal.
@@ -160,14 +164,14 @@ one_place-twice operations others legal = legal.apart 0 1 0 (omega arith) (omega
 -- a place before what was seen: before its call, the session was given another's reply that saw the record
 pub place-before : (session : Session)
     → Legal opening_state (allocated_name 0x100 ∷ [])
-    (redeemed_for_another 1 ∷ called allocation (reply.Allocate 0x100) ∷ []) session → ⊥
+    (redeemed_for_another 1 ∷ called allocation (answered (reply.Allocate 0x100)) ∷ []) session → ⊥
 place-before session legal = elim legal.after.2.1.leads as (λ _. ⊥) [
   | inl at ↦ absurd (omega (arith, legal.after.1.leads.0, at.unseen, at.seen, legal.after.2.1.within))
   | inr is ↦ absurd (cc is.unrecorded)
 ]
 
 -- a call whose record stands nowhere
-pub place-nowhere : (session : Session) → Legal opening_state [] (called allocation (reply.Allocate 0x100) ∷ []) session
+pub place-nowhere : (session : Session) → Legal opening_state [] (called allocation (answered (reply.Allocate 0x100)) ∷ []) session
     → ⊥
 place-nowhere session legal = elim legal.after.1.leads as (λ _. ⊥) [
   | inl at ↦ absurd (omega (arith, at.seen, legal.after.1.within))
@@ -176,39 +180,41 @@ place-nowhere session legal = elim legal.after.1.leads as (λ _. ⊥) [
 
 -- a reply that no state gives
 pub no_answer : (session : Session)
-    → Legal opening_state [] (called (call.Type 0x200) (reply.Type 0x20000) ∷ []) session → ⊥
+    → Legal opening_state [] (called (asked (call.Type 0x200)) (answered (reply.Type 0x20000)) ∷ []) session → ⊥
 no_answer session legal = elim legal.after.1.leads as (λ _. ⊥) [
   | inl at ↦ absurd (cc at.recorded)
   | inr is ↦
       let none : is.beginning ≡ 0 = omega (arith, is.seen, legal.after.1.within) in
       let at_start : Run opening_state (take 0 []) is.state =
       subst (λ (n : ℕ). Run opening_state (take n []) is.state) none is.run in
-      let in_space : Answer is.state 1 (call.Type 0x200) (reply.Type 0x20000) =
-      subst (λ (n : ℕ). Answer is.state n (call.Type 0x200) (reply.Type 0x20000)) legal.new.space is.answered in
-      let answered : Step opening_state 1 (call.Type 0x200) (reply.Type 0x20000) is.state =
-      subst (λ (s : State). Step s 1 (call.Type 0x200) (reply.Type 0x20000) is.state) at_start in_space in
-      absurd (cc (unknown-refused (reply.Type 0x20000) is.state answered))
+      let in_space : Answer is.state 1 (asked (call.Type 0x200)) (answered (reply.Type 0x20000)) =
+      subst (λ (n : ℕ). Answer is.state n (asked (call.Type 0x200)) (answered (reply.Type 0x20000))) legal.new.space is.answered in
+      let found : Step opening_state 1 (asked (call.Type 0x200)) (answered (reply.Type 0x20000)) is.state =
+      subst (λ (s : State). Step s 1 (asked (call.Type 0x200)) (answered (reply.Type 0x20000)) is.state) at_start in_space in
+      absurd (cc (unknown-refused (answered (reply.Type 0x20000)) is.state found))
 ]
 
 -- an answer from an older prefix: the session allocated the name itself, and gets the reply that there is none
-known-acts : (answer : Reply) (acted : State) (effects : List Effect)
-    → ActsFrom one_allocated 1 (finmap.get one_allocated.spaces 1) (call.Type 0x100) answer acted effects
+known-acts : (answer : PlainReply) (acted : Ipc) (effects : List Effect)
+    → ActsFrom one_allocated.ipc 1 (finmap.get one_allocated.ipc.spaces 1) (call.Type 0x100) answer acted effects
     → answer ≡ reply.Type 0x20000
 unfolding Done tests_of
 known-acts answer acted effects = simp rows (λ (acts : _). acts.0)
 
-known-type : (answer : Reply) (new : State) → Step one_allocated 1 (call.Type 0x100) answer new
-    → answer ≡ reply.Type 0x20000
-unfolding Step
-known-type answer new step = known-acts answer step.0 step.1 step.2
+known-type : (answer : Reply) (new : State) → Step one_allocated 1 (asked (call.Type 0x100)) answer new
+    → answer ≡ answered (reply.Type 0x20000)
+unfolding Step PlainStep
+known-type (upper.Plain answer) new step = ap answered (known-acts answer step.0.0 step.0.1 step.0.2)
+known-type (upper.Numbered answer) new step = absurd step
+known-type (upper.Repeated answer) new step = absurd step
 
-pub was-unknown : Answer opening_state 1 (call.Type 0x100) (reply.Refused 2 InvalidName)
-unfolding Step Done tests_of
-was-unknown = (opening_state, [], simp rows (refl, refl, refl), settled)
+pub was-unknown : Answer opening_state 1 (asked (call.Type 0x100)) (answered (reply.Refused 2 InvalidName))
+unfolding Step PlainStep Done tests_of
+was-unknown = ((opening_ipc, [], simp rows (refl, refl, refl), settled), refl)
 
 pub older_answer : (session : Session)
     → Legal opening_state (allocated_name 0x100 ∷ [])
-    (called allocation (reply.Allocate 0x100) ∷ called (call.Type 0x100) (reply.Refused 2 InvalidName) ∷ []) session
+    (called allocation (answered (reply.Allocate 0x100)) ∷ called (asked (call.Type 0x100)) (answered (reply.Refused 2 InvalidName)) ∷ []) session
     → ⊥
 older_answer session legal = elim legal.after.1.leads as (λ _. ⊥) [
   | inr is ↦ absurd (cc is.unrecorded)
@@ -221,20 +227,20 @@ older_answer session legal = elim legal.after.1.leads as (λ _. ⊥) [
             subst (λ (n : ℕ). Run opening_state (take n (allocated_name 0x100 ∷ [])) is.state) all is.run in
             let one : is.state ≡ one_allocated =
             one_run opening_state (allocated_name 0x100 ∷ []) is.state one_allocated
-            (omega arith, tt) opening_is_lawful.0 opening_is_lawful.1 whole
-            (one_allocated, allocate-step, refl) in
+            ((omega arith, tt), tt) opening_is_lawful.0 opening_is_lawful.1 whole
+            (one_allocated, inl first-step, refl) in
             let space : legal.after.0.space ≡ 1 = ap (λ (s : Session). s.space) at.after ∙ legal.new.space in
-            let in_space : Answer is.state 1 (call.Type 0x100) (reply.Refused 2 InvalidName) =
-            subst (λ (n : ℕ). Answer is.state n (call.Type 0x100) (reply.Refused 2 InvalidName)) space is.answered
+            let in_space : Answer is.state 1 (asked (call.Type 0x100)) (answered (reply.Refused 2 InvalidName)) =
+            subst (λ (n : ℕ). Answer is.state n (asked (call.Type 0x100)) (answered (reply.Refused 2 InvalidName))) space is.answered
             in
-            absurd (cc (known-type (reply.Refused 2 InvalidName) is.state
-            (subst (λ (s : State). Step s 1 (call.Type 0x100) (reply.Refused 2 InvalidName) is.state) one
+            absurd (cc (known-type (answered (reply.Refused 2 InvalidName)) is.state
+            (subst (λ (s : State). Step s 1 (asked (call.Type 0x100)) (answered (reply.Refused 2 InvalidName)) is.state) one
             in_space)))
       ]
 ]
 
 -- it would be legal without the record that the session has seen
-pub older-was_legal : Legal opening_state [] (called (call.Type 0x100) (reply.Refused 2 InvalidName) ∷ [])
+pub older-was_legal : Legal opening_state [] (called (asked (call.Type 0x100)) (answered (reply.Refused 2 InvalidName)) ∷ [])
     (record new_session { tickets = 0 ∷ [] })
 older-was_legal = record {
   start = new_session;
@@ -276,18 +282,21 @@ pub redeemed-own : (redemption first_session 2 ≡ redeemed 2) × (redemption fi
 redeemed-own = (refl, refl)
 
 -- an invented record: the records aren't a run
-unallocated-acts : (acted : State) (effects : List Effect)
-    → ActsFrom opening_state 1 (finmap.get opening_state.spaces 1) (call.Deallocate 0x100) (reply.Done 7) acted effects
+unallocated-acts : (acted : Ipc) (effects : List Effect)
+    → ActsFrom opening_ipc 1 (finmap.get opening_ipc.spaces 1) (call.Deallocate 0x100) (reply.Done 7) acted effects
     → reply.Done 7 ≡ reply.Refused 7 InvalidName
 unfolding Done tests_of
 unallocated-acts acted effects = simp rows (λ (acts : _). acts.0)
 
-unallocated-step : (new : State) → Step opening_state 1 (call.Deallocate 0x100) (reply.Done 7) new
+unallocated-step : (new : State) → Step opening_state 1 (asked (call.Deallocate 0x100)) (answered (reply.Done 7)) new
     → reply.Done 7 ≡ reply.Refused 7 InvalidName
-unfolding Step
-unallocated-step new step = unallocated-acts step.0 step.1 step.2
+unfolding Step PlainStep
+unallocated-step new step = unallocated-acts step.0.0 step.0.1 step.0.2
 
 pub invented_record : (sessions : Sessions)
     → IsLegalHistory opening_state
-    (record { space = 1; call = call.Deallocate 0x100; reply = reply.Done 7 } ∷ []) sessions → ⊥
-invented_record sessions legal = absurd (cc (unallocated-step legal.run.0 legal.run.1))
+    (record { space = 1; call = asked (call.Deallocate 0x100); reply = answered (reply.Done 7) } ∷ []) sessions → ⊥
+invented_record sessions legal = elim legal.run.1 as (λ _. ⊥) [
+  | inl step ↦ absurd (cc (unallocated-step legal.run.0 step))
+  | inr is ↦ absurd is
+]

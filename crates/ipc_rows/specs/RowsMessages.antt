@@ -18,9 +18,9 @@ use Rattle.ipc_model.specs.messages.Receiving.{received_encoding, message_size, 
 use Rattle.ipc_rows.specs.RowRules.{rows}
 use Rattle.ipc_rows.specs.RowStates.{rights_to, names_of, in_space_1, with_queue, plain, live, message_count, one_port, hello, hello_as_sent, asking}
 use Rattle.ipc_model.specs.messages.Sending.{Ready, ready_to_send, sent}
-use Rattle.ipc_model.specs.state.State.{State, Names, new_port, with_port, without_name, entry_at}
+use Rattle.ipc_model.specs.state.Ipc.{Ipc, Names, new_port, with_port, without_name, entry_at}
 
-abbrev pub ready_at_1 : State → Message → Result Ready KernReturn
+abbrev pub ready_at_1 : Ipc → Message → Result Ready KernReturn
 ready_at_1 state message = Ok (record { message = message; port = 1; state = state; notices = [] })
 
 pub hello-ready : ready_to_send (one_port []) 1 hello_as_sent ≡ ready_at_1 (one_port []) hello
@@ -140,7 +140,7 @@ unfolding ready_to_send copy_in
 body-not_looked_at = simp rows
 
 -- Three send rights to the port of 0x100, made by one message that goes to 0x101.
-abbrev pub two_ports : State
+abbrev pub two_ports : Ipc
 two_ports =
     in_space_1 ((0x100, rights_to 1 true 0) ∷ (0x101, rights_to 2 true 0) ∷ []) ((1, new_port) ∷ (2, new_port) ∷ [])
 
@@ -197,7 +197,7 @@ unfolding items_of
 three-received = refl
 
 -- A message with a reply right: 0x101's port is to be answered by a send-once right.
-abbrev pub with_reply : List Message → State
+abbrev pub with_reply : List Message → Ipc
 with_reply messages =
     in_space_1 ((0x100, rights_to 1 true 1) ∷ (0x101, rights_to 2 true 0) ∷ [])
     ((1, with_queue messages) ∷ (2, new_port) ∷ [])
@@ -263,7 +263,7 @@ pub long_name-no_port : is_port_item
 long_name-no_port = refl
 
 -- a moved send-once right: its name goes, and the message isn't stopped by the limit
-abbrev pub once_name : List Message → State
+abbrev pub once_name : List Message → Ipc
 once_name messages =
     in_space_1 ((0x100, rights_to 1 true 0) ∷ (0x101, SendOnce 1 None) ∷ []) ((1, with_queue messages) ∷ [])
 
@@ -281,7 +281,7 @@ pub once-received : received_encoding (plain kind.SendOnce 9 []) 0x100 0 []
 once-received = refl
 
 -- One name is the destination and names the reply. A use that only copies a right comes before one that moves it.
-abbrev pub one_sender : State
+abbrev pub one_sender : Ipc
 one_sender = in_space_1 ((0x100, rights_to 1 false 1) ∷ []) ((1, new_port) ∷ [])
 
 pub reply-first : ready_to_send one_sender 1

@@ -3,8 +3,8 @@ use Rattle.std.specs.Prelude.{◌≡◌, ℕ, ◌-◌, ◌^◌, true, false, Lis
 use Rattle.std.specs.FinMap as finmap
 use Rattle.codes.specs.declared.kern_return.KernReturn.{KernReturn}
 use Rattle.codes.specs.declared.kern_return.KernReturn.TheVariants.{InvalidName, InvalidValue, InvalidRight, NameExists, RightExists, NotInSet, UrefsOverflow, InvalidTask, InvalidArgument, Failure}
-use Rattle.ipc_model.specs.declared.call.Call.{Call}
-use Rattle.ipc_model.specs.declared.call.Call.TheVariants as call
+use Rattle.ipc_model.specs.declared.plain_call.PlainCall.{PlainCall}
+use Rattle.ipc_model.specs.declared.plain_call.PlainCall.TheVariants as call
 use Rattle.ipc_model.specs.declared.entry.Entry.{Entry}
 use Rattle.ipc_model.specs.declared.entry.Entry.TheVariants.{Port, SendOnce, Set, Dead}
 use Rattle.ipc_model.specs.declared.message.RightKind.TheVariants as kind
@@ -18,11 +18,11 @@ use Rattle.ipc_model.specs.state.Placed.{placed, send_once_count}
 use Rattle.ipc_model.specs.calls.PortCalls.{tests_of, references_of, target_under}
 use Rattle.ipc_rows.specs.RowRules.{rows}
 use Rattle.ipc_rows.specs.RowStates.{rights_to, names_of, in_space_1, live}
-use Rattle.ipc_model.specs.state.State.{State, new_port, type_of, entry_at, with_port, members_of}
+use Rattle.ipc_model.specs.state.Ipc.{Ipc, new_port, type_of, entry_at, with_port, members_of}
 use Rattle.ipc_model.specs.calls.Tests.{first_failing}
 
 -- the code with which a call from space 1 is refused, if these are its names and ports
-abbrev pub refusal : List (ℕ × Entry) → List (ℕ × PortState) → Call → Option KernReturn
+abbrev pub refusal : List (ℕ × Entry) → List (ℕ × PortState) → PlainCall → Option KernReturn
 refusal entries ports c = first_failing (tests_of (in_space_1 entries ports) 1 (names_of entries) c)
 
 -- Names in use are known, others aren't.
@@ -86,7 +86,7 @@ pub rename-passes : refusal ((0x200, rights_to 1 true 0) ∷ []) its_port (call.
 unfolding tests_of
 rename-passes = simp rows
 
-abbrev pub renamed_state : State
+abbrev pub renamed_state : Ipc
 renamed_state =
     renamed (in_space_1 ((0x200, rights_to 1 true 0) ∷ []) its_port) 1
     (names_of ((0x200, rights_to 1 true 0) ∷ [])) 0x200 0x300 (rights_to 1 true 0)

@@ -2,7 +2,7 @@
 use Rattle.std.specs.Prelude.{◌≡◌, ℕ, Bool, true, false, nat_lt, List, [], ◌∷◌, None, Some, option_map, refl}
 use Rattle.std.specs.FinMap as finmap
 use Rattle.codes.specs.declared.kern_return.KernReturn.TheVariants.{RcvTooLarge, RcvTimedOut, RcvInSet, RcvInvalidName, RcvPortDied, RcvPortChanged}
-use Rattle.ipc_model.specs.declared.call.Call.TheVariants as call
+use Rattle.ipc_model.specs.declared.plain_call.PlainCall.TheVariants as call
 use Rattle.ipc_model.specs.declared.entry.Entry.{Entry}
 use Rattle.ipc_model.specs.declared.entry.Entry.TheVariants.{Set, Dead}
 use Rattle.ipc_model.specs.declared.message.PortInMessage.TheVariants as in_message
@@ -13,14 +13,14 @@ use Rattle.ipc_model.specs.effects.Effects.{release}
 use Rattle.ipc_model.specs.messages.Receiving.{ReceiveArguments, destination_consumed, lacks_names, message_size, without_oldest, without_message, receive_refusal, sources}
 use Rattle.ipc_rows.specs.RowRules.{rows}
 use Rattle.ipc_rows.specs.RowStates.{rights_to, names_of, in_space_1, with_queue, plain, live, queue_of, asking, hello}
-use Rattle.ipc_model.specs.state.State.{State, Names, new_port}
-use Rattle.ipc_model.specs.calls.Step.{has_record}
+use Rattle.ipc_model.specs.state.Ipc.{Ipc, Names, new_port}
+use Rattle.ipc_model.specs.calls.PlainStep.{has_record}
 
 -- a set at 0x102 with the members 0x100 and 0x101, at each of which a message waits
 abbrev pub in_set : List (ℕ × Entry)
 in_set = (0x100, rights_to 1 true 0) ∷ (0x101, rights_to 2 true 0) ∷ (0x102, Set) ∷ []
 
-abbrev pub two_members : State
+abbrev pub two_members : Ipc
 two_members = in_space_1 in_set
     ((1, record (with_queue (plain kind.SendOnce 7 [] ∷ [])) { set = Some 0x102 }) ∷
     (2, record (with_queue (plain kind.SendOnce 8 [] ∷ [])) { set = Some 0x102 }) ∷ [])

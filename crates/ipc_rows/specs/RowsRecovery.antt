@@ -7,35 +7,44 @@ use Rattle.codes.specs.declared.store_version.StoreVersion.{StoreVersion}
 use Rattle.codes.specs.declared.store_version.StoreVersion.TheVariants.{One, Two}
 use Rattle.ipc_model.specs.declared.port.PortState.{PortState}
 use Rattle.ipc_model.specs.declared.call.Call.{Call}
-use Rattle.ipc_model.specs.declared.call.Call.TheVariants as call
-use Rattle.ipc_model.specs.declared.call.Reply.{Reply}
-use Rattle.ipc_model.specs.declared.call.Reply.TheVariants as reply
+use Rattle.ipc_model.specs.declared.plain_call.PlainCall.TheVariants as call
+use Rattle.ipc_model.specs.declared.reply.Reply.{Reply}
+use Rattle.ipc_model.specs.declared.plain_reply.PlainReply.TheVariants as reply
 use Rattle.ipc_model.specs.declared.record.Record.{Record}
 use Rattle.ipc_laws.specs.BatchLaws.{one_reading, are_records-front, batch_apart, length-batch, length-record_encoding, records_are_short, same_heads}
-use Rattle.ipc_model.specs.calls.Step.{number_of_call}
+use Rattle.ipc_model.specs.calls.PlainStep.{number_of_call}
 use Rattle.ipc_model.specs.declared.entry.Entry.{Entry}
 use Rattle.std.specs.FinMap as finmap
 use Rattle.std.specs.FinMap.{get-entries, len-entries}
 use Rattle.std.specs.Ordering.{nat_cmp}
-use Rattle.ipc_model.specs.encodings.Images.{image_encoding, image_encoding_of, names_encoding, entry_encoding, port_encoding, request_encoding, space_encoding}
+use Rattle.ipc_model.specs.encodings.Images.{image_encoding, image_encoding_of, names_encoding, entry_encoding, port_encoding, kept_encoding, space_encoding}
 use Rattle.ipc_laws.specs.OpeningLaws.{opening_is_lawful, none_in_empty}
-use Rattle.ipc_model.specs.store.Recovery.{Slots, HasLimits, IsOpen, IsOfEpoch, HasHeader, HoldsImage, IsStored, Encodes, IsOtherVersion, image_header, segment_header_length}
+use Rattle.ipc_model.specs.store.Recovery.{Slots, HasLimits, KeepsWhatItMay, IsOpen, IsOfEpoch, HasHeader, HoldsImage, IsStored, Encodes, IsOtherVersion, image_header, segment_header_length}
 use Rattle.ipc_laws.specs.RecoveryLaws.{one_epoch, same_version, image_header_is, image_is_open, segment_epoch, segment_is_open}
 use Rattle.ipc_rows.specs.RowsStore.{first_allocation, first_segment, first_segment_of, segment-bytes, segment_of-bytes}
 use Rattle.ipc_laws.specs.OpeningLaws.{opening-image}
 use Rattle.ipc_laws.specs.MapLaws.{map_rules}
 use Rattle.ipc_laws.specs.Encoding.{lawful_is_encodable}
-use Rattle.ipc_laws.specs.ImageLaws.{Encodable, EncodableSpace, EncodableNames, EncodableNamed, EncodableLivePort, EncodablePort, EncodableMessage, image_once}
+use Rattle.ipc_laws.specs.ImageLaws.{Encodable, EncodableIpc, EncodableSpace, EncodableNames, EncodableNamed, EncodableLivePort, EncodablePort, EncodableMessage, image_once}
 use Rattle.std.proofs.lemmas.List.Elements.{All-nil, All-cons}
 use Rattle.ipc_rows.specs.RowRules.{rows}
-use Rattle.ipc_rows.specs.RowStates.{rights_to}
-use Rattle.ipc_model.specs.state.State.{State, Names, opening_state, new_port}
+use Rattle.ipc_rows.specs.RowStates.{answered, asked, keeps_none, rights_to}
+use Rattle.ipc_model.specs.state.Ipc.{Names, new_port}
+use Rattle.ipc_model.specs.state.State.{State, opening_state}
 use Rattle.ipc_model.specs.store.Store.{EncodesBatches, EncodesSegment, batch_encoding, all_records, AreRecords, AreWithin, LeavesAnEpoch, IsClosed, open_gate, closed_gate, epoch_encoding, segment_header, segment_header_of, image_content_of, batches_encoding}
-use Rattle.ipc_model.specs.encodings.Encodings.{IsRecord, arguments_encoding, call_encoding, reply_encoding, record_encoding, records_encoding}
+use Rattle.ipc_model.specs.encodings.Encodings.{IsRecord, call_encoding, reply_encoding, record_encoding, records_encoding}
 use Rattle.words.specs.WordLaws.{length-word, same_long_word}
 use Rattle.words.specs.Words.{word, long_word}
 use Rattle.codes.specs.KernReturn.{number_of}
 use Rattle.codes.specs.declared.limits.TheConstants.{MAX_RECORDS}
+use Rattle.ipc_model.specs.encodings.PlainCalls as plain_calls
+use Rattle.ipc_laws.specs.CanonicalRecords.{length-numbered}
+use Rattle.ipc_laws.specs.RecordedSteps.{length-numbered_reply}
+use Rattle.ipc_model.specs.declared.call.Call.TheVariants as which
+use Rattle.ipc_model.specs.declared.plain_call.PlainCall.{PlainCall}
+use Rattle.ipc_model.specs.declared.plain_reply.PlainReply.{PlainReply}
+use Rattle.ipc_model.specs.declared.reply.NumberedReply.{NumberedReply}
+use Rattle.ipc_model.specs.declared.reply.Reply.TheVariants as upper
 
 abbrev pub four : List ℕ → List ℕ → List ℕ → List ℕ → Slots
 four image0 image1 segment0 segment1 =
@@ -79,6 +88,10 @@ opening_slot-length epoch = omega (arith, ap length opening-image)
 pub opening_slot-length_of_version_one : (epoch : ℕ) → length (opening_slot_of One epoch) ≡ 48
 opening_slot-length_of_version_one epoch = omega (arith, ap length opening-image_of_version_one)
 
+none_kept : (version : StoreVersion) → KeepsWhatItMay version opening_state
+none_kept One = refl
+none_kept Two = tt
+
 pub opening_slot-holds : (version : StoreVersion) (epoch : ℕ)
     → HoldsImage epoch (opening_slot_of version epoch) opening_state
 opening_slot-holds version epoch = record {
@@ -90,6 +103,7 @@ opening_slot-holds version epoch = record {
   acyclic = opening_is_lawful.1;
   short = λ (serial : ℕ) (port : PortState) (there : _). absurd (none_in_empty serial port there);
   limits = λ (serial : ℕ) (port : PortState) (there : _). absurd (none_in_empty serial port there);
+  kept = none_kept version;
 }
 
 -- what stands in it after the epoch
@@ -116,7 +130,7 @@ leaves_an_epoch Two epoch leaves = tt
 -- the record of the first allocation, and the segment that encodes it
 
 pub first_allocation-is : IsRecord first_allocation
-unfolding call_encoding reply_encoding
+unfolding plain_calls.call_encoding plain_calls.reply_encoding
 first_allocation-is = record {
   space = omega arith;
   call = record { fits = omega arith; whole = tt; kept = refl };
@@ -326,7 +340,7 @@ cut_to_16-encodes = encodes_by_segment Two Two [] [] (record {
 
 -- truncated after the batch, so that the closed gate is missing: the record all the same
 pub cut_to_69-encodes : Encodes (with_segment (take 69 first_segment)) opening_state (first_allocation ∷ [])
-unfolding batch_encoding record_encoding call_encoding reply_encoding
+unfolding batch_encoding record_encoding plain_calls.call_encoding plain_calls.reply_encoding
 cut_to_69-encodes = encodes_by_segment Two Two (take 53 (drop 16 first_segment)) (first_allocation ∷ []) (record {
   version = Two;
   content = take 53 (drop 16 first_segment);
@@ -525,17 +539,27 @@ cut_to_68-damaged = no_batch_damaged (take 51 (drop 17 first_segment)) (λ (b : 
     (omega arith) in
     absurd (omega (arith, batch_long (take 51 (drop 17 first_segment)) b, counts.1)))
 
+plain_call_long : (c : PlainCall) → 4 ≤ length (plain_calls.call_encoding c)
+unfolding plain_calls.call_encoding
+plain_call_long c =
+    omega (arith, length-append (word (number_of_call c)) (plain_calls.arguments_encoding c), length-word (number_of_call c))
+
 call_long : (c : Call) → 4 ≤ length (call_encoding c)
-unfolding call_encoding
-call_long c =
-    omega (arith, length-append (word (number_of_call c)) (arguments_encoding c), length-word (number_of_call c))
+call_long (which.Plain c) = plain_call_long c
+call_long (which.Numbered numbered) = omega (arith, length-numbered numbered)
+call_long which.Unnumberable = omega arith
+
+plain_reply_long : (r : PlainReply) → 4 ≤ length (plain_calls.reply_encoding r)
+unfolding plain_calls.reply_encoding
+plain_reply_long (reply.Refused number code) =
+    omega (arith, length-append (word number) (word (number_of code)), length-word number)
+plain_reply_long (reply.Done number) = omega (arith, length-append (word number) (word 0 ++ []), length-word number)
+plain_reply_long r = omega arith
 
 reply_long : (r : Reply) → 4 ≤ length (reply_encoding r)
-unfolding reply_encoding
-reply_long (reply.Refused number code) =
-    omega (arith, length-append (word number) (word (number_of code)), length-word number)
-reply_long (reply.Done number) = omega (arith, length-append (word number) (word 0 ++ []), length-word number)
-reply_long r = omega arith
+reply_long (upper.Plain r) = plain_reply_long r
+reply_long (upper.Numbered kept) = omega (arith, length-numbered_reply kept)
+reply_long (upper.Repeated kept) = omega (arith, length-numbered_reply kept)
 
 -- a batch that says that it has two records, and has one
 two_are_longer : (batch : List Record) → length batch ≡ 2 → 56 ≤ length (records_encoding 0 batch)
@@ -585,10 +609,10 @@ version_is version epoch of_header records rest s =
 
 -- a record that sets a queue's limit to 17
 abbrev pub wide_limit : Record
-wide_limit = record { space = 1; call = call.SetQlimit 0x100 17; reply = reply.Done 10 }
+wide_limit = record { space = 1; call = asked (call.SetQlimit 0x100 17); reply = answered (reply.Done 10) }
 
 wide_limit-is : IsRecord wide_limit
-unfolding call_encoding reply_encoding
+unfolding plain_calls.call_encoding plain_calls.reply_encoding
 wide_limit-is = record {
   space = omega arith;
   call = record { fits = (omega arith, omega arith); whole = tt; kept = refl };
@@ -654,25 +678,25 @@ old_last_epoch-damaged records s =
 
 -- an image of a port whose queue may hold 17 messages
 abbrev pub wide_port : State
-wide_port = record {
+wide_port = keeps_none (record {
   spaces = finmap.insert finmap.empty 1 (finmap.insert finmap.empty 0x100 (rights_to 1 true 0));
   ports = finmap.insert finmap.empty 1 (record new_port { limit = 17 });
   next = 2;
-}
+})
 
 abbrev wide_port_names : Names
 wide_port_names = finmap.insert finmap.empty 0x100 (rights_to 1 true 0)
 
-wide_port-spaces : finmap.entries wide_port.spaces ≡ (1, wide_port_names) ∷ []
+wide_port-spaces : finmap.entries wide_port.ipc.spaces ≡ (1, wide_port_names) ∷ []
 wide_port-spaces = simp rows
 
 wide_port-names : finmap.entries wide_port_names ≡ (0x100, rights_to 1 true 0) ∷ []
 wide_port-names = simp rows
 
-wide_port-ports : finmap.entries wide_port.ports ≡ (1, record new_port { limit = 17 }) ∷ []
+wide_port-ports : finmap.entries wide_port.ipc.ports ≡ (1, record new_port { limit = 17 }) ∷ []
 wide_port-ports = simp rows
 
-wide_port-there : finmap.get wide_port.ports 1 ≡ Some (record new_port { limit = 17 })
+wide_port-there : finmap.get wide_port.ipc.ports 1 ≡ Some (record new_port { limit = 17 })
 wide_port-there = simp rows
 
 wide_port_names-encodable : EncodableNames wide_port_names
@@ -696,19 +720,25 @@ wide_limit_port-encodable = record {
   messages = All-nil EncodableMessage;
 }
 
-wide_port-encodable : Encodable wide_port
-wide_port-encodable = record {
+wide_ipc-encodable : EncodableIpc wide_port.ipc
+wide_ipc-encodable = record {
   next = omega arith;
-  few_spaces = omega (arith, len-entries wide_port.spaces, ap length wide_port-spaces);
+  few_spaces = omega (arith, len-entries wide_port.ipc.spaces, ap length wide_port-spaces);
   spaces =
       subst (All EncodableSpace) (sym wide_port-spaces)
       (All-cons EncodableSpace (1, wide_port_names) [] (omega arith, wide_port_names-encodable)
       (All-nil EncodableSpace));
-  few_ports = omega (arith, len-entries wide_port.ports, ap length wide_port-ports);
+  few_ports = omega (arith, len-entries wide_port.ipc.ports, ap length wide_port-ports);
   ports =
       subst (All EncodableLivePort) (sym wide_port-ports)
       (All-cons EncodableLivePort (1, record new_port { limit = 17 }) [] (omega arith, wide_limit_port-encodable)
       (All-nil EncodableLivePort));
+}
+
+wide_port-encodable : Encodable wide_port
+wide_port-encodable = record {
+  ipc = wide_ipc-encodable;
+  kept = λ (space : ℕ) (kept : NumberedReply) (at : _). absurd (none_in_empty space kept at);
 }
 
 pub wide_port-damaged : (epoch : ℕ) (base : State)
@@ -721,7 +751,8 @@ wide_port-damaged epoch base holds =
     ap (λ (l : List ℕ). drop 24 l) holds.encoding in
     let same : wide_port ≡ base =
     (image_once One wide_port base [] holds.rest wide_port-encodable
-    (lawful_is_encodable base holds.lawful holds.short)
+    (lawful_is_encodable base holds.lawful holds.short) refl
+    (subst (λ u. KeepsWhatItMay u base) is_one holds.kept)
     (append-nil (image_encoding_of One wide_port)
     ∙ subst (λ u. image_encoding_of One wide_port ≡ image_encoding_of u base ++ holds.rest) is_one encodings)).0 in
     let limits : HasLimits One wide_port =
@@ -792,30 +823,30 @@ corrupted_image = four (opening_slot 4) corrupted_slot (empty_segment 4) (empty_
 
 -- every image of a lawful state has more
 image_long : (version : StoreVersion) (state : State) → 24 ≤ length (image_encoding_of version state)
-    ⊎ (finmap.get state.spaces 1 ≡ None)
+    ⊎ (finmap.get state.ipc.spaces 1 ≡ None)
 unfolding image_encoding_of
 image_long version state =
-    elim (finmap.entries state.spaces)
-    as (λ (es : List (ℕ × Names)). finmap.entries state.spaces ≡ es
-    → (24 ≤ length (image_encoding_of version state)) ⊎ (finmap.get state.spaces 1 ≡ None)) [
-      | [] ↦ λ (is : _). inr (get-entries state.spaces 1 ∙ ap (finmap.find nat_cmp 1) is)
+    elim (finmap.entries state.ipc.spaces)
+    as (λ (es : List (ℕ × Names)). finmap.entries state.ipc.spaces ≡ es
+    → (24 ≤ length (image_encoding_of version state)) ⊎ (finmap.get state.ipc.spaces 1 ≡ None)) [
+      | [] ↦ λ (is : _). inr (get-entries state.ipc.spaces 1 ∙ ap (finmap.find nat_cmp 1) is)
       | e ∷ es ↦ λ (is : _).
-          let spaces : List ℕ = flat_map (space_encoding version) (finmap.entries state.spaces) in
+          let spaces : List ℕ = flat_map (space_encoding version state.kept) (finmap.entries state.ipc.spaces) in
           let ports : List ℕ =
-          flat_map (λ (p : ℕ × PortState). long_word p.0 ++ port_encoding p.1) (finmap.entries state.ports) in
+          flat_map (λ (p : ℕ × PortState). long_word p.0 ++ port_encoding p.1) (finmap.entries state.ipc.ports) in
           let names : List ℕ = flat_map (λ (n : ℕ × Entry). word n.0 ++ entry_encoding n.1) (finmap.entries e.1) in
-          let others : List ℕ = flat_map (space_encoding version) es in
+          let others : List ℕ = flat_map (space_encoding version state.kept) es in
           inl (omega (
             arith,
-            length-append (long_word state.next)
-                (word (finmap.len state.spaces) ++ (spaces ++ (word (finmap.len state.ports) ++ ports))),
-            length-append (word (finmap.len state.spaces)) (spaces ++ (word (finmap.len state.ports) ++ ports)),
-            length-append spaces (word (finmap.len state.ports) ++ ports),
-            length-append (word (finmap.len state.ports)) ports,
-            ap (λ (l : List (ℕ × Names)). length (flat_map (space_encoding version) l)) is,
-            length-append (space_encoding version e) others,
-            length-append (word e.0) (request_encoding version ++ names_encoding e.1),
-            length-append (request_encoding version) (names_encoding e.1),
+            length-append (long_word state.ipc.next)
+                (word (finmap.len state.ipc.spaces) ++ (spaces ++ (word (finmap.len state.ipc.ports) ++ ports))),
+            length-append (word (finmap.len state.ipc.spaces)) (spaces ++ (word (finmap.len state.ipc.ports) ++ ports)),
+            length-append spaces (word (finmap.len state.ipc.ports) ++ ports),
+            length-append (word (finmap.len state.ipc.ports)) ports,
+            ap (λ (l : List (ℕ × Names)). length (flat_map (space_encoding version state.kept) l)) is,
+            length-append (space_encoding version state.kept e) others,
+            length-append (word e.0) (kept_encoding version (finmap.get state.kept e.0) ++ names_encoding e.1),
+            length-append (kept_encoding version (finmap.get state.kept e.0)) (names_encoding e.1),
             length-append (word (finmap.len e.1)) names,
           ))
     ] refl
@@ -828,7 +859,7 @@ corrupted_holds_none epoch base holds =
     (omega arith) (sym (ap (λ (l : List ℕ). drop 16 l) holds.encoding)) in
     elim (image_long holds.version base) as (λ _. ⊥) [
       | inl long ↦ absurd (omega (arith, says, long))
-      | inr none ↦ cc (sym none ∙ holds.lawful.first_space.1)
+      | inr none ↦ cc (sym none ∙ holds.lawful.ipc.first_space.1)
     ]
 
 pub corrupted_image-damaged : (base : State) (records : List Record) → Encodes corrupted_image base records → ⊥

@@ -13,24 +13,24 @@ use Rattle.ipc_rows.specs.RowRules.{rows, take_one}
 use Rattle.ipc_rows.specs.RowsMessages.{two_ports, three_as_sent, three_rights}
 use Rattle.ipc_rows.specs.RowStates.{live}
 use Rattle.ipc_model.specs.messages.Sending.{ready_to_send, take_items, TakenRights}
-use Rattle.ipc_model.specs.state.State.{State, with_port, next_count}
+use Rattle.ipc_model.specs.state.Ipc.{Ipc, with_port, next_count}
 
 -- one send right more was made from the receive right of a port
-abbrev pub made_from : ℕ → State → State
+abbrev pub made_from : ℕ → Ipc → Ipc
 made_from serial state =
     with_port state serial (λ port. record port { make_send_count = next_count port.make_send_count })
 
 -- the destination's right, and the three
-abbrev pub start : State
+abbrev pub start : Ipc
 start = made_from 2 two_ports
 
-abbrev pub one_made : State
+abbrev pub one_made : Ipc
 one_made = made_from 1 start
 
-abbrev pub two_made : State
+abbrev pub two_made : Ipc
 two_made = made_from 1 one_made
 
-abbrev pub three_made : State
+abbrev pub three_made : Ipc
 three_made = made_from 1 two_made
 
 pub destination-taken : copy_in two_ports 1 0x101 MakeSend ≡ Some (taken_keeping start (live kind.Send 2))
@@ -49,7 +49,7 @@ pub third-taken : copy_in two_made 1 0x100 MakeSend ≡ Some (taken_keeping thre
 unfolding copy_in
 third-taken = simp rows
 
-abbrev pub with_rights : ℕ → State → TakenRights
+abbrev pub with_rights : ℕ → Ipc → TakenRights
 with_rights n state = record { rights = replicate n (live kind.Send 1); state = state; notices = [] }
 
 abbrev pub three_items : List Item

@@ -1,8 +1,8 @@
 -- Worked examples of rules that are easily misread.
 use Rattle.std.specs.Prelude.{◌≡◌, ℕ, true, false, List, [], ◌∷◌, None, Some, refl}
 use Rattle.codes.specs.declared.kern_return.KernReturn.TheVariants.{InvalidName, InvalidTask, UrefsOverflow, RcvTooLarge}
-use Rattle.ipc_model.specs.declared.call.Call.TheVariants as call
-use Rattle.ipc_model.specs.declared.call.Reply.TheVariants as reply
+use Rattle.ipc_model.specs.declared.plain_call.PlainCall.TheVariants as call
+use Rattle.ipc_model.specs.declared.plain_reply.PlainReply.TheVariants as reply
 use Rattle.ipc_model.specs.declared.entry.Entry.{Entry}
 use Rattle.ipc_model.specs.declared.entry.Entry.TheVariants.{Port, SendOnce, Set, Dead}
 use Rattle.ipc_model.specs.declared.message.RightKind.TheVariants as kind
@@ -18,8 +18,8 @@ use Rattle.ipc_model.specs.calls.PortCalls.{tests_of, target_of_port}
 use Rattle.ipc_rows.specs.RowRules.{rows}
 use Rattle.ipc_rows.specs.RowStates.{rights_to, names_of, in_space_1, plain, queue_of, message_count}
 use Rattle.ipc_model.specs.messages.Sending.{Ready, ports_in, sent}
-use Rattle.ipc_model.specs.state.State.{State, new_port}
-use Rattle.ipc_model.specs.calls.Step.{refused, has_record}
+use Rattle.ipc_model.specs.state.Ipc.{Ipc, new_port}
+use Rattle.ipc_model.specs.calls.PlainStep.{refused, has_record}
 use Rattle.ipc_model.specs.calls.Tests.{first_failing}
 
 -- a caller whose space is gone: a send has its results in the refusal, another call has none
@@ -53,7 +53,7 @@ destroyed-effects = simp rows refl
 
 -- a name that copy in has emptied isn't in use any more: request_notification finds no name, insert_right may use it
 -- again
-abbrev pub one_send_once : State
+abbrev pub one_send_once : Ipc
 one_send_once = in_space_1 ((0x100, SendOnce 1 None) ∷ []) ((1, new_port) ∷ [])
 
 pub emptied-request : first_failing
@@ -68,7 +68,7 @@ unfolding tests_of copy_in
 emptied-insert = simp rows refl
 
 -- a dead name with 65,535 references takes no notification that is sent at once
-abbrev pub crowded_dead : State
+abbrev pub crowded_dead : Ipc
 crowded_dead = in_space_1 ((0x100, rights_to 1 true 0) ∷ (0x101, Dead 65535) ∷ []) ((1, new_port) ∷ [])
 
 pub crowded-request : first_failing
@@ -109,12 +109,12 @@ pub former_target-dead : entry_after_death 1
 former_target-dead = refl
 
 -- a no-senders request is kept where fewer send rights were made than its sync says; the sync itself is forgotten
-abbrev pub sendless : State
+abbrev pub sendless : Ipc
 sendless =
     in_space_1 ((0x100, rights_to 1 true 0) ∷ (0x101, rights_to 2 true 0) ∷ [])
     ((1, record new_port { make_send_count = 3 }) ∷ (2, new_port) ∷ [])
 
-abbrev pub requesting : State
+abbrev pub requesting : Ipc
 requesting =
     in_space_1 ((0x100, rights_to 1 true 0) ∷ (0x101, rights_to 2 true 0) ∷ [])
     ((1, record new_port { make_send_count = 3; no_senders_target = Some 2 }) ∷ (2, new_port) ∷ [])
@@ -145,7 +145,7 @@ unfolding sent is_circular
 queued-first = (simp rows, refl)
 
 -- a receive from a set may take the oldest message of any member: every member is a source
-abbrev pub two_members : State
+abbrev pub two_members : Ipc
 two_members =
     in_space_1 ((0x100, rights_to 1 true 0) ∷ (0x101, rights_to 2 true 0) ∷ (0x102, Set) ∷ [])
     ((1, record new_port { set = Some 0x102 }) ∷ (2, record new_port { set = Some 0x102 }) ∷ [])

@@ -2,10 +2,10 @@
 use Rattle.std.specs.Prelude.{◌≡◌, true, false, replicate, List, [], ◌∷◌, Option, None, Some, refl}
 use Rattle.std.specs.FinMap as finmap
 use Rattle.codes.specs.declared.kern_return.KernReturn.TheVariants.{Success, InvalidName, InvalidTask, SendTimedOut}
-use Rattle.ipc_model.specs.declared.call.Call.{Call}
-use Rattle.ipc_model.specs.declared.call.Reply.{Reply}
-use Rattle.ipc_model.specs.declared.call.Call.TheVariants as call
-use Rattle.ipc_model.specs.declared.call.Reply.TheVariants as reply
+use Rattle.ipc_model.specs.declared.plain_call.PlainCall.{PlainCall}
+use Rattle.ipc_model.specs.declared.plain_reply.PlainReply.{PlainReply}
+use Rattle.ipc_model.specs.declared.plain_call.PlainCall.TheVariants as call
+use Rattle.ipc_model.specs.declared.plain_reply.PlainReply.TheVariants as reply
 use Rattle.ipc_model.specs.declared.entry.Entry.TheVariants.{Dead}
 use Rattle.ipc_model.specs.declared.message.RightKind.TheVariants as kind
 use Rattle.ipc_model.specs.calls.Actions.{Done, allocated}
@@ -20,54 +20,54 @@ use Rattle.ipc_laws.specs.MapLaws.{map_rules}
 use Rattle.ipc_rows.specs.RowRules.{rows, settles_adding, take_one, entry-after_death}
 use Rattle.ipc_rows.specs.RowStates.{rights_to, names_of, in_space_1, with_queue, live, one_port, hello, hello_as_sent}
 use Rattle.ipc_model.specs.messages.Sending.{ready_to_send, sent, take_items, TakenRights}
-use Rattle.ipc_model.specs.state.State.{State, opening_state, new_port, with_names, with_port, with_entry, entry_at}
+use Rattle.ipc_model.specs.state.Ipc.{Ipc, opening_ipc, new_port, with_names, with_port, with_entry, entry_at}
 use Rattle.std.proofs.Common.{ap, ◌∙◌, arith}
 use Rattle.ipc_model.specs.messages.Receiving.{without_oldest}
-use Rattle.ipc_model.specs.calls.Step.{Step, ActsFrom}
+use Rattle.ipc_model.specs.calls.PlainStep.{PlainStep, ActsFrom}
 
 -- the type of a name that is in use, and of one that isn't
-pub type-step : Step (one_port []) 1 (call.Type 0x100) (reply.Type 0x30000) (one_port [])
-unfolding Step Done tests_of
+pub type-step : PlainStep (one_port []) 1 (call.Type 0x100) (reply.Type 0x30000) (one_port [])
+unfolding PlainStep Done tests_of
 type-step = (one_port [], [], simp rows (refl, refl, refl), settled)
 
-pub unknown-step : Step (one_port []) 1 (call.Type 0x1ff) (reply.Refused 2 InvalidName) (one_port [])
-unfolding Step Done tests_of
+pub unknown-step : PlainStep (one_port []) 1 (call.Type 0x1ff) (reply.Refused 2 InvalidName) (one_port [])
+unfolding PlainStep Done tests_of
 unknown-step = (one_port [], [], simp rows (refl, refl, refl), settled)
 
 -- a caller whose space is gone
-pub gone-step : Step (one_port []) 2 (call.Type 0x100) (reply.Refused 2 InvalidTask) (one_port [])
-unfolding Step
+pub gone-step : PlainStep (one_port []) 2 (call.Type 0x100) (reply.Refused 2 InvalidTask) (one_port [])
+unfolding PlainStep
 gone-step = (one_port [], [], simp rows (refl, refl, refl), settled)
 
 -- a message is sent, and stands in the queue
-pub send-step : Step (one_port []) 1 (call.Send hello_as_sent) (reply.Message Success 0 0 [])
+pub send-step : PlainStep (one_port []) 1 (call.Send hello_as_sent) (reply.Message Success 0 0 [])
     (queued (one_port []) 1 hello)
-unfolding Step ready_to_send copy_in sent
+unfolding PlainStep ready_to_send copy_in sent
 send-step = (queued (one_port []) 1 hello, [], simp rows (refl, refl, refl), settled)
 
 -- a sixth message is stopped by the limit, and nothing changes
-pub full-step : Step (one_port (replicate 5 hello)) 1 (call.Send hello_as_sent) (reply.Message SendTimedOut 0 0 [])
+pub full-step : PlainStep (one_port (replicate 5 hello)) 1 (call.Send hello_as_sent) (reply.Message SendTimedOut 0 0 [])
     (one_port (replicate 5 hello))
-unfolding Step ready_to_send copy_in
+unfolding PlainStep ready_to_send copy_in
 full-step = (one_port (replicate 5 hello), [], simp rows (refl, refl, refl), settled)
 
 -- The first name that a new store's task allocates.
-pub allocate-acts : ActsFrom opening_state 1 (finmap.get opening_state.spaces 1) (call.Allocate 1)
-    (reply.Allocate 0x100) (allocated opening_state 1 finmap.empty 1 0x100) []
+pub allocate-acts : ActsFrom opening_ipc 1 (finmap.get opening_ipc.spaces 1) (call.Allocate 1)
+    (reply.Allocate 0x100) (allocated opening_ipc 1 finmap.empty 1 0x100) []
 unfolding Done tests_of
 allocate-acts =
     simp rows (0x100, record { least = omega arith; below_dead = omega arith; free = simp map_rules }, refl, refl, refl)
 
-pub allocate-step : Step opening_state 1 (call.Allocate 1) (reply.Allocate 0x100)
-    (allocated opening_state 1 finmap.empty 1 0x100)
-unfolding Step
-allocate-step = (allocated opening_state 1 finmap.empty 1 0x100, [], allocate-acts, settled)
+pub allocate-step : PlainStep opening_ipc 1 (call.Allocate 1) (reply.Allocate 0x100)
+    (allocated opening_ipc 1 finmap.empty 1 0x100)
+unfolding PlainStep
+allocate-step = (allocated opening_ipc 1 finmap.empty 1 0x100, [], allocate-acts, settled)
 
 -- A send right is made under the same name.
-abbrev pub alone : State
+abbrev pub alone : Ipc
 alone = in_space_1 ((0x100, rights_to 1 true 0) ∷ []) ((1, new_port) ∷ [])
 
-abbrev pub with_sender : State
+abbrev pub with_sender : Ipc
 with_sender =
     with_names (with_port alone 1 (λ port. record port { make_send_count = 1 })) 1
     (finmap.insert (names_of ((0x100, rights_to 1 true 0) ∷ [])) 0x100 (rights_to 1 true 1))
@@ -77,15 +77,15 @@ pub insert-acts : ActsFrom alone 1 (finmap.get alone.spaces 1) (call.InsertRight
 unfolding Done tests_of copy_in
 insert-acts = simp rows (refl, (refl, refl))
 
-pub insert-step : Step alone 1 (call.InsertRight 0x100 0x100 20) (reply.Done 17) with_sender
-unfolding Step
+pub insert-step : PlainStep alone 1 (call.InsertRight 0x100 0x100 20) (reply.Done 17) with_sender
+unfolding PlainStep
 insert-step = (with_sender, [], insert-acts, settled)
 
 -- A receive brings the message, and releases the send right by which it came.
-abbrev pub received_state : State
+abbrev pub received_state : Ipc
 received_state = with_names (without_oldest (one_port (hello ∷ [])) 1) 1 (names_of ((0x100, rights_to 1 true 1) ∷ []))
 
-abbrev pub hello_received : Reply
+abbrev pub hello_received : PlainReply
 hello_received =
     reply.Message Success 28 0x100
     (0 ∷ 17 ∷ 0 ∷ 0 ∷ 28 ∷ 0 ∷ 0 ∷ 0 ∷ 0 ∷ 0 ∷ 0 ∷ 0 ∷ 0 ∷ 1 ∷ 0 ∷ 0 ∷ 0 ∷ 0 ∷ 0 ∷ 0 ∷ 7 ∷ 0 ∷ 0 ∷ 0 ∷ 68 ∷ 51 ∷ 34
@@ -110,9 +110,9 @@ pub receive-released : (effect received_state (release kind.Send 1)).1 ≡ []
 unfolding effect placed
 receive-released = simp rows
 
-pub receive-step : Step (one_port (hello ∷ [])) 1 (call.Receive 28 false 0x100 false) hello_received
+pub receive-step : PlainStep (one_port (hello ∷ [])) 1 (call.Receive 28 false 0x100 false) hello_received
     (effect received_state (release kind.Send 1)).0
-unfolding Step
+unfolding PlainStep
 receive-step = (received_state, release kind.Send 1 ∷ [], receive-acts, settles_adding [] receive-released settled)
 
 pub receive-left : (effect received_state (release kind.Send 1)).0 ≡ received_state
@@ -120,13 +120,13 @@ unfolding effect placed
 receive-left = simp rows
 
 -- A receive right that is sent to its own port, as bytes. The name keeps its two send references.
-abbrev pub owner : State
+abbrev pub owner : Ipc
 owner = in_space_1 ((0x100, rights_to 1 true 2) ∷ []) ((1, new_port) ∷ [])
 
-abbrev pub moved : State
+abbrev pub moved : Ipc
 moved = with_entry (moved_port owner 1) 1 0x100 (rights_to 1 false 2)
 
-abbrev pub circle : Call
+abbrev pub circle : PlainCall
 circle =
     call.Send (19 ∷ 0 ∷ 0 ∷ 128 ∷ 32 ∷ 0 ∷ 0 ∷ 0 ∷ 0 ∷ 1 ∷ 0 ∷ 0 ∷ 0 ∷ 0 ∷ 0 ∷ 0 ∷ 0 ∷ 0 ∷ 0 ∷ 0 ∷ 9 ∷ 0 ∷ 0 ∷ 0 ∷ 16 ∷
     32 ∷ 1 ∷ 16 ∷ 0 ∷ 1 ∷ 0 ∷ 0 ∷ [])
@@ -143,7 +143,7 @@ circle-right = simp rows
 abbrev pub circle_items : List Item
 circle_items = (record { type_name = 16; bits = 32; number = 1; is_long = false; content = 0 ∷ 1 ∷ 0 ∷ 0 ∷ [] }) ∷ []
 
-abbrev pub none_taken : State → TakenRights
+abbrev pub none_taken : Ipc → TakenRights
 none_taken state = record { rights = []; state = state; notices = [] }
 
 pub circle-rights : take_items 1 circle_items (none_taken owner)
@@ -168,11 +168,11 @@ pub circle-second : (effect (effect moved (release kind.Send 1)).0 (release kind
 unfolding effect placed
 circle-second = simp rows
 
-abbrev pub circle_end : State
+abbrev pub circle_end : Ipc
 circle_end = (effect (effect moved (release kind.Send 1)).0 (release kind.Receive 1)).0
 
-pub circle-step : Step owner 1 circle (reply.Message Success 0 0 []) circle_end
-unfolding Step
+pub circle-step : PlainStep owner 1 circle (reply.Message Success 0 0 []) circle_end
+unfolding PlainStep
 circle-step = (
   moved,
   release kind.Send 1 ∷ release kind.Receive 1 ∷ [],
@@ -191,5 +191,5 @@ circle-died = simp rows
 
 pub circle-dead : entry_at circle_end 1 0x100 ≡ Some (Dead 2)
 circle-dead =
-    ap (λ (s : State). entry_at (effect s (release kind.Receive 1)).0 1 0x100) circle-left ∙ ap
-    (λ (s : State). entry_at s 1 0x100) circle-died ∙ entry-after_death moved 1 1 0x100 ∙ simp rows
+    ap (λ (s : Ipc). entry_at (effect s (release kind.Receive 1)).0 1 0x100) circle-left ∙ ap
+    (λ (s : Ipc). entry_at s 1 0x100) circle-died ∙ entry-after_death moved 1 1 0x100 ∙ simp rows

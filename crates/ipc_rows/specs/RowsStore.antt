@@ -3,15 +3,17 @@ use Rattle.std.specs.Prelude.{◌≡◌, ℕ, List, [], ◌∷◌, ◌++◌, len
 use Rattle.codes.specs.StoreVersion.{version_number}
 use Rattle.codes.specs.declared.store_version.StoreVersion.{StoreVersion}
 use Rattle.codes.specs.declared.store_version.StoreVersion.TheVariants.{One, Two}
-use Rattle.ipc_model.specs.declared.call.Call.TheVariants as call
-use Rattle.ipc_model.specs.declared.call.Reply.TheVariants as reply
+use Rattle.ipc_model.specs.declared.plain_call.PlainCall.TheVariants as call
+use Rattle.ipc_model.specs.declared.plain_reply.PlainReply.TheVariants as reply
 use Rattle.ipc_model.specs.declared.record.Record.{Record}
 use Rattle.ipc_model.specs.store.Store.{open_gate, closed_gate, segment_header, segment_header_of, batch_encoding, batches_encoding}
-use Rattle.ipc_model.specs.encodings.Encodings.{call_encoding, reply_encoding, record_encoding}
+use Rattle.ipc_model.specs.encodings.Encodings.{record_encoding}
+use Rattle.ipc_rows.specs.RowStates.{answered, asked}
+use Rattle.ipc_model.specs.encodings.PlainCalls as plain_calls
 
 -- space 1 allocated a receive right, and got the name 0x100
 abbrev pub first_allocation : Record
-first_allocation = record { space = 1; call = call.Allocate 1; reply = reply.Allocate 0x100 }
+first_allocation = record { space = 1; call = asked (call.Allocate 1); reply = answered (reply.Allocate 0x100) }
 
 -- A segment of epoch 0 with one batch of this record, and a closed gate after it, in 70 bytes. Its byte 1 is the
 -- version's number; else both versions have the same bytes.
@@ -30,7 +32,7 @@ first_segment = first_segment_of Two
 
 pub segment_of-bytes : (version : StoreVersion) → segment_header_of version open_gate 0
     ++ (batches_encoding 0 ((first_allocation ∷ []) ∷ []) ++ closed_gate ∷ []) ≡ first_segment_of version
-unfolding batch_encoding record_encoding call_encoding reply_encoding
+unfolding batch_encoding record_encoding plain_calls.call_encoding plain_calls.reply_encoding
 segment_of-bytes version = refl
 
 pub segment-bytes : segment_header open_gate 0

@@ -5,26 +5,28 @@ use Rattle.std.specs.FinMap as finmap
 use Rattle.codes.specs.declared.store_version.StoreVersion.TheVariants.{One}
 use Rattle.codes.specs.declared.kern_return.KernReturn.TheVariants.{Success, InvalidValue, RcvTooLarge}
 use Rattle.ipc_model.specs.declared.call.Call.{Call}
-use Rattle.ipc_model.specs.declared.call.Call.TheVariants as call
-use Rattle.ipc_model.specs.declared.call.Reply.{Reply}
-use Rattle.ipc_model.specs.declared.call.Reply.TheVariants as reply
+use Rattle.ipc_model.specs.declared.plain_call.PlainCall.TheVariants as call
+use Rattle.ipc_model.specs.declared.reply.Reply.{Reply}
+use Rattle.ipc_model.specs.declared.plain_reply.PlainReply.TheVariants as reply
 use Rattle.ipc_model.specs.declared.record.Record.{Record}
 use Rattle.ipc_model.specs.messages.Kept.{canonical_message, used_bits}
 use Rattle.ipc_model.specs.messages.Messages.{used_parts}
 use Rattle.ipc_model.specs.encodings.Images.{image_encoding, image_encoding_of}
 use Rattle.ipc_rows.specs.RowRules.{rows}
-use Rattle.ipc_rows.specs.RowStates.{rights_to}
-use Rattle.ipc_model.specs.state.State.{State, new_port}
-use Rattle.ipc_model.specs.encodings.Encodings.{arguments_encoding, call_encoding, reply_encoding, record_encoding, IsRecord}
+use Rattle.ipc_rows.specs.RowStates.{answered, asked, keeps_none, rights_to}
+use Rattle.ipc_model.specs.state.Ipc.{new_port}
+use Rattle.ipc_model.specs.state.State.{State}
+use Rattle.ipc_model.specs.encodings.Encodings.{call_encoding, reply_encoding, record_encoding, IsRecord}
 use Rattle.words.specs.Words.{AreBytes, frame_encoding}
+use Rattle.ipc_model.specs.encodings.PlainCalls as plain_calls
 
 -- after the first receive right was allocated
 abbrev pub with_one_port : State
-with_one_port = record {
+with_one_port = keeps_none (record {
   spaces = finmap.insert finmap.empty 1 (finmap.insert finmap.empty 0x100 (rights_to 1 true 0));
   ports = finmap.insert finmap.empty 1 new_port;
   next = 2;
-}
+})
 
 -- in 98 bytes; after the space's number stands that of its last request, 0
 pub one_port-image : image_encoding with_one_port
@@ -45,67 +47,67 @@ unfolding image_encoding_of
 one_port-image_of_version_one = simp rows
 
 -- the frame that allocates a receive right, and the reply's
-pub allocate-frame : frame_encoding (call_encoding (call.Allocate 1))
+pub allocate-frame : frame_encoding (call_encoding (asked (call.Allocate 1)))
     ≡ 8 ∷ 0 ∷ 0 ∷ 0 ∷ 5 ∷ 0 ∷ 0 ∷ 0 ∷ 1 ∷ 0 ∷ 0 ∷ 0 ∷ []
-unfolding call_encoding
+unfolding plain_calls.call_encoding
 allocate-frame = refl
 
-pub allocated-frame : frame_encoding (reply_encoding (reply.Allocate 0x100))
+pub allocated-frame : frame_encoding (reply_encoding (answered (reply.Allocate 0x100)))
     ≡ 12 ∷ 0 ∷ 0 ∷ 0 ∷ 5 ∷ 0 ∷ 0 ∷ 0 ∷ 0 ∷ 0 ∷ 0 ∷ 0 ∷ 0 ∷ 1 ∷ 0 ∷ 0 ∷ []
-unfolding reply_encoding
+unfolding plain_calls.reply_encoding
 allocated-frame = refl
 
 -- the first record of an epoch
-pub first-record : record_encoding 0 (record { space = 1; call = call.Allocate 1; reply = reply.Allocate 0x100 })
+pub first-record : record_encoding 0 (record { space = 1; call = asked (call.Allocate 1); reply = answered (reply.Allocate 0x100) })
     ≡ 0 ∷ 0 ∷ 0 ∷ 0 ∷ 0 ∷ 0 ∷ 0 ∷ 0 ∷ 1 ∷ 0 ∷ 0 ∷ 0 ∷ 8 ∷ 0 ∷ 0 ∷ 0 ∷ 5 ∷ 0 ∷ 0 ∷ 0 ∷ 1 ∷ 0 ∷ 0 ∷ 0 ∷ 12 ∷ 0 ∷ 0 ∷ 0 ∷ 5
     ∷ 0 ∷ 0 ∷ 0 ∷ 0 ∷ 0 ∷ 0 ∷ 0 ∷ 0 ∷ 1 ∷ 0 ∷ 0 ∷ []
-unfolding record_encoding call_encoding reply_encoding
+unfolding record_encoding plain_calls.call_encoding plain_calls.reply_encoding
 first-record = refl
 
-pub type-frame : frame_encoding (reply_encoding (reply.Type 0x20000))
+pub type-frame : frame_encoding (reply_encoding (answered (reply.Type 0x20000)))
     ≡ 12 ∷ 0 ∷ 0 ∷ 0 ∷ 2 ∷ 0 ∷ 0 ∷ 0 ∷ 0 ∷ 0 ∷ 0 ∷ 0 ∷ 0 ∷ 0 ∷ 2 ∷ 0 ∷ []
-unfolding reply_encoding
+unfolding plain_calls.reply_encoding
 type-frame = refl
 
 -- a send of 28 bytes as it is kept, and its reply: mach_msg has its results in any case
 pub send-frame : frame_encoding
-    (call_encoding (call.Send (19 ∷ 0 ∷ 0 ∷ 0 ∷ 0 ∷ 0 ∷ 0 ∷ 0 ∷ 0 ∷ 1 ∷ 0 ∷ 0 ∷ 0 ∷ 0 ∷ 0 ∷ 0 ∷ 0 ∷ 0 ∷ 0 ∷ 0 ∷ 7 ∷ 0 ∷
-    0 ∷ 0 ∷ 68 ∷ 51 ∷ 34 ∷ 17 ∷ [])))
+    (call_encoding (asked (call.Send (19 ∷ 0 ∷ 0 ∷ 0 ∷ 0 ∷ 0 ∷ 0 ∷ 0 ∷ 0 ∷ 1 ∷ 0 ∷ 0 ∷ 0 ∷ 0 ∷ 0 ∷ 0 ∷ 0 ∷ 0 ∷ 0 ∷ 0 ∷ 7 ∷ 0 ∷
+    0 ∷ 0 ∷ 68 ∷ 51 ∷ 34 ∷ 17 ∷ []))))
     ≡ 48 ∷ 0 ∷ 0 ∷ 0 ∷ 19 ∷ 0 ∷ 0 ∷ 0 ∷ 1 ∷ 0 ∷ 0 ∷ 0 ∷ 0 ∷ 0 ∷ 0 ∷ 0 ∷ 0 ∷ 0 ∷ 0 ∷ 0 ∷ 0 ∷ 0 ∷ 0 ∷ 0 ∷ 19 ∷ 0 ∷ 0 ∷ 0 ∷
     0 ∷ 0 ∷ 0 ∷ 0 ∷ 0 ∷ 1 ∷ 0 ∷ 0 ∷ 0 ∷ 0 ∷ 0 ∷ 0 ∷ 0 ∷ 0 ∷ 0 ∷ 0 ∷ 7 ∷ 0 ∷ 0 ∷ 0 ∷ 68 ∷ 51 ∷ 34 ∷ 17 ∷ []
-unfolding call_encoding
+unfolding plain_calls.call_encoding
 send-frame = refl
 
-pub sent-frame : frame_encoding (reply_encoding (reply.Message Success 0 0 []))
+pub sent-frame : frame_encoding (reply_encoding (answered (reply.Message Success 0 0 [])))
     ≡ 16 ∷ 0 ∷ 0 ∷ 0 ∷ 19 ∷ 0 ∷ 0 ∷ 0 ∷ 0 ∷ 0 ∷ 0 ∷ 0 ∷ 0 ∷ 0 ∷ 0 ∷ 0 ∷ 0 ∷ 0 ∷ 0 ∷ 0 ∷ []
-unfolding reply_encoding
+unfolding plain_calls.reply_encoding
 sent-frame = refl
 
 -- a receive with limit 28, and the message that it brings
-pub receive-frame : frame_encoding (call_encoding (call.Receive 28 false 0x100 false))
+pub receive-frame : frame_encoding (call_encoding (asked (call.Receive 28 false 0x100 false)))
     ≡ 20 ∷ 0 ∷ 0 ∷ 0 ∷ 19 ∷ 0 ∷ 0 ∷ 0 ∷ 2 ∷ 0 ∷ 0 ∷ 0 ∷ 28 ∷ 0 ∷ 0 ∷ 0 ∷ 0 ∷ 1 ∷ 0 ∷ 0 ∷ 0 ∷ 0 ∷ 0 ∷ 0 ∷ []
-unfolding call_encoding
+unfolding plain_calls.call_encoding
 receive-frame = refl
 
 pub received-frame : frame_encoding
-    (reply_encoding (reply.Message Success 28 0x100
+    (reply_encoding (answered (reply.Message Success 28 0x100
     (0 ∷ 17 ∷ 0 ∷ 0 ∷ 28 ∷ 0 ∷ 0 ∷ 0 ∷ 0 ∷ 0 ∷ 0 ∷ 0 ∷ 0 ∷ 1 ∷ 0 ∷ 0 ∷ 0 ∷ 0 ∷ 0 ∷ 0 ∷ 7 ∷ 0 ∷ 0 ∷ 0 ∷ 68 ∷ 51 ∷ 34
-    ∷ 17 ∷ [])))
+    ∷ 17 ∷ []))))
     ≡ 44 ∷ 0 ∷ 0 ∷ 0 ∷ 19 ∷ 0 ∷ 0 ∷ 0 ∷ 0 ∷ 0 ∷ 0 ∷ 0 ∷ 28 ∷ 0 ∷ 0 ∷ 0 ∷ 0 ∷ 1 ∷ 0 ∷ 0 ∷ 0 ∷ 17 ∷ 0 ∷ 0 ∷ 28 ∷ 0 ∷ 0 ∷ 0
     ∷ 0 ∷ 0 ∷ 0 ∷ 0 ∷ 0 ∷ 1 ∷ 0 ∷ 0 ∷ 0 ∷ 0 ∷ 0 ∷ 0 ∷ 7 ∷ 0 ∷ 0 ∷ 0 ∷ 68 ∷ 51 ∷ 34 ∷ 17 ∷ []
-unfolding reply_encoding
+unfolding plain_calls.reply_encoding
 received-frame = refl
 
 -- a refusal has no results
-pub refused-frame : frame_encoding (reply_encoding (reply.Refused 5 InvalidValue))
+pub refused-frame : frame_encoding (reply_encoding (answered (reply.Refused 5 InvalidValue)))
     ≡ 8 ∷ 0 ∷ 0 ∷ 0 ∷ 5 ∷ 0 ∷ 0 ∷ 0 ∷ 18 ∷ 0 ∷ 0 ∷ 0 ∷ []
-unfolding reply_encoding
+unfolding plain_calls.reply_encoding
 refused-frame = refl
 
 -- no names
-pub names-frame : frame_encoding (reply_encoding (reply.Names []))
+pub names-frame : frame_encoding (reply_encoding (answered (reply.Names [])))
     ≡ 12 ∷ 0 ∷ 0 ∷ 0 ∷ 1 ∷ 0 ∷ 0 ∷ 0 ∷ 0 ∷ 0 ∷ 0 ∷ 0 ∷ 0 ∷ 0 ∷ 0 ∷ 0 ∷ []
-unfolding reply_encoding
+unfolding plain_calls.reply_encoding
 names-frame = refl
 
 -- the masks of a header's words, byte by byte
@@ -126,7 +128,7 @@ kept_send =
     []
 
 abbrev of_send : List ℕ → Reply → Record
-of_send message answer = record { space = 1; call = call.Send message; reply = answer }
+of_send message answer = record { space = 1; call = asked (call.Send message); reply = answer }
 
 -- bytes, one by one
 abbrev Few : List ℕ → Type 0
@@ -146,13 +148,13 @@ raw_send-kept = refl
 pub raw_send-parts : used_parts raw_send ≡ used_parts kept_send
 raw_send-parts = refl
 
-pub raw_send-record : record_encoding 0 (of_send raw_send (reply.Message Success 0 0 []))
-    ≡ record_encoding 0 (of_send kept_send (reply.Message Success 0 0 []))
+pub raw_send-record : record_encoding 0 (of_send raw_send (answered (reply.Message Success 0 0 [])))
+    ≡ record_encoding 0 (of_send kept_send (answered (reply.Message Success 0 0 [])))
 unfolding record_encoding canonical_message
 raw_send-record = refl
 
-pub kept_send-is_record : IsRecord (of_send kept_send (reply.Message Success 0 0 []))
-unfolding canonical_message call_encoding reply_encoding
+pub kept_send-is_record : IsRecord (of_send kept_send (answered (reply.Message Success 0 0 [])))
+unfolding canonical_message plain_calls.call_encoding plain_calls.reply_encoding
 kept_send-is_record = record {
   space = omega arith;
   call =
@@ -256,9 +258,9 @@ kept_send-is_record = record {
 -- number has, and a receive of another size, above its limit or destroyed within it, of an odd size, or of no name.
 
 pub raw_send-no_record : (answer : Reply) → IsRecord (of_send raw_send answer) → ⊥
-unfolding canonical_message
+unfolding canonical_message plain_calls.call_encoding
 raw_send-no_record answer is =
-    absurd (omega (arith, ap (λ (c : Call). slice_index (arguments_encoding c) 18) is.call.kept))
+    absurd (omega (arith, ap (λ (c : Call). slice_index (call_encoding c) 22) is.call.kept))
 
 pub short_send-no_record : (answer : Reply) → IsRecord (of_send (19 ∷ 0 ∷ 0 ∷ 0 ∷ []) answer) → ⊥
 short_send-no_record answer is = absurd (omega (arith, is.call.whole.0))
@@ -273,38 +275,38 @@ pub large_send-no_record : (message : List ℕ) (answer : Reply) → (length mes
 large_send-no_record message answer (inl long) is = absurd (omega (arith, long, is.call.whole.1))
 large_send-no_record message answer (inr long) is = absurd (omega (arith, long, is.call.whole.1))
 
-pub answered_send-no_record : IsRecord (of_send kept_send (reply.Message Success 28 0 [])) → ⊥
+pub answered_send-no_record : IsRecord (of_send kept_send (answered (reply.Message Success 28 0 []))) → ⊥
 answered_send-no_record is = absurd (omega (arith, is.reply.results.0))
 
-pub done_allocation-no_record : IsRecord (record { space = 1; call = call.Allocate 1; reply = reply.Done 5 }) → ⊥
+pub done_allocation-no_record : IsRecord (record { space = 1; call = asked (call.Allocate 1); reply = answered (reply.Done 5) }) → ⊥
 done_allocation-no_record is = cc is.reply.results
 
 pub shorter_receive-no_record : IsRecord
-    (record { space = 1; call = call.Receive 32 false 0x100 false; reply = reply.Message Success 32 0x100 kept_send })
+    (record { space = 1; call = asked (call.Receive 32 false 0x100 false); reply = answered (reply.Message Success 32 0x100 kept_send) })
     → ⊥
 shorter_receive-no_record is = absurd (omega (arith, is.reply.results.3.1))
 
 pub receive_above_limit-no_record : IsRecord
-    (record { space = 1; call = call.Receive 24 false 0x100 false; reply = reply.Message Success 28 0x100 kept_send })
+    (record { space = 1; call = asked (call.Receive 24 false 0x100 false); reply = answered (reply.Message Success 28 0x100 kept_send) })
     → ⊥
 receive_above_limit-no_record is = absurd (omega (arith, is.reply.results.3.0))
 
 pub nameless_receive-no_record : IsRecord
-    (record { space = 1; call = call.Receive 28 false 0x100 false; reply = reply.Message Success 28 0 kept_send }) → ⊥
+    (record { space = 1; call = asked (call.Receive 28 false 0x100 false); reply = answered (reply.Message Success 28 0 kept_send) }) → ⊥
 nameless_receive-no_record is = absurd (omega (arith, is.reply.results.1))
 
 pub odd_size-no_record : IsRecord
-    (record { space = 1; call = call.Receive 24 false 0x100 false; reply = reply.Message RcvTooLarge 30 0x100 [] }) → ⊥
+    (record { space = 1; call = asked (call.Receive 24 false 0x100 false); reply = answered (reply.Message RcvTooLarge 30 0x100 []) }) → ⊥
 odd_size-no_record is = absurd (omega (arith, is.reply.results.0.2))
 
 pub destroyed_within_limit-no_record : IsRecord
-    (record { space = 1; call = call.Receive 28 false 0x100 false; reply = reply.Message RcvTooLarge 28 0x100 [] }) → ⊥
+    (record { space = 1; call = asked (call.Receive 28 false 0x100 false); reply = answered (reply.Message RcvTooLarge 28 0x100 []) }) → ⊥
 destroyed_within_limit-no_record is = absurd (omega (arith, is.reply.results.3.0))
 
 pub destroyed_with_bytes-no_record : IsRecord
     (record {
       space = 1;
-      call = call.Receive 24 false 0x100 false;
-      reply = reply.Message RcvTooLarge 28 0x100 kept_send;
+      call = asked (call.Receive 24 false 0x100 false);
+      reply = answered (reply.Message RcvTooLarge 28 0x100 kept_send);
     }) → ⊥
 destroyed_with_bytes-no_record is = absurd (omega (arith, ap length is.reply.results.3.1))

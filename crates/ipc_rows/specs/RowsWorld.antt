@@ -4,51 +4,61 @@ use Rattle.std.specs.Prelude.{◌≡◌, ℕ, ◌<◌, Bool, true, false, List, 
 use Rattle.std.specs.FinMap as finmap
 use Rattle.std.proofs.Common.{inl, inr, sym, ◌∙◌, ap, subst, arith}
 use Rattle.ipc_model.specs.declared.call.Call.{Call}
-use Rattle.ipc_model.specs.declared.call.Call.TheVariants as call
-use Rattle.ipc_model.specs.declared.call.Reply.{Reply}
-use Rattle.ipc_model.specs.declared.call.Reply.TheVariants as reply
+use Rattle.ipc_model.specs.declared.plain_call.PlainCall.TheVariants as call
+use Rattle.ipc_model.specs.declared.reply.Reply.{Reply}
+use Rattle.ipc_model.specs.declared.plain_reply.PlainReply.TheVariants as reply
 use Rattle.codes.specs.declared.kern_return.KernReturn.TheVariants.{InvalidName, NoSpace}
 use Rattle.ipc_model.specs.calls.Actions.{Done, allocated, allocated_entry}
 use Rattle.ipc_model.specs.calls.PortCalls.{tests_of}
-use Rattle.ipc_model.specs.calls.Step.{Step, Answer, ActsFrom}
+use Rattle.ipc_model.specs.calls.PlainStep.{PlainStep, ActsFrom}
+use Rattle.ipc_model.specs.calls.Step.{Step, Answer, has_record}
 use Rattle.ipc_model.specs.effects.Effects.{Effect, settled}
-use Rattle.ipc_model.specs.state.State.{State, Names, opening_state}
+use Rattle.ipc_model.specs.declared.plain_reply.PlainReply.{PlainReply}
+use Rattle.ipc_model.specs.declared.reply.Reply.TheVariants as upper
+use Rattle.ipc_model.specs.state.Ipc.{Ipc, Names, opening_ipc}
+use Rattle.ipc_model.specs.state.State.{State, opening_state}
 use Rattle.ipc_model.specs.store.Faults as fault
 use Rattle.ipc_model.specs.world.World.{Event, Outcome, Ticket, Receipt, of_finish, World, Worlds, After, MayGive, IsPossible, submit, take_batch, append, durable, ask_reply, cut, roll_close, roll_head, roll_open, image_close, piece, finish, given, replied, done, not_now, epoch_full, no_memory, store, first_world, acknowledged, log_length, pieces_of, after_submit, after_take, after_append, after_durable, after_cut, with_answered}
 use Rattle.ipc_laws.specs.MapLaws.{map_rules}
 use Rattle.ipc_laws.specs.OpeningLaws.{opening-image}
 use Rattle.ipc_rows.specs.RowRules.{rows}
 use Rattle.ipc_rows.specs.RowsSteps.{allocate-step}
+use Rattle.ipc_rows.specs.RowStates.{answered, asked, keeps_none}
 
 abbrev pub allocation : Call
-allocation = call.Allocate 1
+allocation = asked (call.Allocate 1)
 
 -- the states after one allocation and after two
 abbrev pub one_allocated : State
-one_allocated = allocated opening_state 1 finmap.empty 1 0x100
+one_allocated = keeps_none (allocated opening_ipc 1 finmap.empty 1 0x100)
 
 abbrev pub names_of_one : Names
 names_of_one = finmap.insert finmap.empty 0x100 (allocated_entry 1 1)
 
 abbrev pub two_allocated : State
-two_allocated = allocated one_allocated 1 names_of_one 1 0x101
+two_allocated = keeps_none (allocated one_allocated.ipc 1 names_of_one 1 0x101)
 
-second-acts : ActsFrom one_allocated 1 (finmap.get one_allocated.spaces 1) allocation
-    (reply.Allocate 0x101) two_allocated []
+second-acts : ActsFrom one_allocated.ipc 1 (finmap.get one_allocated.ipc.spaces 1) (call.Allocate 1)
+    (reply.Allocate 0x101) two_allocated.ipc []
 unfolding Done tests_of
 second-acts =
     simp rows (0x101, record { least = omega arith; below_dead = omega arith; free = simp map_rules }, refl, refl, refl)
 
-pub second-step : Step one_allocated 1 allocation (reply.Allocate 0x101) two_allocated
+pub second-step : Step one_allocated 1 allocation (answered (reply.Allocate 0x101)) two_allocated
+unfolding Step PlainStep
+second-step = ((two_allocated.ipc, [], second-acts, settled), refl)
+
+-- the first, in a new store
+pub first-step : Step opening_state 1 allocation (answered (reply.Allocate 0x100)) one_allocated
 unfolding Step
-second-step = (two_allocated, [], second-acts, settled)
+first-step = (allocate-step, refl)
 
 -- after two allocations
 abbrev pub one_submitted : World
-one_submitted = after_submit (first_world 0 0) 1 allocation (reply.Allocate 0x100)
+one_submitted = after_submit (first_world 0 0) 1 allocation (answered (reply.Allocate 0x100))
 
 abbrev pub two_submitted : World
-two_submitted = after_submit one_submitted 1 allocation (reply.Allocate 0x101)
+two_submitted = after_submit one_submitted 1 allocation (answered (reply.Allocate 0x101))
 
 abbrev pub two_taken : World
 two_taken = after_take two_submitted
@@ -59,17 +69,17 @@ two_appended = after_append two_taken two_taken.batch
 abbrev pub two_durable : World
 two_durable = after_durable two_appended two_appended.receipts
 
-may-first : MayGive opening_state (first_world 0 0) 1 allocation (reply.Allocate 0x100)
-may-first = ((opening_state, one_allocated, refl, allocate-step), (λ (_ : _). omega arith))
+may-first : MayGive opening_state (first_world 0 0) 1 allocation (answered (reply.Allocate 0x100))
+may-first = ((opening_state, one_allocated, refl, first-step), (λ (_ : _). omega arith))
 
-may-second : MayGive opening_state one_submitted 1 allocation (reply.Allocate 0x101)
+may-second : MayGive opening_state one_submitted 1 allocation (answered (reply.Allocate 0x101))
 may-second =
-    ((one_allocated, two_allocated, (one_allocated, allocate-step, refl), second-step), (λ (_ : _). omega arith))
+    ((one_allocated, two_allocated, (one_allocated, inl first-step, refl), second-step), (λ (_ : _). omega arith))
 
 -- the events in their order, with what they answer
 abbrev pub two_calls : List (Event × Outcome)
 two_calls =
-    (submit 1 allocation, given (reply.Allocate 0x100)) ∷ (submit 1 allocation, given (reply.Allocate 0x101)) ∷
+    (submit 1 allocation, given (answered (reply.Allocate 0x100))) ∷ (submit 1 allocation, given (answered (reply.Allocate 0x101))) ∷
     (take_batch, done) ∷ (append, done) ∷ (durable, done) ∷ []
 
 pub two_calls-leave : Worlds opening_state (first_world 0 0) two_calls two_durable
@@ -116,7 +126,7 @@ twice-append possible = absurd (cc possible.0)
 
 -- a refused call has no record, and its reply waits for those that it saw
 abbrev pub refused_call : World
-refused_call = after_submit two_submitted 1 (call.Type 0x200) (reply.Refused 2 InvalidName)
+refused_call = after_submit two_submitted 1 (asked (call.Type 0x200)) (answered (reply.Refused 2 InvalidName))
 
 pub read-waits : (IsPossible refused_call (ask_reply 2) → ⊥) × (refused_call.applied ≡ two_submitted.applied)
 read-waits = ((λ (possible : _). absurd (omega (arith, possible.1))), refl)
@@ -231,41 +241,48 @@ full_world = first_world 0 65536
 
 pub full-answer : After opening_state full_world (submit 1 allocation) epoch_full full_world
 full-answer =
-    (refl, tt, ((omega arith, reply.Allocate 0x100, (opening_state, one_allocated, refl, allocate-step), refl), refl))
+    (refl, tt, ((omega arith, answered (reply.Allocate 0x100), (opening_state, one_allocated, refl, first-step), refl), refl))
 
 pub full-no_ticket : (new : World)
-    → After opening_state full_world (submit 1 allocation) (given (reply.Allocate 0x100)) new → ⊥
+    → After opening_state full_world (submit 1 allocation) (given (answered (reply.Allocate 0x100))) new → ⊥
 full-no_ticket new after = let below : 65536 < 65536 = after.2.0.1 refl in absurd (omega (arith, below))
 
 pub full-emptied : log_length (after_cut full_world opening_state) ≡ 0
 full-emptied = refl
 
 -- in a new store a name has no type, and this is the only possible answer
-unknown-acts : (answer : Reply) (acted : State) (effects : List Effect)
-    → ActsFrom opening_state 1 (finmap.get opening_state.spaces 1) (call.Type 0x200) answer acted effects
+unknown-acts : (answer : PlainReply) (acted : Ipc) (effects : List Effect)
+    → ActsFrom opening_ipc 1 (finmap.get opening_ipc.spaces 1) (call.Type 0x200) answer acted effects
     → answer ≡ reply.Refused 2 InvalidName
 unfolding Done tests_of
 unknown-acts answer acted effects = simp rows (λ (acts : _). acts.0)
 
-pub unknown-refused : (answer : Reply) (new : State) → Step opening_state 1 (call.Type 0x200) answer new
-    → answer ≡ reply.Refused 2 InvalidName
-unfolding Step
-unknown-refused answer new step = unknown-acts answer step.0 step.1 step.2
+pub unknown-refused : (answer : Reply) (new : State) → Step opening_state 1 (asked (call.Type 0x200)) answer new
+    → answer ≡ answered (reply.Refused 2 InvalidName)
+unfolding Step PlainStep
+unknown-refused (upper.Plain answer) new step = ap answered (unknown-acts answer step.0.0 step.0.1 step.0.2)
+unknown-refused (upper.Numbered answer) new step = absurd step
+unknown-refused (upper.Repeated answer) new step = absurd step
 
-pub unknown-answer : Answer opening_state 1 (call.Type 0x200) (reply.Refused 2 InvalidName)
-unfolding Step Done tests_of
-unknown-answer = (opening_state, [], simp rows (refl, refl, refl), settled)
+pub unknown-answer : Answer opening_state 1 (asked (call.Type 0x200)) (answered (reply.Refused 2 InvalidName))
+unfolding Step PlainStep Done tests_of
+unknown-answer = ((opening_ipc, [], simp rows (refl, refl, refl), settled), refl)
 
-pub full-read : After opening_state full_world (submit 1 (call.Type 0x200)) (given (reply.Refused 2 InvalidName))
-    (after_submit full_world 1 (call.Type 0x200) (reply.Refused 2 InvalidName))
+pub full-read : After opening_state full_world (submit 1 (asked (call.Type 0x200))) (given (answered (reply.Refused 2 InvalidName)))
+    (after_submit full_world 1 (asked (call.Type 0x200)) (answered (reply.Refused 2 InvalidName)))
 full-read = (refl, tt, (((opening_state, opening_state, refl, unknown-answer), (λ (has : _). absurd (cc has))), refl))
 
 -- the epoch isn't full while its log has room, nor for a call without a record
 pub room-not_full : (new : World) → After opening_state (first_world 0 65535) (submit 1 allocation) epoch_full new → ⊥
 room-not_full new after = absurd (omega (arith, after.2.0.0))
 
-pub read-not_full : (new : World) → After opening_state full_world (submit 1 (call.Type 0x200)) epoch_full new → ⊥
-read-not_full new after = absurd (cc after.2.0.3)
+pub read-not_full : (new : World) → After opening_state full_world (submit 1 (asked (call.Type 0x200))) epoch_full new → ⊥
+read-not_full new after = absurd (no_read after.2.0.1 after.2.0.3)
+  where
+    no_read : (answer : Reply) → has_record (asked (call.Type 0x200)) answer ≡ true → ⊥
+    no_read (upper.Plain answer) recorded = absurd (cc recorded)
+    no_read (upper.Numbered answer) recorded = absurd (cc recorded)
+    no_read (upper.Repeated answer) recorded = absurd (cc recorded)
 
 -- A fault of the device: the batch isn't stored, and from then on each event of the store answers that it failed.
 abbrev pub failed_world : World
@@ -310,8 +327,8 @@ fault-goes_on = (
 
 -- a call is given its ticket as ever
 pub failed-submit : After opening_state (record (first_world 0 0) { failed = true }) (submit 1 allocation)
-    (given (reply.Allocate 0x100)) (record one_submitted { failed = true })
-failed-submit = (refl, tt, (((opening_state, one_allocated, refl, allocate-step), (λ (_ : _). omega arith)), refl))
+    (given (answered (reply.Allocate 0x100))) (record one_submitted { failed = true })
+failed-submit = (refl, tt, (((opening_state, one_allocated, refl, first-step), (λ (_ : _). omega arith)), refl))
 
 -- an event that isn't of the store goes on, and doesn't fail
 pub failed-take : (new : World) → After opening_state failed_world take_batch (store fault.failed) new → ⊥
@@ -333,7 +350,7 @@ roll-takes_none world new after = after.2
 -- the reply before the append
 pub reply_before_append : (answer : Reply) (new : World)
     → Worlds opening_state (first_world 0 0)
-    ((submit 1 allocation, given (reply.Allocate 0x100)) ∷ (take_batch, done) ∷ (ask_reply 0, replied answer) ∷ [])
+    ((submit 1 allocation, given (answered (reply.Allocate 0x100))) ∷ (take_batch, done) ∷ (ask_reply 0, replied answer) ∷ [])
     new → ⊥
 reply_before_append answer new (one, submitted, (two, taken, (three, asked, end))) =
     let world : two ≡ after_take one_submitted = taken.2 ∙ ap after_take submitted.2.1 in
@@ -346,7 +363,7 @@ after_two : (events : List (Event × Outcome)) (new : World)
     → Worlds opening_state (first_world 0 0) (two_calls ++ events) new → Worlds opening_state two_durable events new
 after_two events new (one, first, (two, second, (three, taken, (four, appended, (five, handed, rest))))) =
     let submitted : two ≡ two_submitted =
-    second.2.1 ∙ ap (λ (w : World). after_submit w 1 allocation (reply.Allocate 0x101)) first.2.1 in
+    second.2.1 ∙ ap (λ (w : World). after_submit w 1 allocation (answered (reply.Allocate 0x101))) first.2.1 in
     let stored : four ≡ two_appended =
     appended.2 ∙ ap (λ (w : World). after_append w w.batch) (taken.2 ∙ ap after_take submitted) in
     subst (λ (w : World). Worlds opening_state w events new)
@@ -365,23 +382,23 @@ answered_twice answer again new worlds =
 
 -- a reply other than the ticket's
 abbrev name_given : Reply → ℕ
-name_given (reply.Allocate name) = name
+name_given (upper.Plain (reply.Allocate name)) = name
 name_given answer = 0
 
 pub other_reply : (new : World)
-    → Worlds opening_state (first_world 0 0) (two_calls ++ (ask_reply 0, replied (reply.Allocate 0x101)) ∷ []) new → ⊥
+    → Worlds opening_state (first_world 0 0) (two_calls ++ (ask_reply 0, replied (answered (reply.Allocate 0x101))) ∷ []) new → ⊥
 other_reply new worlds =
-    let (one, asked, end) = after_two ((ask_reply 0, replied (reply.Allocate 0x101)) ∷ []) new worlds in
-    let kept : reply.Allocate 0x100 ≡ asked.2.0.answer =
-    ap (λ (o : Option Ticket). elim o as (λ _. Reply) [ None ↦ reply.Allocate 0x100 | Some ticket ↦ ticket.answer ])
-    asked.2.1 in
-    let names : 0x100 ≡ 0x101 = ap {B = ℕ} name_given (kept ∙ asked.2.2) in
+    let (one, said, end) = after_two ((ask_reply 0, replied (answered (reply.Allocate 0x101))) ∷ []) new worlds in
+    let kept : answered (reply.Allocate 0x100) ≡ said.2.0.answer =
+    ap (λ (o : Option Ticket). elim o as (λ _. Reply) [ None ↦ answered (reply.Allocate 0x100) | Some ticket ↦ ticket.answer ])
+    said.2.1 in
+    let names : 0x100 ≡ 0x101 = ap {B = ℕ} name_given (kept ∙ said.2.2) in
     absurd (omega (arith, names))
 
 -- "not now" where a batch can be taken
 pub take_not_now : (new : World)
     → Worlds opening_state (first_world 0 0)
-    ((submit 1 allocation, given (reply.Allocate 0x100)) ∷ (take_batch, not_now) ∷ []) new → ⊥
+    ((submit 1 allocation, given (answered (reply.Allocate 0x100))) ∷ (take_batch, not_now) ∷ []) new → ⊥
 take_not_now new (one, submitted, (two, later, end)) =
     let can : IsPossible one take_batch =
     subst (λ (w : World). IsPossible w take_batch) (sym submitted.2.1) (omega arith, refl) in
@@ -389,27 +406,27 @@ take_not_now new (one, submitted, (two, later, end)) =
 
 -- an invented reply, and an invented refusal
 pub invented_reply : (new : World)
-    → Worlds opening_state (first_world 0 0) ((submit 1 (call.Type 0x200), given (reply.Type 0x20000)) ∷ []) new → ⊥
+    → Worlds opening_state (first_world 0 0) ((submit 1 (asked (call.Type 0x200)), given (answered (reply.Type 0x20000))) ∷ []) new → ⊥
 invented_reply new (one, submitted, end) =
     let step = submitted.2.0.0 in
-    let from_start : Step opening_state 1 (call.Type 0x200) (reply.Type 0x20000) step.1 =
-    subst (λ (s : State). Step s 1 (call.Type 0x200) (reply.Type 0x20000) step.1) step.2 step.3 in
-    absurd (cc (unknown-refused (reply.Type 0x20000) step.1 from_start))
+    let from_start : Step opening_state 1 (asked (call.Type 0x200)) (answered (reply.Type 0x20000)) step.1 =
+    subst (λ (s : State). Step s 1 (asked (call.Type 0x200)) (answered (reply.Type 0x20000)) step.1) step.2 step.3 in
+    absurd (cc (unknown-refused (answered (reply.Type 0x20000)) step.1 from_start))
 
 -- a new store doesn't refuse an allocation
-allocation-acts : (acted : State) (effects : List Effect)
-    → ActsFrom opening_state 1 (finmap.get opening_state.spaces 1) allocation (reply.Refused 5 NoSpace) acted effects
+allocation-acts : (acted : Ipc) (effects : List Effect)
+    → ActsFrom opening_ipc 1 (finmap.get opening_ipc.spaces 1) (call.Allocate 1) (reply.Refused 5 NoSpace) acted effects
     → ⊥
 unfolding Done tests_of
 allocation-acts acted effects = simp rows (λ (acts : _). absurd (cc acts.2))
 
-pub allocation-granted : (new : State) → Step opening_state 1 allocation (reply.Refused 5 NoSpace) new → ⊥
-unfolding Step
-allocation-granted new step = allocation-acts step.0 step.1 step.2
+pub allocation-granted : (new : State) → Step opening_state 1 allocation (answered (reply.Refused 5 NoSpace)) new → ⊥
+unfolding Step PlainStep
+allocation-granted new step = allocation-acts step.0.0 step.0.1 step.0.2
 
 pub invented_refusal : (new : World)
-    → Worlds opening_state (first_world 0 0) ((submit 1 allocation, given (reply.Refused 5 NoSpace)) ∷ []) new → ⊥
+    → Worlds opening_state (first_world 0 0) ((submit 1 allocation, given (answered (reply.Refused 5 NoSpace))) ∷ []) new → ⊥
 invented_refusal new (one, submitted, end) =
     let step = submitted.2.0.0 in
     allocation-granted step.1 (subst
-    (λ (s : State). Step s 1 allocation (reply.Refused 5 NoSpace) step.1) step.2 step.3)
+    (λ (s : State). Step s 1 allocation (answered (reply.Refused 5 NoSpace)) step.1) step.2 step.3)

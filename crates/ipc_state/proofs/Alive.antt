@@ -7,7 +7,7 @@ use Rattle.ipc_model.specs.declared.message.Message.{Message}
 use Rattle.ipc_model.specs.declared.message.PortInMessage.{PortInMessage}
 use Rattle.ipc_model.specs.declared.message.PortInMessage.TheVariants as in_message
 use Rattle.ipc_model.specs.state.Circular.{is_port}
-use Rattle.ipc_model.specs.state.State.{State, lives}
+use Rattle.ipc_model.specs.state.Ipc.{Ipc, lives}
 use Rattle.ipc_state.specs.Live.{carries_live, is_live, is_live_port, is_live_reply}
 use Rattle.ports.specs.Passed.{Ports, AreLive, lives_in, reply_is_to, is_to}
 
@@ -15,7 +15,7 @@ both : (a b : Bool) → (a && b) ≡ true → (a ≡ true) × (b ≡ true)
 both true b e = (refl, e)
 both false b e = absurd (cc e)
 
-module _ (state : State) (serial : ℕ) where
+module _ (state : Ipc) (serial : ℕ) where
   port_lives : (port : PortInMessage) → is_live_port state port ≡ true → is_port port serial ≡ true
       → lives state serial ≡ true
   port_lives in_message.Null live is = absurd (cc is)
@@ -38,7 +38,7 @@ module _ (state : State) (serial : ℕ) where
   reply_lives None live is = absurd (cc is)
   reply_lives (Some r) live is = port_lives r.port live is
 
-pub carried_alive : (ports : Ports) (state : State) (message : Message) → state.ports ≡ ports
+pub carried_alive : (ports : Ports) (state : Ipc) (message : Message) → state.ports ≡ ports
     → carries_live state message ≡ true → AreLive ports message
 carried_alive ports state message same live = λ serial mentioned.
     let parts = both (is_live_reply state message.reply) (list_all (is_live state) message.rights) live in

@@ -10,7 +10,7 @@ use Rattle.ipc_model.specs.declared.entry.Entry.{Entry}
 use Rattle.ipc_model.specs.declared.message.Message.{Message}
 use Rattle.ipc_model.specs.declared.port.PortState.{PortState}
 use Rattle.ipc_model.specs.messages.Sending.{is_full}
-use Rattle.ipc_model.specs.state.State.{State, entry_at, is_number, received_port}
+use Rattle.ipc_model.specs.state.Ipc.{Ipc, entry_at, is_number, received_port}
 use Rattle.ipc_state.specs.Members.{set_in, set_place, state_of}
 use Rattle.ipc_state.specs.Waking.{IsListedFor, IsPortListed, IsSetListed, is_full_in, same_occupancy}
 use Rattle.ports.specs.Passed.{PortNumbers, PortTable, Ports, messages_at, numbers_of}
@@ -186,10 +186,10 @@ module _ (spaces_before spaces : SpaceMap) (table_before table : PortTable) (nam
     ⊎ IsSetListed named spaces table.ports number)
     (listed_ports : (serial : ℕ) → same_occupancy table_before.ports table.ports serial
     ⊎ IsPortListed named spaces table.ports serial) where
-  abbrev old : State
+  abbrev old : Ipc
   old = state_of spaces_before table_before
 
-  abbrev new : State
+  abbrev new : Ipc
   new = state_of spaces table
 
   contradiction : {P : Type 0} (place : ℕ) → named place ≡ false → named place ≡ true → P
@@ -318,7 +318,7 @@ module _ (spaces_before spaces : SpaceMap) (table_before table : PortTable) (nam
           ]
 
 -- Where all places are named, they cover every change.
-pub all_cover : (old new : State) (named : Named) → named.are_all ≡ true → Covers old new (names named)
+pub all_cover : (old new : Ipc) (named : Named) → named.are_all ≡ true → Covers old new (names named)
 all_cover old new named all = record {
   entries = λ space name off. clash (place_of_name space name) off;
   room = λ serial off full. clash (place_of_port serial) off;

@@ -11,7 +11,7 @@ use Rattle.ipc_model.specs.declared.entry.Entry.{Entry}
 use Rattle.ipc_model.specs.declared.entry.Entry.TheVariants.{Port, SendOnce, Set, Dead}
 use Rattle.ipc_model.specs.declared.port.PortState.{PortState}
 use Rattle.ipc_model.specs.effects.Effects.{after_death, entry_after_death, map_values, one_more_if, port_after_death, without_target}
-use Rattle.ipc_model.specs.state.State.{State, Names, new_port, received_port, with_names, with_port, without_name}
+use Rattle.ipc_model.specs.state.Ipc.{Ipc, Names, new_port, received_port, with_names, with_port, without_name}
 use Rattle.ipc_model.specs.calls.PortCalls.{names_in}
 use Rattle.ipc_state.specs.Members.{AreMembers, AreMoving, ArePlacesRenamed, DifferAt, one_moved, changed_members, same_members, set_in, set_place, set_place_of}
 use Rattle.ports.specs.Passed.{changed, numbers_of, with_numbers, PortNumbers, TrackedPorts, Ports}
@@ -284,15 +284,15 @@ numbers_replaced spaces ports serial former numbers start now there moves are =
     is None none = absurd (cc none)
     is (Some port) some = refl
 
-abbrev in_no_set : State → ℕ → State
+abbrev in_no_set : Ipc → ℕ → Ipc
 in_no_set state serial = with_port state serial (λ port. record port { set = None })
 
 -- a port that has left its set is in no set
-pub set_left_none : (state : State) (serial : ℕ) → set_in (in_no_set state serial).ports serial ≡ None
+pub set_left_none : (state : Ipc) (serial : ℕ) → set_in (in_no_set state serial).ports serial ≡ None
 set_left_none state serial = go (get state.ports serial) refl
   where
     go : (o : Option PortState) → get state.ports serial ≡ o
-        → set_in (elim o as (λ _. State) [
+        → set_in (elim o as (λ _. Ipc) [
           | None ↦ state
           | Some port ↦ record state
               { ports = insert state.ports serial (record port { set = None }) }
@@ -316,12 +316,12 @@ removed_alike ports serial port = same_map nat_cmp_total nat_cmp-IsAntisymmetric
         get-insert nat_cmp_total ports serial port q ∙ ap (λ (b : Bool). cond b (Some port) (get ports q)) apart
 
 -- the death of a port is the same whether it was in a set
-pub outside_alike : (state : State) (serial : ℕ)
+pub outside_alike : (state : Ipc) (serial : ℕ)
     → after_death (in_no_set state serial) serial ≡ after_death state serial
 outside_alike state serial = go (get state.ports serial)
   where
     go : (o : Option PortState) → after_death
-        (elim o as (λ _. State) [
+        (elim o as (λ _. Ipc) [
           | None ↦ state
           | Some port ↦
               record state { ports = insert state.ports serial (record port { set = None }) }
@@ -483,13 +483,13 @@ removed_again spaces space names = same_map nat_cmp_total nat_cmp-IsAntisymmetri
     go q false apart =
         get-insert nat_cmp_total spaces space names q ∙ ap (λ (b : Bool). cond b (Some names) (get spaces q)) apart
 
-pub same_alongside : (state : State) (space name : ℕ)
+pub same_alongside : (state : Ipc) (space name : ℕ)
     → record (without_name state space name) { spaces = remove (without_name state space name).spaces space }
     ≡ record state { spaces = remove state.spaces space }
 same_alongside state space name = go (get state.spaces space)
   where
-    after : Option Names → State
-    after o = elim o as (λ _. State) [ None ↦ state | Some names ↦ with_names state space (remove names name) ]
+    after : Option Names → Ipc
+    after o = elim o as (λ _. Ipc) [ None ↦ state | Some names ↦ with_names state space (remove names name) ]
 
     go : (o : Option Names) → record (after o) { spaces = remove (after o).spaces space }
         ≡ record state { spaces = remove state.spaces space }
@@ -498,7 +498,7 @@ same_alongside state space name = go (get state.spaces space)
         ap (λ (m : SpaceMap). record state { spaces = m }) (removed_again state.spaces space (remove names name))
 
 -- the names below one are gone, and so is this
-pub one_gone : (state : State) (space at name : ℕ) → ((q : ℕ) → q < at → get (names_in state space) q ≡ None)
+pub one_gone : (state : Ipc) (space at name : ℕ) → ((q : ℕ) → q < at → get (names_in state space) q ≡ None)
     → ((q : ℕ) → at ≤ q → q < name → get (names_in state space) q ≡ None)
     → (q : ℕ) → q < name + 1 → get (names_in (without_name state space name) space) q ≡ None
 one_gone state space at name below between q less = go (get state.spaces space) refl
@@ -525,7 +525,7 @@ one_gone state space at name below between q less = go (get state.spaces space) 
         ] refl)
 
     go : (o : Option Names) → get state.spaces space ≡ o
-        → get (names_in (elim o as (λ _. State)
+        → get (names_in (elim o as (λ _. Ipc)
         [ None ↦ state | Some names ↦ with_names state space (remove names name) ]) space) q ≡ None
     go None none = ap (λ (o : Option Names). get (or_none o) q) none ∙ get-empty nat_cmp q
     go (Some names) there =
@@ -535,7 +535,7 @@ one_gone state space at name below between q less = go (get state.spaces space) 
         ∙ get-remove nat_cmp_total names name q ∙ left names there (eq_by_cmp nat_cmp q name) refl
 
 -- no name is left
-pub all_gone : (state : State) (space at : ℕ) → ((q : ℕ) → q < at → get (names_in state space) q ≡ None)
+pub all_gone : (state : Ipc) (space at : ℕ) → ((q : ℕ) → q < at → get (names_in state space) q ≡ None)
     → ((q : ℕ) → at ≤ q → get (names_in state space) q ≡ None) → (names : Names) → get state.spaces space ≡ Some names
     → names ≡ empty
 all_gone state space at below from names there = same_map nat_cmp_total nat_cmp-IsAntisymmetric names empty (λ q.

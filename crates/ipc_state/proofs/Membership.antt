@@ -4,7 +4,7 @@ use Rattle.std.specs.FinMap as finmap
 use Rattle.std.specs.Option.{option_eq}
 use Rattle.ipc_model.specs.declared.entry.Entry.{Entry}
 use Rattle.ipc_model.specs.declared.port.PortState.{PortState}
-use Rattle.ipc_model.specs.state.State.{State, is_member, is_number, received_port}
+use Rattle.ipc_model.specs.state.Ipc.{Ipc, is_member, is_number, received_port}
 use Rattle.ipc_state.specs.Members.{set_in}
 use Rattle.ipc_state.specs.SetNames.{member_port}
 
@@ -15,7 +15,7 @@ named None set = refl
 named (Some port) set =
     elim port.set as (λ (s : Option ℕ). option_eq eqb s (Some set) ≡ is_number s set) [ None ↦ refl | Some n ↦ refl ]
 
-pub member_if : (state : State) (set port : ℕ) (o : Option Entry) (b : Bool)
+pub member_if : (state : Ipc) (set port : ℕ) (o : Option Entry) (b : Bool)
     → option_and_then received_port o ≡ Some port → option_eq eqb (set_in state.ports port) (Some set) ≡ b
     → cond b (Some port) None ≡ member_port state set o
 member_if state set port None b here is = absurd (cc here)

@@ -4,10 +4,10 @@ use Rattle.std.specs.Prelude.{[]}
 use Rattle.std.specs.FinMap as finmap
 use Rattle.ipc_model.specs.calls.PortCalls.{names_in}
 use Rattle.ipc_laws.specs.MapLaws.{entries_none}
-use Rattle.ipc_model.specs.state.State.{State, Names}
+use Rattle.ipc_model.specs.state.Ipc.{Ipc, Names}
 use Rattle.ipc_state.specs.There.{or_empty}
 
-module _ (state : State) (space : ℕ) (gone : finmap.get state.spaces space ≡ None) where
+module _ (state : Ipc) (space : ℕ) (gone : finmap.get state.spaces space ≡ None) where
   no_names : names_in state space ≡ finmap.empty
   no_names = ap or_empty gone
 

@@ -7,10 +7,10 @@ use Rattle.std.specs.FinMap as finmap
 use Rattle.std.specs.FinMap.{FinMap, get-insert}
 use Rattle.ipc_laws.specs.MapSums.{insert-insert, same_key}
 use Rattle.ipc_model.specs.calls.PortCalls.{names_in}
-use Rattle.ipc_model.specs.state.State.{State, Names, with_names}
+use Rattle.ipc_model.specs.state.Ipc.{Ipc, Names, with_names}
 use Rattle.ipc_state.specs.There.{or_empty}
 
-module _ (state : State) (space : ℕ) (names : Names) where
+module _ (state : Ipc) (space : ℕ) (names : Names) where
   pub added_there : finmap.get (with_names state space names).spaces space ≡ Some names
   added_there =
       get-insert nat_cmp_total state.spaces space names space

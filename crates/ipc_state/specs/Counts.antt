@@ -6,7 +6,7 @@ use Rattle.ipc_laws.specs.MapSums.{total, weigh}
 use Rattle.ipc_laws.specs.Weights.{names_weigh, port_weigh, state_weigh, weigh-placed}
 use Rattle.ipc_model.specs.declared.message.RightKind.{RightKind}
 use Rattle.ipc_model.specs.state.Placed.{Right, count_of, placed, same_kind}
-use Rattle.ipc_model.specs.state.State.{State}
+use Rattle.ipc_model.specs.state.Ipc.{Ipc}
 use Rattle.spaces.specs.Passed.{right_weight}
 
 count_weighs : {X : Type 0} (test : X → Bool) (xs : List X) → count_by test xs ≡ weigh (λ x. cond (test x) 1 0) xs
@@ -14,7 +14,7 @@ count_weighs test [] = refl
 count_weighs test (x ∷ xs) = sum_by-cons (λ y. cond (test y) 1 0) x xs ∙ omega (arith, count_weighs test xs)
 
 -- those that names hold or have as targets, and those that ports carry or have as targets
-pub counted_apart : (wanted : RightKind) (state : State) (serial : ℕ)
+pub counted_apart : (wanted : RightKind) (state : Ipc) (serial : ℕ)
     → total (λ space names. names_weigh (right_weight wanted serial) names) state.spaces + total
     (port_weigh (right_weight wanted serial)) state.ports ≡ count_of wanted state serial
 unfolding state_weigh

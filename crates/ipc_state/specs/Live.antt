@@ -5,21 +5,21 @@ use Rattle.ipc_model.specs.declared.message.CarriedRight.{CarriedRight}
 use Rattle.ipc_model.specs.declared.message.Message.{Message}
 use Rattle.ipc_model.specs.declared.message.PortInMessage.{PortInMessage}
 use Rattle.ipc_model.specs.declared.message.PortInMessage.TheVariants as in_message
-use Rattle.ipc_model.specs.state.State.{State, lives}
+use Rattle.ipc_model.specs.state.Ipc.{Ipc, lives}
 
-abbrev pub is_live_port : State → PortInMessage → Bool
+abbrev pub is_live_port : Ipc → PortInMessage → Bool
 is_live_port state in_message.Null = true
 is_live_port state in_message.Dead = true
 is_live_port state (in_message.Live serial) = lives state serial
 
 -- whether a carried right is to a live port, or to none
-abbrev pub is_live : State → CarriedRight → Bool
+abbrev pub is_live : Ipc → CarriedRight → Bool
 is_live state carried = is_live_port state carried.port
 
-abbrev pub is_live_reply : State → Option CarriedRight → Bool
+abbrev pub is_live_reply : Ipc → Option CarriedRight → Bool
 is_live_reply state None = true
 is_live_reply state (Some carried) = is_live state carried
 
 -- whether each right of a message is to a live port
-abbrev pub carries_live : State → Message → Bool
+abbrev pub carries_live : Ipc → Message → Bool
 carries_live state message = is_live_reply state message.reply && list_all (is_live state) message.rights

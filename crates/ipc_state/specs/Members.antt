@@ -6,14 +6,14 @@ use Rattle.std.specs.FinMap.{get, empty, get-empty}
 use Rattle.ipc_laws.specs.MapSums.{key_is, same_key}
 use Rattle.ipc_model.specs.declared.entry.Entry.{Entry}
 use Rattle.ipc_model.specs.declared.port.PortState.{PortState}
-use Rattle.ipc_model.specs.state.State.{State, Names, is_number, received_port}
+use Rattle.ipc_model.specs.state.Ipc.{Ipc, Names, is_number, received_port}
 use Rattle.ports.specs.Passed.{PortTable, Ports}
 use Rattle.spaces.specs.Passed.{IsIndexed, alike_indexed, nothing_indexed, place_moved, Numbers, Tracked, moved}
 use Rattle.spaces.specs.Looking.{at_place, entry_in, parts_of, place, place_changed}
 use Rattle.spaces.specs.Slots.{SpaceMap, names_changed}
 
 -- the state of these spaces and ports
-abbrev pub state_of : SpaceMap → PortTable → State
+abbrev pub state_of : SpaceMap → PortTable → Ipc
 state_of spaces table = record { spaces = spaces; ports = table.ports; next = table.next }
 
 -- the name of the set that a port is a member of

@@ -3,7 +3,7 @@ use Rattle.std.specs.Prelude.{◌≡◌, ℕ, Bool, List, [], ◌∷◌, drop, O
 use Rattle.std.specs.Borrow.{Bor}
 use Rattle.ipc_model.specs.declared.message.Message.{Message}
 use Rattle.ipc_model.specs.declared.port.PortState.{PortState}
-use Rattle.ipc_model.specs.state.State.{next_count}
+use Rattle.ipc_model.specs.state.Ipc.{next_count}
 use Rattle.ports.specs.Passed.{PortNumbers, seen_message}
 
 -- the oldest of these messages as it was sent, where there is one, and what it is seen as among these live ports

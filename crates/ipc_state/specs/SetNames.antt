@@ -7,7 +7,7 @@ use Rattle.std.specs.FinMap as finmap
 use Rattle.ipc_model.specs.calls.PortCalls.{names_in}
 use Rattle.ipc_model.specs.declared.entry.Entry.{Entry}
 use Rattle.ipc_model.specs.declared.port.PortState.{PortState}
-use Rattle.ipc_model.specs.state.State.{State, Names, is_member, is_number, received_port}
+use Rattle.ipc_model.specs.state.Ipc.{Ipc, Names, is_member, is_number, received_port}
 use Rattle.ipc_state.specs.Members.{AreMembers, set_in, set_place, state_of}
 use Rattle.ipc_state.specs.There.{entry_named}
 use Rattle.ports.specs.Passed.{PortTable}
@@ -17,27 +17,27 @@ use Rattle.spaces.specs.Looking.{entry_in, parts_of, place}
 use Rattle.spaces.specs.Slots.{SpaceMap}
 
 -- the port whose receive right stands there, if it is a member of the set
-abbrev pub member_port : State → ℕ → Option Entry → Option ℕ
+abbrev pub member_port : Ipc → ℕ → Option Entry → Option ℕ
 member_port state set None = None
 member_port state set (Some entry) = cond (is_member state set entry) (received_port entry) None
 
 -- a name with its port, if the port is a member
-abbrev pub member_at : State → ℕ → ℕ → Option Entry → List (ℕ × ℕ)
+abbrev pub member_at : Ipc → ℕ → ℕ → Option Entry → List (ℕ × ℕ)
 member_at state set name o =
     elim (member_port state set o) as (λ _. List (ℕ × ℕ)) [ None ↦ [] | Some port ↦ (name, port) ∷ [] ]
 
-abbrev pub member_under : State → ℕ → ℕ × Entry → List (ℕ × ℕ)
+abbrev pub member_under : Ipc → ℕ → ℕ × Entry → List (ℕ × ℕ)
 member_under state set e = member_at state set e.0 (Some e.1)
 
 -- the first name, from a given one on, that may be a member's; those before it are none
-abbrev pub IsNextPlace : State → ℕ → ℕ → ℕ → Option ℕ → Type 0
+abbrev pub IsNextPlace : Ipc → ℕ → ℕ → ℕ → Option ℕ → Type 0
 IsNextPlace state space set from found =
     MatchOption found ((q : ℕ) (e : Entry) → from ≤ q → finmap.get (names_in state space) q ≡ Some e
     → member_under state set (q, e) ≡ [])
     (λ name. (from ≤ name) × ((q : ℕ) (e : Entry) → from ≤ q → q < name → finmap.get (names_in state space) q ≡ Some e
     → member_under state set (q, e) ≡ []))
 
-received : (state : State) (set : ℕ) (entry : Entry) → is_member state set entry ≡ true → (serial : ℕ)
+received : (state : Ipc) (set : ℕ) (entry : Entry) → is_member state set entry ≡ true → (serial : ℕ)
     × (received_port entry ≡ Some serial)
 received state set entry member = by_case (received_port entry) refl member
   where
@@ -68,14 +68,14 @@ one_serial e rest es same true (Some serial) at =
 one_serial e rest es same false o at = same
 
 -- the names of the members, and their ports
-pub member_names : (state : State) (set : ℕ) (es : List (ℕ × Entry))
+pub member_names : (state : Ipc) (set : ℕ) (es : List (ℕ × Entry))
     → map (λ m. m.0) (flat_map (member_under state set) es) ≡ map (λ e. e.0) (filter (λ e. is_member state set e.1) es)
 member_names state set [] = refl
 member_names state set (e ∷ es) =
     one_name e (flat_map (member_under state set) es) (filter (λ e. is_member state set e.1) es)
     (member_names state set es) (is_member state set e.1) (received_port e.1) (received state set e.1)
 
-pub member_serials : (state : State) (set : ℕ) (es : List (ℕ × Entry))
+pub member_serials : (state : Ipc) (set : ℕ) (es : List (ℕ × Entry))
     → map (λ m. m.1) (flat_map (member_under state set) es) ≡ filter_map
     (λ e. received_port e.1) (filter (λ e. is_member state set e.1) es)
 member_serials state set [] = refl
@@ -84,23 +84,23 @@ member_serials state set (e ∷ es) =
     (member_serials state set es) (is_member state set e.1) (received_port e.1) refl
 
 -- the members whose names aren't below a given one
-abbrev pub members_from : State → ℕ → Names → ℕ → List (ℕ × ℕ)
+abbrev pub members_from : Ipc → ℕ → Names → ℕ → List (ℕ × ℕ)
 members_from state set names at = flat_map (λ e. from_on at e.0 (member_under state set e)) (finmap.entries names)
 
-pub from_all : (state : State) (set : ℕ) (names : Names)
+pub from_all : (state : Ipc) (set : ℕ) (names : Names)
     → members_from state set names 0 ≡ flat_map (member_under state set) (finmap.entries names)
 from_all state set names =
     entries_alike (λ e. from_on 0 e.0 (member_under state set e)) (member_under state set) names
     (λ q w _. above_all 0 q (member_under state set (q, w)) (omega arith))
 
-pub from_none : (state : State) (set : ℕ) (names : Names) (at : ℕ)
+pub from_none : (state : Ipc) (set : ℕ) (names : Names) (at : ℕ)
     → ((q : ℕ) (e : Entry) → at ≤ q → finmap.get names q ≡ Some e → member_under state set (q, e) ≡ [])
     → members_from state set names at ≡ []
 from_none state set names at none =
     entries_none (λ e. from_on at e.0 (member_under state set e)) names
     (λ q w is. nothing_from at q (member_under state set (q, w)) (λ more. none q w more is))
 
-module _ (state : State) (set : ℕ) (names : Names) (at name : ℕ) (order : at ≤ name)
+module _ (state : Ipc) (set : ℕ) (names : Names) (at name : ℕ) (order : at ≤ name)
     (none : (q : ℕ) (e : Entry) → at ≤ q → q < name → finmap.get names q ≡ Some e
     → member_under state set (q, e) ≡ []) where
   abbrev f : ℕ × Entry → List (ℕ × ℕ)
@@ -146,7 +146,7 @@ module _ (state : State) (set : ℕ) (names : Names) (at name : ℕ) (order : at
 
 -- A name whose place isn't listed at the set's place is no member's.
 module _ (spaces : SpaceMap) (table : PortTable) (space set q : ℕ) (e : Entry) where
-  abbrev now : State
+  abbrev now : Ipc
   now = state_of spaces table
 
   stood : q < 2 ^ 32 → finmap.get (names_in now space) q ≡ Some e
@@ -208,7 +208,7 @@ none_between spaces table members space set from until few are small none q e mo
 -- The name that the indexes give is the first such name.
 module _ (spaces : SpaceMap) (table : PortTable) (members : Numbers) (space set from : ℕ) (few : space < 2 ^ 32)
     (are : AreMembers spaces table.ports members) (small : AreSmall spaces) where
-  abbrev state : State
+  abbrev state : Ipc
   state = state_of spaces table
 
   word : (q : ℕ) (e : Entry) → finmap.get (names_in state space) q ≡ Some e → q < 2 ^ 32

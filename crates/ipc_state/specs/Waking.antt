@@ -3,7 +3,7 @@ use Rattle.std.specs.Prelude.{◌≡◌, ◌⊎◌, ℕ, ◌<◌, ◌/◌, ◌^�
 use Rattle.std.specs.FinMap as finmap
 use Rattle.ipc_model.specs.declared.port.PortState.{PortState}
 use Rattle.ipc_model.specs.messages.Sending.{is_full}
-use Rattle.ipc_model.specs.state.State.{received_port}
+use Rattle.ipc_model.specs.state.Ipc.{received_port}
 use Rattle.ipc_state.specs.Members.{set_place}
 use Rattle.ports.specs.Passed.{Ports}
 use Rattle.spaces.specs.Looking.{at_place, place}

@@ -3,7 +3,7 @@ ghost use Rattle.std.specs.Prelude.{◌≡◌, ◌++◌, true, length, flat_map,
 ghost use Rattle.ipc_model.specs.effects.Effects.{queued, releases_of, release_of, release_of_reply};
 ghost use Rattle.ipc_model.specs.messages.Receiving.{without_oldest};
 ghost use Rattle.ipc_model.specs.state.Circular.{carrier_of};
-ghost use Rattle.ipc_model.specs.state.State.{next_count};
+ghost use Rattle.ipc_model.specs.state.Ipc.{next_count};
 ghost use Rattle.ipc_state.specs.Live.{carries_live};
 ghost use Rattle.ipc_state.specs.Oldest.{counted_on, oldest_gone, IsOldest};
 ghost use Rattle.ipc_state.specs.Running.{at_rest};

@@ -2,7 +2,7 @@
 ghost use Rattle.std.specs.Prelude.{◌≡◌, ◌++◌, None, OnOk, OnErr, flat_map};
 ghost use Rattle.std.specs.FinMap as map;
 ghost use Rattle.ipc_model.specs.effects.Effects.{after_death, dead_name_notices, dead_name_of_entry, entry_after_death, map_values, port_after_death};
-ghost use Rattle.ipc_model.specs.state.State.{with_port};
+ghost use Rattle.ipc_model.specs.state.Ipc.{with_port};
 ghost use Rattle.ipc_state.specs.Members.{set_in};
 ghost use Rattle.ipc_state.specs.Running.{at_rest};
 

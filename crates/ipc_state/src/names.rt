@@ -1,7 +1,7 @@
 ghost use Rattle.std.specs.Prelude.{◌≡◌, ℕ, ◌<◌, ◌≤◌, ◌↔◌, None, Some, IfOk, OnOk, OnErr, IsSome, IfSome, IsTrue, is_some};
 ghost use Rattle.std.specs.FinMap as map;
 ghost use Rattle.ipc_model.specs.calls.PortCalls.{names_in, stands_elsewhere};
-ghost use Rattle.ipc_model.specs.state.State.{IsUnused, Names, entry_at, with_changed, with_entry, without_name, name_of_port, request_of};
+ghost use Rattle.ipc_model.specs.state.Ipc.{IsUnused, Names, entry_at, with_changed, with_entry, without_name, name_of_port, request_of};
 ghost use Rattle.ipc_state.specs.Members.{set_place_of, ArePlacesRenamed};
 ghost use Rattle.ipc_state.specs.Running.{at_rest};
 ghost use Rattle.spaces.specs.Passed.{moved, AreFewReferences, under_other_name};

@@ -1,7 +1,7 @@
 //! The live ports: queries, and changes of what they have besides their queues.
 ghost use Rattle.std.specs.Prelude.{◌≡◌, ◌+◌, ◌<◌, ◌≤◌, ◌/◌, ◌^◌, false, None, Some, OnOk, OnErr, option_map};
 ghost use Rattle.std.specs.FinMap as map;
-ghost use Rattle.ipc_model.specs.state.State.{lives, new_port, ports_are_used_up, with_port};
+ghost use Rattle.ipc_model.specs.state.Ipc.{lives, new_port, ports_are_used_up, with_port};
 ghost use Rattle.ipc_state.specs.Members.{set_in, AreMembers, DifferAt};
 ghost use Rattle.ipc_state.specs.Running.{at_rest};
 ghost use Rattle.ports.specs.Passed.{changed, numbers_of, with_numbers, Ports as PortMap};

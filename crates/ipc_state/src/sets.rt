@@ -2,7 +2,7 @@
 ghost use Rattle.std.specs.Prelude.{◌≡◌, ◌++◌, ◌<◌, Some, IfOk, OnOk, flat_map, option_and_then, option_map};
 ghost use Rattle.std.specs.FinMap as map;
 ghost use Rattle.ipc_model.specs.calls.PortCalls.{names_in};
-ghost use Rattle.ipc_model.specs.state.State.{entry_at, received_port};
+ghost use Rattle.ipc_model.specs.state.Ipc.{entry_at, received_port};
 ghost use Rattle.ipc_state.specs.Members.{set_in, set_place_of};
 ghost use Rattle.ipc_state.specs.SetNames.{IsNextPlace, member_at, member_port, member_under};
 ghost use Rattle.spaces.specs.Looking.{place};

@@ -1,7 +1,7 @@
 ghost use Rattle.std.specs.Prelude.{◌≡◌, ℕ, ◌<◌, ◌↔◌, IsTrue, IsSome, OnOk, OnErr, None};
 ghost use Rattle.std.specs.FinMap as map;
 ghost use Rattle.ipc_model.specs.calls.Actions.{IsUnusedSpace};
-ghost use Rattle.ipc_model.specs.state.State.{Names, with_names};
+ghost use Rattle.ipc_model.specs.state.Ipc.{Names, with_names};
 ghost use Rattle.ipc_state.specs.Running.{at_rest};
 
 use crate::IpcState;

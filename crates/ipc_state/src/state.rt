@@ -1,7 +1,7 @@
 ghost use Rattle.std.specs.Prelude.{◌≡◌, IfOk};
 ghost use Rattle.std.specs.FinMap as map;
 ghost use Rattle.ipc_model.specs.state.Lawful.{ShortQueues};
-ghost use Rattle.ipc_model.specs.state.State.{opening_state};
+ghost use Rattle.ipc_model.specs.state.Ipc.{opening_ipc};
 ghost use Rattle.ipc_state.specs.Running.{at_rest};
 
 use codes::FIRST_SPACE;
@@ -67,7 +67,7 @@ impl IpcState {
 
     /// The state of a new store: space 1 without names, and no port.
     pub fn opening(alloc: Global) -> Result<Self, AllocError>
-        ensures { IfOk result (λ state. state ≡ at_rest opening_state) }
+        ensures { IfOk result (λ state. state ≡ at_rest opening_ipc) }
     {
         let mut state = IpcState::new(alloc);
         match state.add_space(FIRST_SPACE) {

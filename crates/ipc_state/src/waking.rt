@@ -3,7 +3,7 @@ ghost use Rattle.std.specs.Prelude.{◌≡◌, ◌⊎◌, ℕ, ◌<◌, ◌^◌,
 ghost use Rattle.std.specs.FinMap as map;
 ghost use Rattle.ipc_model.specs.declared.port.PortState.{PortState};
 ghost use Rattle.ipc_model.specs.messages.Sending.{is_full};
-ghost use Rattle.ipc_model.specs.state.State.{is_number, received_port};
+ghost use Rattle.ipc_model.specs.state.Ipc.{is_number, received_port};
 ghost use Rattle.ipc_state.specs.Members.{set_place, state_of};
 ghost use Rattle.ipc_state.specs.Waking.{IsListedFor, IsPortListed, IsSetListed, same_occupancy};
 ghost use Rattle.spaces.specs.Indexes.{AreSmall};

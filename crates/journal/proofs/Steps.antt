@@ -5,7 +5,7 @@ use Rattle.std.proofs.lemmas.List.{drop-drop}
 use Rattle.codes.specs.declared.limits.TheConstants.{MAX_RECORDS}
 use Rattle.words.specs.Words.{word, long_word}
 use Rattle.words.specs.WordLaws.{length-word, length-long_word}
-use Rattle.ipc_laws.specs.EncodingLaws.{record_once}
+use Rattle.ipc_laws.specs.RecordEncodings.{record_once}
 use Rattle.ipc_laws.specs.BatchLaws.{same_heads, batch_apart, records_are_short, length-record_encoding, are_records-front}
 use Rattle.ipc_model.specs.declared.record.Record.{Record}
 use Rattle.ipc_model.specs.encodings.Encodings.{record_encoding, records_encoding, IsRecord}

@@ -6,19 +6,23 @@ use Rattle.std.specs.FinMap.{FinMap, entries, get}
 use Rattle.ipc_model.specs.calls.PortCalls.{names_in}
 use Rattle.ipc_model.specs.declared.entry.Entry.{Entry}
 use Rattle.ipc_model.specs.declared.port.PortState.{PortState}
+use Rattle.ipc_model.specs.declared.reply.NumberedReply.{NumberedReply}
 use Rattle.ipc_model.specs.state.Lawful.{Lawful}
-use Rattle.ipc_model.specs.state.State.{Names, State}
+use Rattle.ipc_model.specs.state.Ipc.{Names, Ipc}
+use Rattle.ipc_model.specs.state.State.{KeptReplies}
 use Rattle.port_calls.specs.Passed.{entries_from, from_end, from_first, from_next, IsNextEntry}
-use Rattle.snapshot.specs.Rows.{named_row, port_row, space_row}
-use Rattle.snapshot.specs.Snapshots.{names_of}
+use Rattle.snapshot.specs.Rows.{named_row, port_row}
 use Rattle.snapshot.specs.declared.rows.LivePort.{LivePort}
 use Rattle.snapshot.specs.declared.rows.NamedEntry.{NamedEntry}
-use Rattle.snapshot.specs.declared.rows.Space.{Space}
 
 -- the row of a port, none where it is dead
 abbrev pub port_rows : ℕ → Option PortState → List LivePort
 port_rows serial None = []
 port_rows serial (Some port) = port_row (serial, port) ∷ []
+
+-- what a space keeps
+abbrev pub kept_row : KeptReplies → ℕ × Names → Option NumberedReply
+kept_row kept e = get kept e.0
 
 module _ {X R : Type 0} (row : ℕ × X → R) (m : FinMap {K = ℕ} nat_cmp X) where
   -- what was gathered, and then the rows of what is left from a key on, is the whole
@@ -49,33 +53,34 @@ pub name_more : (names : Names) (rows next : List NamedEntry) (at name : ℕ) (e
 name_more names rows next at name entry is more gathered =
     gathered_more named_row names rows next at name entry is.0 is.1 is.2 more gathered
 
--- one more space
-pub space_more : (state : State) (rows next : List Space) (at number : ℕ) → at ≤ number
-    → is_some (get state.spaces number) ≡ true → ((q : ℕ) → at ≤ q → q < number → get state.spaces q ≡ None)
-    → next ≡ rows ++ record { number = number; names = names_of (names_in state number) } ∷ []
-    → AreGathered space_row state.spaces rows at → AreGathered space_row state.spaces next (number + 1)
-space_more state rows next at number from some between more gathered =
-    gathered_more space_row state.spaces rows next at number (names_in state number) from
-    (there (get state.spaces number) some) between more gathered
-  where
-    there : (o : Option Names) → is_some o ≡ true
-        → o ≡ Some (elim o as (λ _. Names) [ None ↦ finmap.empty | Some names ↦ names ])
-    there None none = absurd (cc none)
-    there (Some names) _ = refl
+module _ {R : Type 0} (row : ℕ × Names → R) (state : Ipc) where
+  -- one more space
+  pub space_more : (rows next : List R) (at number : ℕ) → at ≤ number
+      → is_some (get state.spaces number) ≡ true → ((q : ℕ) → at ≤ q → q < number → get state.spaces q ≡ None)
+      → next ≡ rows ++ row (number, names_in state number) ∷ []
+      → AreGathered row state.spaces rows at → AreGathered row state.spaces next (number + 1)
+  space_more rows next at number from some between more gathered =
+      gathered_more row state.spaces rows next at number (names_in state number) from
+      (there (get state.spaces number) some) between more gathered
+    where
+      there : (o : Option Names) → is_some o ≡ true
+          → o ≡ Some (elim o as (λ _. Names) [ None ↦ finmap.empty | Some names ↦ names ])
+      there None none = absurd (cc none)
+      there (Some names) _ = refl
 
--- no space is left: each has a number of 32 bits
-pub spaces_all : (state : State) (rows : List Space) (at : ℕ) → Lawful state
-    → ((q : ℕ) → at ≤ q → q < 2 ^ 32 → get state.spaces q ≡ None) → AreGathered space_row state.spaces rows at
-    → rows ≡ map space_row (entries state.spaces)
-spaces_all state rows at lawful none gathered =
-    gathered_all space_row state.spaces rows at (λ q le. by q le (get state.spaces q) refl) gathered
-  where
-    by : (q : ℕ) → at ≤ q → (o : Option Names) → get state.spaces q ≡ o → get state.spaces q ≡ None
-    by q le None is = is
-    by q le (Some names) is = none q le (omega (arith, (lawful.spaces q names is).1))
+  -- no space is left: each has a number of 32 bits
+  pub spaces_all : (rows : List R) (at : ℕ) → Lawful state
+      → ((q : ℕ) → at ≤ q → q < 2 ^ 32 → get state.spaces q ≡ None) → AreGathered row state.spaces rows at
+      → rows ≡ map row (entries state.spaces)
+  spaces_all rows at lawful none gathered =
+      gathered_all row state.spaces rows at (λ q le. by q le (get state.spaces q) refl) gathered
+    where
+      by : (q : ℕ) → at ≤ q → (o : Option Names) → get state.spaces q ≡ o → get state.spaces q ≡ None
+      by q le None is = is
+      by q le (Some names) is = none q le (omega (arith, (lawful.spaces q names is).1))
 
 -- one more port
-pub port_more : (state : State) (rows next : List LivePort) (at serial : ℕ) → at ≤ serial
+pub port_more : (state : Ipc) (rows next : List LivePort) (at serial : ℕ) → at ≤ serial
     → is_some (get state.ports serial) ≡ true → ((q : ℕ) → at ≤ q → q < serial → get state.ports q ≡ None)
     → next ≡ rows ++ port_rows serial (get state.ports serial) → AreGathered port_row state.ports rows at
     → AreGathered port_row state.ports next (serial + 1)

@@ -1,6 +1,11 @@
+pub mod Answering
 pub mod Choosing
-pub mod Trials
-pub mod Stepping
-pub mod Unrecorded
-pub mod Fitting
+pub mod Committing
 pub mod Copying
+pub mod Fitting
+pub mod Keeping
+pub mod Replaying
+pub mod Restoring
+pub mod Stepping
+pub mod Trials
+pub mod Unrecorded

@@ -4,22 +4,23 @@ use Rattle.std.proofs.Common.{refl, sym, ap, subst, ◌∙◌}
 use Rattle.std.specs.FinMap as finmap
 use Rattle.codes.specs.declared.kern_return.KernReturn.{KernReturn}
 use Rattle.codes.specs.declared.kern_return.KernReturn.TheVariants.{InvalidTask}
-use Rattle.ipc_model.specs.declared.call.Call.{Call}
-use Rattle.ipc_model.specs.declared.call.Call.TheVariants as call
-use Rattle.ipc_model.specs.declared.call.Reply.{Reply}
+use Rattle.ipc_model.specs.declared.plain_call.PlainCall.{PlainCall}
+use Rattle.ipc_model.specs.declared.plain_call.PlainCall.TheVariants as call
+use Rattle.ipc_model.specs.declared.plain_reply.PlainReply.{PlainReply}
 use Rattle.ipc_model.specs.effects.Effects.{Effect, Settles, settled}
 use Rattle.ipc_model.specs.calls.PortCalls.{names_in}
-use Rattle.ipc_model.specs.state.State.{State, Names}
-use Rattle.ipc_model.specs.calls.Refusals.{refused_of}
-use Rattle.ipc_model.specs.calls.Step.{Step, ActsIn, ActsFrom, refused, number_of_call}
+use Rattle.ipc_model.specs.state.Ipc.{Ipc, Names}
+use Rattle.ipc_model.specs.calls.PlainRefusals.{refused_of}
+use Rattle.ipc_model.specs.calls.PlainStep.{PlainStep, ActsIn, ActsFrom, refused, number_of_call}
 use Rattle.kernel.specs.declared.choices.Shown.{Shown}
 use Rattle.kernel.specs.Choosing.{Prefers, shown_by}
 use Rattle.kernel.specs.Trials.{done_acting, refused_acting}
 use Rattle.port_calls.specs.Trying.{Tries, is_refusal}
 
 -- If the call may get a reply that shows this, it gets that reply.
-pub record PrefersStep (old : State) (space : ℕ) (c : Call) (shown : Shown) (answer : Reply) : Type 0 where
-  pub takes : (other : Reply) (new : State) → shown ≡ shown_by other → Step old space c other new → answer ≡ other
+pub record PrefersStep (old : Ipc) (space : ℕ) (c : PlainCall) (shown : Shown) (answer : PlainReply) : Type 0 where
+  pub takes : (other : PlainReply) (new : Ipc) → shown ≡ shown_by other → PlainStep old space c other new
+      → answer ≡ other
 
 -- A caller whose space exists.
 
@@ -27,7 +28,7 @@ or_empty : Option Names → Names
 or_empty None = finmap.empty
 or_empty (Some names) = names
 
-from_there : (old : State) (space : ℕ) (o : Option Names) (c : Call) (answer : Reply) (new : State)
+from_there : (old : Ipc) (space : ℕ) (o : Option Names) (c : PlainCall) (answer : PlainReply) (new : Ipc)
     (effects : List Effect) → finmap.get old.spaces space ≡ o → IsSome o
     → ActsIn old space (names_in old space) c answer new effects → ActsFrom old space o c answer new effects
 unfolding or_empty
@@ -35,7 +36,7 @@ from_there old space None c answer new effects is there acts = absurd (cc there)
 from_there old space (Some names) c answer new effects is there acts =
     subst (λ (n : Names). ActsIn old space n c answer new effects) (ap or_empty is) acts
 
-there_from : (old : State) (space : ℕ) (o : Option Names) (c : Call) (answer : Reply) (new : State)
+there_from : (old : Ipc) (space : ℕ) (o : Option Names) (c : PlainCall) (answer : PlainReply) (new : Ipc)
     (effects : List Effect) → finmap.get old.spaces space ≡ o → IsSome o → ActsFrom old space o c answer new effects
     → ActsIn old space (names_in old space) c answer new effects
 unfolding or_empty
@@ -44,52 +45,53 @@ there_from old space (Some names) c answer new effects is there acts =
     subst (λ (n : Names). ActsIn old space n c answer new effects) (sym (ap or_empty is)) acts
 
 -- A call acted, and what it set off has settled.
-pub step_settled : (old : State) (space : ℕ) (c : Call) (answer : Reply) (mid new : State) (effects : List Effect)
+pub step_settled : (old : Ipc) (space : ℕ) (c : PlainCall) (answer : PlainReply) (mid new : Ipc) (effects : List Effect)
     → IsSome (finmap.get old.spaces space)
-    → ActsIn old space (names_in old space) c answer mid effects → Settles mid effects new → Step old space c answer new
-unfolding Step
+    → ActsIn old space (names_in old space) c answer mid effects → Settles mid effects new
+    → PlainStep old space c answer new
+unfolding PlainStep
 step_settled old space c answer mid new effects there acts ends =
     (mid, effects, from_there old space (finmap.get old.spaces space) c answer mid effects refl there acts, ends)
 
 -- A call acted, and set nothing off.
-pub step_alone : (old : State) (space : ℕ) (c : Call) (answer : Reply) (new : State)
+pub step_alone : (old : Ipc) (space : ℕ) (c : PlainCall) (answer : PlainReply) (new : Ipc)
     → IsSome (finmap.get old.spaces space)
-    → ActsIn old space (names_in old space) c answer new [] → Step old space c answer new
+    → ActsIn old space (names_in old space) c answer new [] → PlainStep old space c answer new
 step_alone old space c answer new there acts = step_settled old space c answer new new [] there acts settled
 
 -- A caller whose space is gone.
-gone_from : (old : State) (space : ℕ) (o : Option Names) (c : Call) (answer : Reply) → is_some o ≡ false
+gone_from : (old : Ipc) (space : ℕ) (o : Option Names) (c : PlainCall) (answer : PlainReply) → is_some o ≡ false
     → answer ≡ refused c InvalidTask → ActsFrom old space o c answer old []
 gone_from old space None c answer gone is = (is, refl, refl)
 gone_from old space (Some names) c answer gone is = absurd (cc gone)
 
-pub step_gone : (old : State) (space : ℕ) (c : Call) (answer : Reply) → is_some (finmap.get old.spaces space) ≡ false
-    → answer ≡ refused c InvalidTask → Step old space c answer old
-unfolding Step
+pub step_gone : (old : Ipc) (space : ℕ) (c : PlainCall) (answer : PlainReply)
+    → is_some (finmap.get old.spaces space) ≡ false → answer ≡ refused c InvalidTask → PlainStep old space c answer old
+unfolding PlainStep
 step_gone old space c answer gone is =
     (old, [], gone_from old space (finmap.get old.spaces space) c answer gone is, settled)
 
 -- Preferred replies.
 
-pub prefers_step : (old : State) (space : ℕ) (c : Call) (shown : Shown) (answer : Reply)
+pub prefers_step : (old : Ipc) (space : ℕ) (c : PlainCall) (shown : Shown) (answer : PlainReply)
     → IsSome (finmap.get old.spaces space) → Prefers old space c shown answer → PrefersStep old space c shown answer
-unfolding Step
+unfolding PlainStep
 prefers_step old space c shown answer there prefers = record {
   takes =
       λ other new is step. prefers.takes other step.0 step.1 is
       (there_from old space (finmap.get old.spaces space) c other step.0 step.1 refl there step.2);
 }
 
-from_gone : (old : State) (space : ℕ) (o : Option Names) (c : Call) (answer : Reply) (new : State)
+from_gone : (old : Ipc) (space : ℕ) (o : Option Names) (c : PlainCall) (answer : PlainReply) (new : Ipc)
     (effects : List Effect) → is_some o ≡ false → ActsFrom old space o c answer new effects
     → answer ≡ refused c InvalidTask
 from_gone old space None c answer new effects gone acts = acts.0
 from_gone old space (Some names) c answer new effects gone acts = absurd (cc gone)
 
-pub prefers_gone : (old : State) (space : ℕ) (c : Call) (shown : Shown) (answer : Reply)
+pub prefers_gone : (old : Ipc) (space : ℕ) (c : PlainCall) (shown : Shown) (answer : PlainReply)
     → is_some (finmap.get old.spaces space) ≡ false → answer ≡ refused c InvalidTask
     → PrefersStep old space c shown answer
-unfolding Step
+unfolding PlainStep
 prefers_gone old space c shown answer gone is =
     record {
       takes = λ other new _ step. is
@@ -98,16 +100,16 @@ prefers_gone old space c shown answer gone is =
 
 -- Calls that were tried on a copy.
 
-pub step_tried : (old : State) (space : ℕ) (c : Call) (answer : Reply) (mid new : State) (effects : List Effect)
+pub step_tried : (old : Ipc) (space : ℕ) (c : PlainCall) (answer : PlainReply) (mid new : Ipc) (effects : List Effect)
     → IsSome (finmap.get old.spaces space)
     → is_refusal answer ≡ false → Tries old space c answer mid effects → Settles mid effects new
-    → Step old space c answer new
+    → PlainStep old space c answer new
 step_tried old space c answer mid new effects there done tries ends =
     step_settled old space c answer mid new effects there (done_acting old space c answer mid effects done tries) ends
 
-pub step_refused : (old : State) (space : ℕ) (c : Call) (answer : Reply) (mid : State) (effects : List Effect)
+pub step_refused : (old : Ipc) (space : ℕ) (c : PlainCall) (answer : PlainReply) (mid : Ipc) (effects : List Effect)
     → IsSome (finmap.get old.spaces space)
-    → is_refusal answer ≡ true → Tries old space c answer mid effects → Step old space c answer old
+    → is_refusal answer ≡ true → Tries old space c answer mid effects → PlainStep old space c answer old
 step_refused old space c answer mid effects there refused tries =
     step_alone old space c answer old there (refused_acting old space c answer mid effects refused tries)
 
@@ -119,7 +121,7 @@ pub of_none : {X : Type 0} (P : Type 0) (o : Option X) → o ≡ None → IfNone
 of_none P o is holds = subst (λ (p : Option _). IfNone p P) is holds
 
 -- a refusal by the call's number
-pub refused_by_number : (c : Call) (code : KernReturn) → refused_of (number_of_call c) code ≡ refused c code
+pub refused_by_number : (c : PlainCall) (code : KernReturn) → refused_of (number_of_call c) code ≡ refused c code
 refused_by_number (call.Send message) code = refl
 refused_by_number (call.Receive limit large name waited) code = refl
 refused_by_number c code = refl

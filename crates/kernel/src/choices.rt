@@ -1,10 +1,10 @@
 ghost use Rattle.std.specs.Prelude.{◌≡◌, IfOk};
-ghost use Rattle.ipc_model.specs.declared.call.Reply.{Reply};
+ghost use Rattle.ipc_model.specs.declared.plain_reply.PlainReply.{PlainReply};
 ghost use Rattle.kernel.specs.Choosing as choosing;
 ghost use Rattle.receiving.specs.Shows as shows;
 
 use codes::KernReturn;
-use ipc_model::{Reply, Sequence};
+use ipc_model::{PlainReply, Sequence};
 use receiving::{Preference, names_shown};
 use std::alloc::{AllocError, Global};
 
@@ -33,7 +33,7 @@ impl Shown {
     }
 
     /// What a reply shows.
-    pub fn of(alloc: Global, reply: &Reply) -> Result<Shown, AllocError>
+    pub fn of(alloc: Global, reply: &PlainReply) -> Result<Shown, AllocError>
         ensures { IfOk result (λ shown. shown ≡ choosing.shown_by reply.now) }
     {
         let names = names_shown(alloc, encoding_in(reply))?;
@@ -47,46 +47,47 @@ impl Shown {
 }
 
 /// The name that was chosen, if the reply shows one.
-fn name_shown(reply: &Reply) -> Option<u32>
+fn name_shown(reply: &PlainReply) -> Option<u32>
     ensures { result ≡ choosing.name_shown reply.now }
 {
     match reply {
-        Reply::Allocate { name } | Reply::PreviousTarget { name } | Reply::Extracted { name, .. } =>
-            Some(*name),
+        PlainReply::Allocate { name }
+        | PlainReply::PreviousTarget { name }
+        | PlainReply::Extracted { name, .. } => Some(*name),
         _ => None,
     }
 }
 
 /// The number of a new space and its name, if the reply shows them.
-fn space_shown(reply: &Reply) -> Option<(u32, u32)>
+fn space_shown(reply: &PlainReply) -> Option<(u32, u32)>
     ensures { result ≡ choosing.space_shown reply.now }
 {
     match reply {
-        Reply::SpaceCreated { space, name } => Some((*space, *name)),
+        PlainReply::SpaceCreated { space, name } => Some((*space, *name)),
         _ => None,
     }
 }
 
 /// Which message was received: the reply names its port, unless the space lacked names.
-fn preferred_by(reply: &Reply) -> Preference
+fn preferred_by(reply: &PlainReply) -> Preference
     ensures { result ≡ shows.preferred_by reply.now }
 {
     match reply {
-        Reply::Message {
+        PlainReply::Message {
             code: KernReturn::RcvHeaderErrorSpace,
             ..
         } => Preference::Lacking,
-        Reply::Message { member, .. } => Preference::Member(*member),
+        PlainReply::Message { member, .. } => Preference::Member(*member),
         _ => Preference::Least,
     }
 }
 
 /// The bytes of the message that was received.
-fn encoding_in(reply: &Reply) -> &[u8]
+fn encoding_in(reply: &PlainReply) -> &[u8]
     ensures { result.now ≡ shows.encoding_in reply.now }
 {
     match reply {
-        Reply::Message { message, .. } => message.as_slice(),
+        PlainReply::Message { message, .. } => message.as_slice(),
         _ => &[],
     }
 }

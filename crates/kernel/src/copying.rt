@@ -1,33 +1,82 @@
 //! The state as plain rows.
-ghost use Rattle.std.specs.Prelude.{◌≡◌, ◌++◌, IfOk, OnOk, map as mapped};
+ghost use Rattle.std.specs.Prelude.{◌≡◌, ◌++◌, IfOk, OnOk, map as mapped, option_copied};
 ghost use Rattle.std.specs.FinMap as map;
 ghost use Rattle.ipc_model.specs.calls.PortCalls.{names_in};
 ghost use Rattle.ipc_model.specs.state.Lawful.{Lawful};
-ghost use Rattle.kernel.specs.Copying.{port_rows};
+ghost use Rattle.kernel.specs.Copying.{kept_row, port_rows};
 ghost use Rattle.snapshot.specs.Rows.{port_row, space_row};
-ghost use Rattle.snapshot.specs.Snapshots.{names_of, snapshot_of};
+ghost use Rattle.snapshot.specs.Snapshots.{ipc_snapshot_of, names_of, snapshot_of};
 
 use crate::Kernel;
-use ipc_model::Sequence;
+use ipc_model::{NumberedReply, Sequence};
+use number_table::NumberTable;
 use port_calls::IpcState;
-use snapshot::{LivePort, NamedEntry, Snapshot, Space};
+use snapshot::{IpcSnapshot, LivePort, NamedEntry, Snapshot, Space};
 use std::alloc::{AllocError, Global};
 
 impl Kernel {
-    /// The state as plain rows: its spaces with their names, and its live ports with the messages in their queues,
-    /// where `MACH_PORT_DEAD` stands in place of ports that have died. If an allocation fails, nothing changed.
+    /// The state as plain rows: its spaces with their names and with the replies that they keep, and its live ports
+    /// with the messages in their queues, where `MACH_PORT_DEAD` stands in place of ports that have died. If an
+    /// allocation fails, nothing changed.
     #[tactic(auto, unfolding(snapshot::specs::Snapshots::snapshot_of))]
     pub fn copy(&self, alloc: Global) -> Result<Snapshot, AllocError>
         ensures { IfOk result (λ copy. copy ≡ snapshot_of self.now) }
     {
-        let spaces = spaces_of(alloc, &self.state)?;
-        let ports = ports_of(alloc, &self.state)?;
+        let ipc = copy_ipc(alloc, &self.state)?;
+        let kept = kept_of(alloc, &self.state, &self.kept)?;
         Ok(Snapshot {
-            next_serial: self.state.next_serial(),
-            spaces: Sequence::new(spaces),
-            ports: Sequence::new(ports),
+            ipc,
+            kept: Sequence::new(kept),
         })
     }
+}
+
+/// The spaces and the live ports.
+#[tactic(auto, unfolding(snapshot::specs::Snapshots::ipc_snapshot_of))]
+fn copy_ipc(alloc: Global, state: &IpcState) -> Result<IpcSnapshot, AllocError>
+    requires { Lawful state.now.current }
+    ensures { IfOk result (λ copy. copy ≡ ipc_snapshot_of state.now.current) }
+{
+    let spaces = spaces_of(alloc, state)?;
+    let ports = ports_of(alloc, state)?;
+    Ok(IpcSnapshot {
+        next_serial: state.next_serial(),
+        spaces: Sequence::new(spaces),
+        ports: Sequence::new(ports),
+    })
+}
+
+/// What the spaces keep, in ascending order of their numbers.
+fn kept_of(
+    alloc: Global,
+    state: &IpcState,
+    kept: &NumberTable<NumberedReply>,
+) -> Result<Vec<Option<NumberedReply>>, AllocError>
+    requires { Lawful state.now.current }
+    ensures { IfOk result (λ rows. rows.items ≡ mapped (kept_row kept.now) (map.entries state.now.current.spaces)) }
+{
+    let mut rows = Vec::new(alloc);
+    let mut at: u64 = 0;
+    while let Some(number) = state.next_space(at) {
+        let row = copy_kept(alloc, kept.get(number))?;
+        rows.push(row)?;
+        at = u64::from(number) + 1;
+    }
+    Ok(rows)
+}
+
+/// What a space keeps, again.
+fn copy_kept(
+    alloc: Global,
+    kept: Option<&NumberedReply>,
+) -> Result<Option<NumberedReply>, AllocError>
+    ensures { IfOk result (λ copy. copy ≡ option_copied kept.entry) }
+{
+    let Some(answer) = kept else {
+        return Ok(None);
+    };
+    let copy = answer.copy(alloc)?;
+    Ok(Some(copy))
 }
 
 /// The spaces in ascending order, each with its names.

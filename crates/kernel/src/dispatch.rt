@@ -1,7 +1,7 @@
 ghost use Rattle.std.specs.Prelude.{◌≡◌, [], false, true, None, IfOk, IfSome, IfNone, IsSome};
 ghost use Rattle.std.specs.FinMap as map;
 ghost use Rattle.ipc_model.specs.calls.PortCalls.{names_in};
-ghost use Rattle.ipc_model.specs.calls.Step.{ActsIn};
+ghost use Rattle.ipc_model.specs.calls.PlainStep.{ActsIn};
 ghost use Rattle.ipc_model.specs.state.Circular.{Acyclic};
 ghost use Rattle.ipc_model.specs.state.Lawful.{Lawful};
 ghost use Rattle.ipc_laws.specs.PortCallLaws.{is_port_call};
@@ -11,7 +11,7 @@ ghost use Rattle.port_calls.specs.Trying.{Tries};
 use crate::choices::Shown;
 use crate::messages::send;
 use effects::Effects;
-use ipc_model::{Call, Reply};
+use ipc_model::{PlainCall, PlainReply};
 use port_calls::{IpcState, NoticeRequest};
 use receiving::{Asked, receive};
 use std::alloc::{AllocError, Global};
@@ -21,8 +21,8 @@ pub fn read(
     alloc: Global,
     state: &IpcState,
     space: u32,
-    call: &Call,
-) -> Result<Option<Reply>, AllocError>
+    call: &PlainCall,
+) -> Result<Option<PlainReply>, AllocError>
     ensures acts { IfOk result (λ done. IfSome done
         (λ reply. ActsIn state.now.current space (names_in state.now.current space) call.now reply state.now.current
         [])) }
@@ -30,19 +30,19 @@ pub fn read(
     ensures none { IfOk result (λ done. IfNone done (only_reads call.now ≡ false)) }
 {
     match call {
-        Call::Attach { space: other } => Ok(Some(port_calls::attach(state, space, *other))),
-        Call::Names => {
+        PlainCall::Attach { space: other } => Ok(Some(port_calls::attach(state, space, *other))),
+        PlainCall::Names => {
             let reply = port_calls::names(alloc, state, space)?;
             Ok(Some(reply))
         }
-        Call::Type { name } => Ok(Some(port_calls::port_type(state, space, *name))),
-        Call::GetRefs { name, right } => Ok(Some(port_calls::get_refs(
+        PlainCall::Type { name } => Ok(Some(port_calls::port_type(state, space, *name))),
+        PlainCall::GetRefs { name, right } => Ok(Some(port_calls::get_refs(
             state, space, *name, *right,
         ))),
-        Call::GetReceiveStatus { name } => {
+        PlainCall::GetReceiveStatus { name } => {
             Ok(Some(port_calls::receive_status(state, space, *name)))
         }
-        Call::GetSetStatus { name } => {
+        PlainCall::GetSetStatus { name } => {
             let reply = port_calls::get_set_status(alloc, state, space, *name)?;
             Ok(Some(reply))
         }
@@ -56,9 +56,9 @@ pub fn change(
     alloc: Global,
     state: &mut IpcState,
     space: u32,
-    call: &Call,
+    call: &PlainCall,
     shown: &Shown,
-) -> Result<Option<Reply>, AllocError>
+) -> Result<Option<PlainReply>, AllocError>
     requires there { IsSome (map.get state.old.current.spaces space) }
     requires fresh { map.get state.old.current.ports state.old.current.next ≡ None }
     ensures acts { IfOk result (λ done. IfSome done
@@ -72,31 +72,31 @@ pub fn change(
     ensures before { state.new.before ≡ state.old.before }
 {
     match call {
-        Call::Rename { from, to } => {
+        PlainCall::Rename { from, to } => {
             let reply = port_calls::rename(alloc, state, space, *from, *to)?;
             Ok(Some(reply))
         }
-        Call::AllocateName { right, name } => {
+        PlainCall::AllocateName { right, name } => {
             let reply = port_calls::allocate_name(state, space, *right, *name)?;
             Ok(Some(reply))
         }
-        Call::Allocate { right } => {
+        PlainCall::Allocate { right } => {
             let reply = port_calls::allocate(state, space, *right, shown.name)?;
             Ok(Some(reply))
         }
-        Call::SetQlimit { name, limit } => {
+        PlainCall::SetQlimit { name, limit } => {
             let reply = port_calls::set_qlimit(state, space, *name, *limit)?;
             Ok(Some(reply))
         }
-        Call::SetMscount { name, count } => {
+        PlainCall::SetMscount { name, count } => {
             let reply = port_calls::set_mscount(state, space, *name, *count)?;
             Ok(Some(reply))
         }
-        Call::SetSeqno { name, seqno } => {
+        PlainCall::SetSeqno { name, seqno } => {
             let reply = port_calls::set_seqno(state, space, *name, *seqno)?;
             Ok(Some(reply))
         }
-        Call::MoveMember { member, after } => {
+        PlainCall::MoveMember { member, after } => {
             let reply = port_calls::move_member(state, space, *member, *after)?;
             Ok(Some(reply))
         }
@@ -110,9 +110,9 @@ pub fn give_rights_up(
     alloc: Global,
     state: &mut IpcState,
     space: u32,
-    call: &Call,
+    call: &PlainCall,
     effects: &mut Effects,
-) -> Result<Option<Reply>, AllocError>
+) -> Result<Option<PlainReply>, AllocError>
     requires none { effects.old ≡ [] }
     requires there { IsSome (map.get state.old.current.spaces space) }
     ensures tries { IfOk result (λ done. IfSome done
@@ -123,19 +123,19 @@ pub fn give_rights_up(
     ensures before { state.new.before ≡ state.old.before }
 {
     match call {
-        Call::Destroy { name } => {
+        PlainCall::Destroy { name } => {
             let reply = port_calls::destroy(alloc, state, space, *name, effects)?;
             Ok(Some(reply))
         }
-        Call::Deallocate { name } => {
+        PlainCall::Deallocate { name } => {
             let reply = port_calls::deallocate(state, space, *name, effects)?;
             Ok(Some(reply))
         }
-        Call::ModRefs { name, right, delta } => {
+        PlainCall::ModRefs { name, right, delta } => {
             let reply = port_calls::mod_refs(alloc, state, space, *name, *right, *delta, effects)?;
             Ok(Some(reply))
         }
-        Call::SpaceDestroy => {
+        PlainCall::SpaceDestroy => {
             let reply = port_calls::space_destroy(alloc, state, space, effects)?;
             Ok(Some(reply))
         }
@@ -149,10 +149,10 @@ pub fn hand_over(
     alloc: Global,
     state: &mut IpcState,
     space: u32,
-    call: &Call,
+    call: &PlainCall,
     shown: &Shown,
     effects: &mut Effects,
-) -> Result<Option<Reply>, AllocError>
+) -> Result<Option<PlainReply>, AllocError>
     requires none { effects.old ≡ [] }
     requires there { IsSome (map.get state.old.current.spaces space) }
     ensures tries { IfOk result (λ done. IfSome done
@@ -164,7 +164,7 @@ pub fn hand_over(
     ensures before { state.new.before ≡ state.old.before }
 {
     match call {
-        Call::RequestNotification {
+        PlainCall::RequestNotification {
             name,
             variant,
             sync,
@@ -181,7 +181,7 @@ pub fn hand_over(
             let reply = port_calls::request_notification(state, space, asked, shown.name, effects)?;
             Ok(Some(reply))
         }
-        Call::InsertRight {
+        PlainCall::InsertRight {
             name,
             right_name,
             disposition,
@@ -196,7 +196,7 @@ pub fn hand_over(
             )?;
             Ok(Some(reply))
         }
-        Call::ExtractRight { name, disposition } => {
+        PlainCall::ExtractRight { name, disposition } => {
             let reply = port_calls::extract_right(
                 state,
                 space,
@@ -207,7 +207,7 @@ pub fn hand_over(
             )?;
             Ok(Some(reply))
         }
-        Call::SpaceCreate { name, disposition } => {
+        PlainCall::SpaceCreate { name, disposition } => {
             let reply = port_calls::space_create(
                 alloc,
                 state,
@@ -228,10 +228,10 @@ pub fn exchange(
     alloc: Global,
     state: &mut IpcState,
     space: u32,
-    call: &Call,
+    call: &PlainCall,
     shown: &Shown,
     effects: &mut Effects,
-) -> Result<Option<Reply>, AllocError>
+) -> Result<Option<PlainReply>, AllocError>
     requires none { effects.old ≡ [] }
     requires there { IsSome (map.get state.old.current.spaces space) }
     requires rest { state.old.before ≡ state.old.current }
@@ -247,11 +247,11 @@ pub fn exchange(
     ensures before { state.new.before ≡ state.old.before }
 {
     match call {
-        Call::Send { message } => {
+        PlainCall::Send { message } => {
             let reply = send(alloc, state, space, message.as_slice(), effects)?;
             Ok(Some(reply))
         }
-        Call::Receive {
+        PlainCall::Receive {
             limit,
             large,
             name,

@@ -1,22 +1,24 @@
-ghost use Rattle.std.specs.Prelude.{◌≡◌, ◌≤◌, true, false, length, IfOk, OnOk, OnErr, IsErrOf, IfSome, IfNone, None};
-ghost use Rattle.std.specs.FinMap as map;
+ghost use Rattle.std.specs.Prelude.{◌≡◌, ◌≤◌, true, false, length, IfOk, OnErr, IsErrOf, IfSome, IfNone};
 ghost use Rattle.codes.specs.declared.limits.TheConstants.{MAX_FRAME_CONTENT};
 ghost use Rattle.ipc_model.specs.state.State.{State, opening_state};
-ghost use Rattle.ipc_model.specs.calls.Step.{Step, has_record, number_of_call};
+ghost use Rattle.ipc_model.specs.calls.Step.{Replays, Step, has_record, number_of_call};
 ghost use Rattle.ipc_model.specs.encodings.Encodings.{number_of_reply, reply_encoding};
 ghost use Rattle.ipc_laws.specs.ImageLaws.{Encodable};
 ghost use Rattle.ipc_laws.specs.RecordedSteps.{IsAnsweredWhole};
 ghost use Rattle.ipc_model.specs.state.Circular.{Acyclic};
-ghost use Rattle.ipc_model.specs.state.Lawful.{Lawful, ShortQueues};
+ghost use Rattle.ipc_model.specs.state.Lawful.{ShortQueues};
+ghost use Rattle.ipc_model.specs.state.LawfulState.{LawfulState};
 ghost use Rattle.waiting.specs.Places.{names};
 ghost use Rattle.waiting.specs.Waiting.{Wakes};
 
-use crate::choices::Shown;
-use crate::recording::{Recorder, step_recorded};
-use crate::reply::is_same_reply;
-use crate::stepping::{step, try_answer};
+use crate::answering::try_answer;
+use crate::recording::{Recorder, Unrecorded, step_recorded};
+use crate::replaying::{is_kept_already, step_again};
 use codes::{KernReturn, MACH_PORT_GET_RECEIVE_STATUS, MACH_PORT_GET_REFS, MACH_PORT_TYPE};
-use ipc_model::{Call, Record, Reply, call_in_range};
+use ipc_model::{
+    Call, NumberedReply, PlainCall, PlainReply, Record, Reply, call_in_range, reply_in_range,
+};
+use number_table::NumberTable;
 use port_calls::IpcState;
 use std::alloc::{AllocError, Global};
 use std::marker::Model;
@@ -46,20 +48,28 @@ impl From<AllocError> for ReplayFault {
 pub struct Kernel {
     pub(crate) alloc: Global,
     pub(crate) state: IpcState,
+    /// For each space, the reply that it keeps.
+    pub(crate) kept: NumberTable<NumberedReply>,
 }
 
 // Written out, so that proofs above know one function and not its parts.
 impl Drop for Kernel {
     fn drop(self) {
-        let Kernel { alloc: _, state } = self;
+        let Kernel {
+            alloc: _,
+            state,
+            kept,
+        } = self;
         drop(state);
+        drop(kept);
     }
 }
 
 impl Model for Kernel {
     ghost use Rattle.std.specs.Prelude.{◌≡◌};
     ghost use Rattle.ipc_model.specs.state.Circular.{Acyclic};
-    ghost use Rattle.ipc_model.specs.state.Lawful.{Lawful, ShortQueues};
+    ghost use Rattle.ipc_model.specs.state.Lawful.{ShortQueues};
+    ghost use Rattle.ipc_model.specs.state.LawfulState.{LawfulState};
     ghost use Rattle.ipc_model.specs.state.State.{State};
     ghost use Rattle.ipc_model.specs.state.StateCode.{state_code};
 
@@ -67,12 +77,13 @@ impl Model for Kernel {
 
     ghost coded = { state_code };
 
-    ghost view = { λ k. k.state.current };
+    ghost view = { λ k. record { ipc = k.state.current; kept = k.kept } };
 
     // Each live port has one receive right, each right names a live port, no ports carry one another in a cycle, and no
-    // queue is too long for an image. Between calls there is no change to commit or to roll back.
-    ghost invariant = { λ k. Lawful k.state.current × Acyclic k.state.current × ShortQueues k.state.current
-        × (k.state.before ≡ k.state.current) };
+    // queue is too long for an image. Each reply is kept by a space that is there, and is one that a space may keep.
+    // Between calls there is no change to commit or to roll back.
+    ghost invariant = { λ k. LawfulState (record { ipc = k.state.current; kept = k.kept }) × Acyclic k.state.current
+        × ShortQueues k.state.current × (k.state.before ≡ k.state.current) };
 }
 
 impl Kernel {
@@ -82,15 +93,19 @@ impl Kernel {
     {
         let state = IpcState::opening(alloc)?;
         state.show_queues_short();
-        Ok(Kernel { alloc, state })
+        Ok(Kernel {
+            alloc,
+            state,
+            kept: NumberTable::new(alloc),
+        })
     }
 
     /// Shows that an image can encode the state, which is lawful. It does nothing else.
     pub fn show_image(&self)
         ensures encoded { Encodable self.now }
-        ensures lawful { Lawful self.now }
-        ensures acyclic { Acyclic self.now }
-        ensures short { ShortQueues self.now }
+        ensures lawful { LawfulState self.now }
+        ensures acyclic { Acyclic self.now.ipc }
+        ensures short { ShortQueues self.now.ipc }
     {
         let _ = &self.state;
     }
@@ -105,9 +120,16 @@ impl Kernel {
         ensures err { OnErr result (self.new ≡ self.old) }
     {
         call_in_range(call);
-        let shown = Shown::nothing(self.alloc);
-        match step(self.alloc, &mut self.state, space, call, &shown) {
+        match step_recorded(
+            self.alloc,
+            &mut self.state,
+            &mut self.kept,
+            space,
+            call,
+            &mut Unrecorded,
+        ) {
             Ok(reply) => {
+                reply_in_range(call, &reply);
                 self.state.commit();
                 self.state.show_queues_short();
                 Ok(reply)
@@ -137,8 +159,16 @@ impl Kernel {
         ensures err { OnErr result ((self.new ≡ self.old) × (recorder.new ≡ recorder.old)) }
     {
         call_in_range(call);
-        match step_recorded(self.alloc, &mut self.state, space, call, recorder) {
+        match step_recorded(
+            self.alloc,
+            &mut self.state,
+            &mut self.kept,
+            space,
+            call,
+            recorder,
+        ) {
             Ok(reply) => {
+                reply_in_range(call, &reply);
                 self.state.commit();
                 self.state.show_queues_short();
                 Ok(reply)
@@ -161,7 +191,7 @@ impl Kernel {
     ) -> Result<Reply, AllocError>
         requires { R.has_room recorder.old }
         ensures step { IfOk result (λ reply. Step self.old space call.now reply self.new) }
-        ensures wakes { IfOk result (λ reply. Wakes self.old self.new (names places.new)) }
+        ensures wakes { IfOk result (λ reply. Wakes self.old.ipc self.new.ipc (names places.new)) }
         ensures number { IfOk result (λ reply. number_of_reply reply ≡ number_of_call call.now) }
         ensures written { IfOk result (λ reply. has_record call.now reply ≡ true
             → R.wrote recorder.old space call.now reply recorder.new) }
@@ -170,8 +200,16 @@ impl Kernel {
         ensures err { OnErr result ((self.new ≡ self.old) × (recorder.new ≡ recorder.old)) }
     {
         call_in_range(call);
-        match step_recorded(self.alloc, &mut self.state, space, call, recorder) {
+        match step_recorded(
+            self.alloc,
+            &mut self.state,
+            &mut self.kept,
+            space,
+            call,
+            recorder,
+        ) {
             Ok(reply) => {
+                reply_in_range(call, &reply);
                 self.state.name_places(places);
                 self.state.commit();
                 self.state.show_queues_short();
@@ -205,7 +243,10 @@ impl Kernel {
     {
         let rows = self.copy(self.alloc)?;
         match Kernel::from_snapshot(self.alloc, rows) {
-            Ok(kernel) => Ok(kernel),
+            Ok(kernel) => {
+                kernel.show_image();
+                Ok(kernel)
+            }
             // The rows of a lawful state are lawful, so memory ran out.
             Err(_) => Err(AllocError),
         }
@@ -221,7 +262,7 @@ impl Kernel {
             (λ reply. length (reply_encoding reply) ≤ MAX_FRAME_CONTENT)) }
         ensures same { self.new ≡ self.old }
     {
-        let answer = try_answer(self.alloc, &mut self.state, space, call);
+        let answer = try_answer(self.alloc, &mut self.state, &self.kept, space, call);
         self.state.roll_back();
         answer
     }
@@ -229,84 +270,73 @@ impl Kernel {
     /// What `apply` answers to `mach_port_type`, which changes nothing: the type bits of a name, or `InvalidTask` if
     /// the space is gone, or `InvalidName` if the name isn't in use. It takes no memory.
     pub fn port_type(&self, space: u32, name: u32) -> Reply
-        ensures { Step self.now space (Call.Type name) result self.now }
+        ensures { Step self.now space (Call.Plain (PlainCall.Type name)) result self.now }
     {
         if !self.state.has_space(space) {
             return gone(MACH_PORT_TYPE);
         }
-        port_calls::port_type(&self.state, space, name)
+        Reply::Plain(port_calls::port_type(&self.state, space, name))
     }
 
     /// What `apply` answers to `mach_port_get_refs`, which changes nothing. It takes no memory.
     pub fn get_refs(&self, space: u32, name: u32, right: u32) -> Reply
-        ensures { Step self.now space (Call.GetRefs name right) result self.now }
+        ensures { Step self.now space (Call.Plain (PlainCall.GetRefs name right)) result self.now }
     {
         if !self.state.has_space(space) {
             return gone(MACH_PORT_GET_REFS);
         }
-        port_calls::get_refs(&self.state, space, name, right)
+        Reply::Plain(port_calls::get_refs(&self.state, space, name, right))
     }
 
     /// What `apply` answers to `mach_port_get_receive_status`, which changes nothing. It takes no memory.
     pub fn receive_status(&self, space: u32, name: u32) -> Reply
-        ensures { Step self.now space (Call.GetReceiveStatus name) result self.now }
+        ensures { Step self.now space (Call.Plain (PlainCall.GetReceiveStatus name)) result self.now }
     {
         if !self.state.has_space(space) {
             return gone(MACH_PORT_GET_RECEIVE_STATUS);
         }
-        port_calls::receive_status(&self.state, space, name)
+        Reply::Plain(port_calls::receive_status(&self.state, space, name))
     }
 
-    /// Makes the step of a record: the machine's new state, or `Mismatch` if it has no such step. At a fault, the
+    /// Makes the step of a record: the machine's new state, or `Mismatch` if it has no such step. A record of a
+    /// numbered call that the space keeps already, with the reply that it keeps, changes nothing. At a fault, the
     /// kernel is gone.
     pub fn replay(self, record: &Record) -> Result<Kernel, ReplayFault>
-        ensures step { IfOk result (λ new. Step self record.now.space record.now.call record.now.reply new) }
-        ensures only { IfOk result (λ new. (other : State)
-            → Step self record.now.space record.now.call record.now.reply other → other ≡ new) }
-        ensures mismatch { IsErrOf result ReplayFault.Mismatch → (new : State)
-            → Step self record.now.space record.now.call record.now.reply new → ⊥ }
+        ensures step { IfOk result (λ new. Replays self «record».now new) }
+        ensures only { IfOk result (λ new. (other : State) → Replays self «record».now other → other ≡ new) }
+        ensures mismatch { IsErrOf result ReplayFault.Mismatch → (new : State) → Replays self «record».now new → ⊥ }
     {
-        let Kernel { alloc, mut state } = self;
+        if is_kept_already(&self.kept, record) {
+            return Ok(self);
+        }
+        let Kernel {
+            alloc,
+            mut state,
+            mut kept,
+        } = self;
         call_in_range(&record.call);
-        match step_again(alloc, &mut state, record) {
+        reply_in_range(&record.call, &record.reply);
+        match step_again(alloc, &mut state, &mut kept, record) {
             Ok(()) => {
                 state.commit();
                 state.show_queues_short();
-                Ok(Kernel { alloc, state })
+                Ok(Kernel { alloc, state, kept })
             }
             Err(fault) => {
                 drop(state);
+                drop(kept);
                 Err(fault)
             }
         }
     }
 }
 
-/// Makes the step of a record. At a fault, the changes must be rolled back.
-fn step_again(alloc: Global, state: &mut IpcState, record: &Record) -> Result<(), ReplayFault>
-    requires fresh { map.get state.old.current.ports state.old.current.next ≡ None }
-    requires rest { state.old.before ≡ state.old.current }
-    requires lawful { Lawful state.old.current }
-    requires acyclic { Acyclic state.old.current }
-    ensures step { OnOk result (Step state.old.current record.now.space record.now.call record.now.reply
-        state.new.current) }
-    ensures mismatch { IsErrOf result ReplayFault.Mismatch → (new : State)
-        → Step state.old.current record.now.space record.now.call record.now.reply new → ⊥ }
-{
-    let shown = Shown::of(alloc, &record.reply)?;
-    let reply = step(alloc, state, record.space, &record.call, &shown)?;
-    if !is_same_reply(&reply, &record.reply) {
-        return Err(ReplayFault::Mismatch);
-    }
-    Ok(())
-}
-
 /// The refusal of a caller whose space is gone.
 fn gone(number: u32) -> Reply
-    ensures { result ≡ Reply.Refused number KernReturn.InvalidTask }
+    ensures { result ≡ Reply.Plain (PlainReply.Refused number KernReturn.InvalidTask) }
 {
-    Reply::Refused {
+    Reply::Plain(PlainReply::Refused {
         number,
         code: KernReturn::InvalidTask,
-    }
+    })
 }

@@ -1,12 +1,14 @@
 //! Where calls wait that find nothing to do.
 ghost use Rattle.std.specs.Prelude.{◌≡◌, ◌++◌, ◌∷◌, [], map, option_and_then, IfSome, OnOk};
-ghost use Rattle.ipc_model.specs.state.State.{entry_at};
+ghost use Rattle.ipc_model.specs.state.Ipc.{entry_at};
 ghost use Rattle.waiting.specs.Places.{place_of_name};
-ghost use Rattle.waiting.specs.Waiting.{place_of_destination, places_of_call, places_of_send, port_of};
+ghost use Rattle.waiting.specs.CallPlaces.{places_of_call};
+ghost use Rattle.waiting.specs.Waiting as plain;
+ghost use Rattle.waiting.specs.Waiting.{place_of_destination, places_of_send, port_of};
 ghost use Rattle.ipc_model.specs.messages.Messages.{used_parts};
 
 use crate::Kernel;
-use ipc_model::{Call, Entry};
+use ipc_model::{Call, Entry, PlainCall};
 use port_calls::IpcState;
 use sending::cited_names;
 use std::alloc::{AllocError, Global};
@@ -19,15 +21,26 @@ impl Kernel {
         ensures { IfSome result (λ places. places.items ≡ places_of_call self.now space call.now) }
     {
         match call {
-            Call::Receive { name, .. } => place_of_receive(self.alloc, space, *name),
-            Call::Send { message } => places_of_send(
-                self.alloc,
-                &self.state,
-                space,
-                message.as_slice(),
-            ),
-            _ => Some(Vec::new(self.alloc)),
+            Call::Plain(call) => places_of_plain(self.alloc, &self.state, space, call),
+            // A numbered call waits nowhere.
+            Call::Numbered(_) | Call::Unnumberable => Some(Vec::new(self.alloc)),
         }
+    }
+}
+
+/// The places where a plain call waits.
+fn places_of_plain(
+    alloc: Global,
+    state: &IpcState,
+    space: u32,
+    call: &PlainCall,
+) -> Option<Vec<u128>>
+    ensures { IfSome result (λ places. places.items ≡ plain.places_of_call state.now.current space call.now) }
+{
+    match call {
+        PlainCall::Receive { name, .. } => place_of_receive(alloc, space, *name),
+        PlainCall::Send { message } => places_of_send(alloc, state, space, message.as_slice()),
+        _ => Some(Vec::new(alloc)),
     }
 }
 

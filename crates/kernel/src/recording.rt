@@ -4,13 +4,16 @@ ghost use Rattle.std.specs.FinMap as map;
 ghost use Rattle.ipc_laws.specs.RecordedSteps.{IsAnsweredWhole};
 ghost use Rattle.ipc_model.specs.calls.Step.{Step, has_record};
 ghost use Rattle.ipc_model.specs.declared.call.Call.{Call};
-ghost use Rattle.ipc_model.specs.declared.call.Reply.{Reply};
+ghost use Rattle.ipc_model.specs.declared.reply.Reply.{Reply};
 ghost use Rattle.ipc_model.specs.state.Circular.{Acyclic};
-ghost use Rattle.ipc_model.specs.state.Lawful.{Lawful};
+ghost use Rattle.ipc_model.specs.state.LawfulState.{LawfulState};
+ghost use Rattle.kernel.specs.Keeping.{state_of};
 
+use crate::answering::{Answered, answer_call};
 use crate::choices::Shown;
-use crate::stepping::step;
-use ipc_model::{Call, Reply};
+use crate::keeping::keep_recorded;
+use ipc_model::{Call, NumberedReply, Reply};
+use number_table::NumberTable;
 use port_calls::IpcState;
 use std::alloc::{AllocError, Global};
 
@@ -31,32 +34,46 @@ pub trait Recorder {
         ensures err { OnErr result (self.new ≡ self.old) };
 }
 
-/// Makes one step of the machine, and has its record written, if it has one. The changes must then be committed, or
-/// rolled back if an allocation failed.
+/// Writes nothing down.
+#[derive(Drop)]
+pub(crate) struct Unrecorded;
+
+impl Recorder for Unrecorded {
+    ghost has_room = { λ _. Unit {0} };
+
+    ghost wrote = { λ _ _ _ _ _. Unit {0} };
+
+    fn write(&mut self, _space: u32, _call: &Call, _reply: &Reply) -> Result<(), AllocError> {
+        Ok(())
+    }
+}
+
+/// Makes one step of the machine, has its space keep what it leaves it, and has its record written, if it has one. The
+/// changes of the IPC state must then be committed, or rolled back if an allocation failed; nothing else changed then.
 pub(crate) fn step_recorded<R: Recorder>(
     alloc: Global,
     state: &mut IpcState,
+    kept: &mut NumberTable<NumberedReply>,
     space: u32,
     call: &Call,
     recorder: &mut R,
 ) -> Result<Reply, AllocError>
     requires fresh { map.get state.old.current.ports state.old.current.next ≡ None }
     requires rest { state.old.before ≡ state.old.current }
-    requires lawful { Lawful state.old.current }
+    requires lawful { LawfulState (state_of state.old.current kept.old) }
     requires acyclic { Acyclic state.old.current }
     requires room { R.has_room recorder.old }
-    ensures step { IfOk result (λ reply. Step state.old.current space call.now reply state.new.current) }
+    ensures step { IfOk result (λ reply. Step (state_of state.old.current kept.old) space call.now reply
+        (state_of state.new.current kept.new)) }
     ensures written { IfOk result (λ reply. has_record call.now reply ≡ true
         → R.wrote recorder.old space call.now reply recorder.new) }
     ensures unwritten { IfOk result (λ reply. has_record call.now reply ≡ false → recorder.new ≡ recorder.old) }
     ensures before { state.new.before ≡ state.old.before }
-    ensures err { OnErr result (recorder.new ≡ recorder.old) }
+    ensures err { OnErr result ((kept.new ≡ kept.old) × (recorder.new ≡ recorder.old)) }
 {
     let shown = Shown::nothing(alloc);
-    let reply = step(alloc, state, space, call, &shown)?;
-    if !call.has_record(&reply) {
-        return Ok(reply);
-    }
-    recorder.write(space, call, &reply)?;
+    let done = answer_call(alloc, state, kept, space, call, &shown)?;
+    let Answered { reply, keeping } = done;
+    keep_recorded(kept, space, call, &reply, keeping, recorder)?;
     Ok(reply)
 }

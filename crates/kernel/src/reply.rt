@@ -1,13 +1,20 @@
 ghost use Rattle.std.specs.Prelude.{◌≡◌, ◌↔◌, IsTrue};
+ghost use Rattle.ipc_model.specs.encodings.PlainCalls.{number_of_reply};
+ghost use Rattle.kernel.specs.Answering.{inner};
 ghost use Rattle.port_calls.specs.Trying.{is_refusal};
 
-use ipc_model::Reply;
+use codes::{
+    MACH_MSG, MACH_PORT_ALLOCATE, MACH_PORT_EXTRACT_RIGHT, MACH_PORT_GET_RECEIVE_STATUS,
+    MACH_PORT_GET_REFS, MACH_PORT_GET_SET_STATUS, MACH_PORT_NAMES, MACH_PORT_REQUEST_NOTIFICATION,
+    MACH_PORT_TYPE, SPACE_CREATE,
+};
+use ipc_model::{PlainReply, Reply};
 
 /// Whether this reply refuses its call.
-pub fn is_refusal(reply: &Reply) -> bool
+pub fn is_refusal(reply: &PlainReply) -> bool
     ensures { result ≡ is_refusal reply.now }
 {
-    matches!(reply, Reply::Refused { .. })
+    matches!(reply, PlainReply::Refused { .. })
 }
 
 /// Whether two replies are the same.
@@ -15,37 +22,38 @@ pub fn is_same_reply(one: &Reply, other: &Reply) -> bool
     ensures { IsTrue result ↔ (one.now ≡ other.now) }
 {
     match (one, other) {
-        (Reply::Refused { number, code }, Reply::Refused { number: n, code: c }) => number == n
-            && code == c,
-        (Reply::Done { number }, Reply::Done { number: n }) => number == n,
-        (Reply::Names { names }, Reply::Names { names: others }) => names.as_slice()
-            == others.as_slice(),
-        (Reply::Type { bits }, Reply::Type { bits: b }) => bits == b,
-        (Reply::Allocate { name }, Reply::Allocate { name: n }) => name == n,
-        (Reply::References { count }, Reply::References { count: c }) => count == c,
-        (Reply::ReceiveStatus { status }, Reply::ReceiveStatus { status: s }) => status == s,
-        (Reply::SetStatus { members }, Reply::SetStatus { members: others }) => members.as_slice()
-            == others.as_slice(),
-        (Reply::PreviousTarget { name }, Reply::PreviousTarget { name: n }) => name == n,
-        (Reply::Extracted { name, kind }, Reply::Extracted { name: n, kind: k }) => name == n
-            && kind == k,
-        (
-            Reply::Message {
-                code,
-                size,
-                member,
-                message,
-            },
-            Reply::Message {
-                code: c,
-                size: s,
-                member: m,
-                message: bytes,
-            },
-        ) => { code == c && size == s && member == m && message.as_slice() == bytes.as_slice() }
-        (Reply::SpaceCreated { space, name }, Reply::SpaceCreated { space: s, name: n }) => space
-            == s
-            && name == n,
+        (Reply::Plain(one), Reply::Plain(other)) => one.is_same(other),
+        (Reply::Numbered(one), Reply::Numbered(other)) => one.is_same(other),
+        (Reply::Repeated(one), Reply::Repeated(other)) => one.is_same(other),
         _ => false,
+    }
+}
+
+/// The reply to the call itself, where the call was numbered.
+pub fn inner(reply: &Reply) -> &PlainReply
+    ensures { result.now ≡ inner reply.now }
+{
+    match reply {
+        Reply::Plain(reply) => reply,
+        Reply::Numbered(answer) | Reply::Repeated(answer) => &answer.reply,
+    }
+}
+
+/// The number of the call that a reply is to.
+pub fn number_of(reply: &PlainReply) -> u32
+    ensures { result ≡ number_of_reply reply.now }
+{
+    match reply {
+        PlainReply::Refused { number, .. } | PlainReply::Done { number } => *number,
+        PlainReply::Names { .. } => MACH_PORT_NAMES,
+        PlainReply::Type { .. } => MACH_PORT_TYPE,
+        PlainReply::Allocate { .. } => MACH_PORT_ALLOCATE,
+        PlainReply::References { .. } => MACH_PORT_GET_REFS,
+        PlainReply::ReceiveStatus { .. } => MACH_PORT_GET_RECEIVE_STATUS,
+        PlainReply::SetStatus { .. } => MACH_PORT_GET_SET_STATUS,
+        PlainReply::PreviousTarget { .. } => MACH_PORT_REQUEST_NOTIFICATION,
+        PlainReply::Extracted { .. } => MACH_PORT_EXTRACT_RIGHT,
+        PlainReply::Message { .. } => MACH_MSG,
+        PlainReply::SpaceCreated { .. } => SPACE_CREATE,
     }
 }

@@ -1,12 +1,16 @@
 //! A kernel made of a state's plain rows.
-ghost use Rattle.std.specs.Prelude.{◌≡◌, IfOk, IsErrOf};
+ghost use Rattle.std.specs.Prelude.{◌≡◌, ◌↔◌, IfOk, OnOk, IsTrue, IsErrOf, All};
+ghost use Rattle.kernel.specs.Restoring.{AreKept, MayStay, kept_in_rows, put_row};
 ghost use Rattle.snapshot.specs.LawfulSnapshot.{IsLawfulSnapshot};
 ghost use Rattle.snapshot.specs.Snapshots.{snapshot_of};
 
 use crate::Kernel;
-use snapshot::Snapshot;
+use ipc_model::NumberedReply;
+use kept_reply::may_be_kept;
+use number_table::NumberTable;
+use snapshot::{Snapshot, Space};
 use snapshot_loading::{SnapshotFault, restore};
-use std::alloc::Global;
+use std::alloc::{AllocError, Global};
 
 impl Kernel {
     /// The kernel whose state a snapshot is of; `NotLawful` if it isn't that of a lawful state. The snapshot is
@@ -16,8 +20,84 @@ impl Kernel {
         ensures lawful { IfOk result (λ kernel. IsLawfulSnapshot snapshot) }
         ensures unlawful { IsErrOf result SnapshotFault.NotLawful → IsLawfulSnapshot snapshot → ⊥ }
     {
-        let state = restore(alloc, &snapshot)?;
+        let Snapshot { ipc, kept } = snapshot;
+        let state = restore(alloc, &ipc)?;
+        if !are_kept(ipc.spaces.as_slice(), kept.as_slice()) {
+            return Err(SnapshotFault::NotLawful);
+        }
+        let kept = kept_in_rows(alloc, ipc.spaces.as_slice(), kept.into_vec())?;
         state.show_queues_short();
-        Ok(Kernel { alloc, state })
+        Ok(Kernel { alloc, state, kept })
     }
+}
+
+/// Whether a snapshot is that of a lawful state.
+pub fn lawful(alloc: Global, snapshot: &Snapshot) -> Result<bool, AllocError>
+    ensures { IfOk result (λ yes. IsTrue yes ↔ IsLawfulSnapshot snapshot.now) }
+{
+    if !snapshot_loading::lawful(alloc, &snapshot.ipc)? {
+        return Ok(false);
+    }
+    Ok(are_kept(snapshot.ipc.spaces.as_slice(), snapshot.kept.as_slice()))
+}
+
+/// Whether there is a row for each space, and each reply in the rows is one that a space may keep.
+fn are_kept(spaces: &[Space], rows: &[Option<NumberedReply>]) -> bool
+    ensures { IsTrue result ↔ AreKept spaces.now rows.now }
+{
+    if spaces.len() != rows.len() {
+        return false;
+    }
+    may_all_stay(rows)
+}
+
+/// Whether each reply in the rows is one that a space may keep.
+fn may_all_stay(rows: &[Option<NumberedReply>]) -> bool
+    ensures { IsTrue result ↔ All MayStay rows.now }
+{
+    rows.iter().all(may_stay)
+}
+
+/// Whether a space may keep this.
+fn may_stay(row: &Option<NumberedReply>) -> bool
+    ensures { IsTrue result ↔ MayStay row.now }
+{
+    match row {
+        Some(answer) => may_be_kept(answer),
+        None => true,
+    }
+}
+
+/// What the spaces keep, by their numbers.
+fn kept_in_rows(
+    alloc: Global,
+    spaces: &[Space],
+    rows: Vec<Option<NumberedReply>>,
+) -> Result<NumberTable<NumberedReply>, AllocError>
+    ensures { IfOk result (λ kept. kept ≡ kept_in_rows spaces.now rows.items) }
+{
+    let mut kept = NumberTable::new(alloc);
+    let mut rest = spaces;
+    for row in rows {
+        let Some((space, behind)) = rest.split_first() else {
+            return Ok(kept);
+        };
+        put_row(&mut kept, space.number, row)?;
+        rest = behind;
+    }
+    Ok(kept)
+}
+
+/// Has a space keep what its row has.
+fn put_row(
+    kept: &mut NumberTable<NumberedReply>,
+    space: u32,
+    row: Option<NumberedReply>,
+) -> Result<(), AllocError>
+    ensures { OnOk result (kept.new ≡ put_row kept.old space row) }
+{
+    if let Some(answer) = row {
+        let _ = kept.insert(space, answer)?;
+    }
+    Ok(())
 }

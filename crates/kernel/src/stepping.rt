@@ -1,13 +1,10 @@
-ghost use Rattle.std.specs.Prelude.{◌≡◌, ◌≤◌, [], true, false, length, None, IfOk, IfSome, IfNone, IsSome, OnOk};
+ghost use Rattle.std.specs.Prelude.{◌≡◌, [], true, false, None, IfOk, IsSome, OnOk};
 ghost use Rattle.std.specs.FinMap as map;
 ghost use Rattle.ipc_laws.specs.PortCallLaws.{is_port_call};
-ghost use Rattle.codes.specs.declared.limits.TheConstants.{MAX_FRAME_CONTENT};
-ghost use Rattle.ipc_model.specs.calls.Step.{Step, has_record};
+ghost use Rattle.ipc_model.specs.calls.PlainStep.{PlainStep};
 ghost use Rattle.ipc_model.specs.effects.Effects.{Settles};
 ghost use Rattle.ipc_model.specs.state.Circular.{Acyclic};
 ghost use Rattle.ipc_model.specs.state.Lawful.{Lawful};
-ghost use Rattle.ipc_model.specs.state.State.{State};
-ghost use Rattle.ipc_model.specs.encodings.Encodings.{reply_encoding};
 ghost use Rattle.kernel.specs.Choosing.{Prefers, only_reads, sets_nothing_off};
 ghost use Rattle.kernel.specs.Stepping.{PrefersStep};
 ghost use Rattle.port_calls.specs.Trying.{Tries};
@@ -18,7 +15,7 @@ use crate::reply::is_refusal;
 use codes::KernReturn;
 use death::settle;
 use effects::Effects;
-use ipc_model::{Call, Reply};
+use ipc_model::{PlainCall, PlainReply};
 use port_calls::IpcState;
 use std::alloc::{AllocError, Global};
 
@@ -28,19 +25,19 @@ pub fn step(
     alloc: Global,
     state: &mut IpcState,
     space: u32,
-    call: &Call,
+    call: &PlainCall,
     shown: &Shown,
-) -> Result<Reply, AllocError>
+) -> Result<PlainReply, AllocError>
     requires fresh { map.get state.old.current.ports state.old.current.next ≡ None }
     requires rest { state.old.before ≡ state.old.current }
     requires lawful { Lawful state.old.current }
     requires acyclic { Acyclic state.old.current }
-    ensures step { IfOk result (λ reply. Step state.old.current space call.now reply state.new.current) }
+    ensures step { IfOk result (λ reply. PlainStep state.old.current space call.now reply state.new.current) }
     ensures shown { IfOk result (λ reply. PrefersStep state.old.current space call.now shown.now reply) }
     ensures before { state.new.before ≡ state.old.before }
 {
     if !state.has_space(space) {
-        return Ok(Reply::refused(alloc, call.number(), KernReturn::InvalidTask));
+        return Ok(PlainReply::refused(alloc, call.number(), KernReturn::InvalidTask));
     }
     if let Some(reply) = read(alloc, state, space, call)? {
         return Ok(reply);
@@ -52,48 +49,21 @@ pub fn step(
     Ok(reply)
 }
 
-/// What `step` answers to a call that has no record; `None` if the step has one. The changes must be rolled back.
-pub fn try_answer(
-    alloc: Global,
-    state: &mut IpcState,
-    space: u32,
-    call: &Call,
-) -> Result<Option<Reply>, AllocError>
-    requires fresh { map.get state.old.current.ports state.old.current.next ≡ None }
-    requires rest { state.old.before ≡ state.old.current }
-    requires lawful { Lawful state.old.current }
-    requires acyclic { Acyclic state.old.current }
-    ensures answered { IfOk result (λ answer. IfSome answer
-        (λ reply. Step state.old.current space call.now reply state.old.current
-        × (has_record call.now reply ≡ false))) }
-    ensures none { IfOk result (λ answer. IfNone answer ((reply : Reply) × (new : State)
-        × Step state.old.current space call.now reply new × (has_record call.now reply ≡ true))) }
-    ensures fits { IfOk result (λ answer. IfSome answer (λ reply. length (reply_encoding reply) ≤ MAX_FRAME_CONTENT)) }
-    ensures before { state.new.before ≡ state.old.before }
-{
-    let shown = Shown::nothing(alloc);
-    let reply = step(alloc, state, space, call, &shown)?;
-    if call.has_record(&reply) {
-        return Ok(None);
-    }
-    Ok(Some(reply))
-}
-
 /// Makes a step that may take rights and set something off.
 fn step_by_effects(
     alloc: Global,
     state: &mut IpcState,
     space: u32,
-    call: &Call,
+    call: &PlainCall,
     shown: &Shown,
-) -> Result<Reply, AllocError>
+) -> Result<PlainReply, AllocError>
     requires there { IsSome (map.get state.old.current.spaces space) }
     requires rest { state.old.before ≡ state.old.current }
     requires lawful { Lawful state.old.current }
     requires acyclic { Acyclic state.old.current }
     requires no_read { only_reads call.now ≡ false }
     requires no_change { sets_nothing_off call.now ≡ false }
-    ensures step { IfOk result (λ reply. Step state.old.current space call.now reply state.new.current) }
+    ensures step { IfOk result (λ reply. PlainStep state.old.current space call.now reply state.new.current) }
     ensures shown { IfOk result (λ reply. PrefersStep state.old.current space call.now shown.now reply) }
     ensures before { state.new.before ≡ state.old.before }
 {
@@ -116,8 +86,8 @@ fn settle_after(
     alloc: Global,
     state: &mut IpcState,
     effects: Effects,
-    reply: Reply,
-) -> Result<Reply, AllocError>
+    reply: PlainReply,
+) -> Result<PlainReply, AllocError>
     ensures reply { IfOk result (λ r. r ≡ reply) }
     ensures settled { OnOk result (Settles state.old.current effects state.new.current) }
     ensures before { state.new.before ≡ state.old.before }
@@ -133,10 +103,10 @@ fn try_call(
     alloc: Global,
     state: &mut IpcState,
     space: u32,
-    call: &Call,
+    call: &PlainCall,
     shown: &Shown,
     effects: &mut Effects,
-) -> Result<Reply, AllocError>
+) -> Result<PlainReply, AllocError>
     requires none { effects.old ≡ [] }
     requires there { IsSome (map.get state.old.current.spaces space) }
     requires no_read { only_reads call.now ≡ false }

@@ -8,7 +8,7 @@ use Rattle.history.specs.Pasts.{PastValue}
 use Rattle.history.specs.declared.entry.Entry.{Entry}
 use Rattle.ipc_model.specs.calls.Step.{has_record}
 use Rattle.ipc_model.specs.declared.call.Call.{Call}
-use Rattle.ipc_model.specs.declared.call.Reply.{Reply}
+use Rattle.ipc_model.specs.declared.reply.Reply.{Reply}
 use Rattle.ipc_model.specs.declared.record.Record.{Record}
 use Rattle.ipc_model.specs.history.History.{IsAcknowledgedUpTo, Leads, Session, has_ticket, redeemed, redeemed_for_another, redemption}
 use Rattle.ipc_model.specs.state.State.{State}

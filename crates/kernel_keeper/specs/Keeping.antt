@@ -6,7 +6,7 @@ use Rattle.history.specs.Pasts.{PastValue, past_code}
 use Rattle.history.specs.declared.entry.Entry.{Entry}
 use Rattle.ipc_model.specs.calls.Step.{Run, Step, has_record}
 use Rattle.ipc_model.specs.declared.call.Call.{Call}
-use Rattle.ipc_model.specs.declared.call.Reply.{Reply}
+use Rattle.ipc_model.specs.declared.reply.Reply.{Reply}
 use Rattle.ipc_model.specs.state.State.{State}
 use Rattle.kernel_keeper.specs.Tokens.{entry_by, with_entry, IsHistory}
 use Rattle.store_keeper.specs.Storing.{EndValue, LoadValue}

@@ -6,7 +6,7 @@ use Rattle.history.specs.Pasts.{PastValue, past_code}
 use Rattle.history.specs.declared.entry.Entry.{Entry}
 use Rattle.ipc_model.specs.calls.Step.{Run}
 use Rattle.ipc_model.specs.declared.call.Call.{Call}
-use Rattle.ipc_model.specs.declared.call.Reply.{Reply}
+use Rattle.ipc_model.specs.declared.reply.Reply.{Reply}
 use Rattle.ipc_model.specs.history.History.{Session, Operation, After, Legal, Meet}
 use Rattle.ipc_model.specs.state.State.{State}
 

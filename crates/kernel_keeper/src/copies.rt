@@ -1,6 +1,6 @@
 ghost use Rattle.std.specs.Prelude.{◌≡◌, IfOk};
 
-use ipc_model::{Call, Record, Reply, Sequence};
+use ipc_model::{Call, NumberedCall, PlainCall, Record, Reply, Sequence};
 use std::alloc::{AllocError, Global};
 
 /// The record of a call of a task of this space with this reply.
@@ -27,142 +27,118 @@ fn copy_items<T: Copy>(alloc: Global, items: &Sequence<T>) -> Result<Sequence<T>
 fn copy_call(alloc: Global, call: &Call) -> Result<Call, AllocError>
     ensures { IfOk result (λ copy. copy ≡ call.now) }
 {
+    match call {
+        Call::Plain(call) => Ok(Call::Plain(copy_plain_call(alloc, call)?)),
+        Call::Numbered(numbered) => {
+            let call = copy_plain_call(alloc, &numbered.call)?;
+            let request = numbered.request;
+            Ok(Call::Numbered(NumberedCall { request, call }))
+        }
+        Call::Unnumberable => Ok(Call::Unnumberable),
+    }
+}
+
+fn copy_reply(alloc: Global, reply: &Reply) -> Result<Reply, AllocError>
+    ensures { IfOk result (λ copy. copy ≡ reply.now) }
+{
+    match reply {
+        Reply::Plain(reply) => Ok(Reply::Plain(reply.copy(alloc)?)),
+        Reply::Numbered(answer) => Ok(Reply::Numbered(answer.copy(alloc)?)),
+        Reply::Repeated(answer) => Ok(Reply::Repeated(answer.copy(alloc)?)),
+    }
+}
+
+fn copy_plain_call(alloc: Global, call: &PlainCall) -> Result<PlainCall, AllocError>
+    ensures { IfOk result (λ copy. copy ≡ call.now) }
+{
     let copy = match call {
-        Call::Send { message } => {
+        PlainCall::Send { message } => {
             let message = copy_items(alloc, message)?;
-            Call::Send { message }
+            PlainCall::Send { message }
         },
-        Call::Attach { space } => Call::Attach { space: *space },
-        Call::Names => Call::Names,
-        Call::Type { name } => Call::Type { name: *name },
-        Call::Rename { from, to } => Call::Rename {
+        PlainCall::Attach { space } => PlainCall::Attach { space: *space },
+        PlainCall::Names => PlainCall::Names,
+        PlainCall::Type { name } => PlainCall::Type { name: *name },
+        PlainCall::Rename { from, to } => PlainCall::Rename {
             from: *from,
             to: *to,
         },
-        Call::AllocateName { right, name } => Call::AllocateName {
+        PlainCall::AllocateName { right, name } => PlainCall::AllocateName {
             right: *right,
             name: *name,
         },
-        Call::Allocate { right } => Call::Allocate { right: *right },
-        Call::Destroy { name } => Call::Destroy { name: *name },
-        Call::Deallocate { name } => Call::Deallocate { name: *name },
-        Call::GetRefs { name, right } => Call::GetRefs {
+        PlainCall::Allocate { right } => PlainCall::Allocate { right: *right },
+        PlainCall::Destroy { name } => PlainCall::Destroy { name: *name },
+        PlainCall::Deallocate { name } => PlainCall::Deallocate { name: *name },
+        PlainCall::GetRefs { name, right } => PlainCall::GetRefs {
             name: *name,
             right: *right,
         },
-        Call::ModRefs { name, right, delta } => Call::ModRefs {
+        PlainCall::ModRefs { name, right, delta } => PlainCall::ModRefs {
             name: *name,
             right: *right,
             delta: *delta,
         },
-        Call::SetQlimit { name, limit } => Call::SetQlimit {
+        PlainCall::SetQlimit { name, limit } => PlainCall::SetQlimit {
             name: *name,
             limit: *limit,
         },
-        Call::SetMscount { name, count } => Call::SetMscount {
+        PlainCall::SetMscount { name, count } => PlainCall::SetMscount {
             name: *name,
             count: *count,
         },
-        Call::SetSeqno { name, seqno } => Call::SetSeqno {
+        PlainCall::SetSeqno { name, seqno } => PlainCall::SetSeqno {
             name: *name,
             seqno: *seqno,
         },
-        Call::GetReceiveStatus { name } => Call::GetReceiveStatus { name: *name },
-        Call::GetSetStatus { name } => Call::GetSetStatus { name: *name },
-        Call::MoveMember { member, after } => Call::MoveMember {
+        PlainCall::GetReceiveStatus { name } => PlainCall::GetReceiveStatus { name: *name },
+        PlainCall::GetSetStatus { name } => PlainCall::GetSetStatus { name: *name },
+        PlainCall::MoveMember { member, after } => PlainCall::MoveMember {
             member: *member,
             after: *after,
         },
-        Call::RequestNotification {
+        PlainCall::RequestNotification {
             name,
             variant,
             sync,
             notify,
             disposition,
-        } => Call::RequestNotification {
+        } => PlainCall::RequestNotification {
             name: *name,
             variant: *variant,
             sync: *sync,
             notify: *notify,
             disposition: *disposition,
         },
-        Call::InsertRight {
+        PlainCall::InsertRight {
             name,
             right_name,
             disposition,
-        } => Call::InsertRight {
+        } => PlainCall::InsertRight {
             name: *name,
             right_name: *right_name,
             disposition: *disposition,
         },
-        Call::ExtractRight { name, disposition } => Call::ExtractRight {
+        PlainCall::ExtractRight { name, disposition } => PlainCall::ExtractRight {
             name: *name,
             disposition: *disposition,
         },
-        Call::Receive {
+        PlainCall::Receive {
             limit,
             large,
             name,
             waited,
-        } => Call::Receive {
+        } => PlainCall::Receive {
             limit: *limit,
             large: *large,
             name: *name,
             waited: *waited,
         },
-        Call::SpaceCreate { name, disposition } => Call::SpaceCreate {
+        PlainCall::SpaceCreate { name, disposition } => PlainCall::SpaceCreate {
             name: *name,
             disposition: *disposition,
         },
-        Call::SpaceDestroy => Call::SpaceDestroy,
-    };
-    Ok(copy)
-}
-
-fn copy_reply(alloc: Global, reply: &Reply) -> Result<Reply, AllocError>
-    ensures { IfOk result (λ copy. copy ≡ reply.now) }
-{
-    let copy = match reply {
-        Reply::Names { names } => {
-            let names = copy_items(alloc, names)?;
-            Reply::Names { names }
-        },
-        Reply::SetStatus { members } => {
-            let members = copy_items(alloc, members)?;
-            Reply::SetStatus { members }
-        },
-        Reply::Message {
-            code,
-            size,
-            member,
-            message,
-        } => {
-            let message = copy_items(alloc, message)?;
-            Reply::Message {
-                code: *code,
-                size: *size,
-                member: *member,
-                message,
-            }
-        },
-        Reply::Refused { number, code } => Reply::Refused {
-            number: *number,
-            code: *code,
-        },
-        Reply::Done { number } => Reply::Done { number: *number },
-        Reply::Type { bits } => Reply::Type { bits: *bits },
-        Reply::Allocate { name } => Reply::Allocate { name: *name },
-        Reply::References { count } => Reply::References { count: *count },
-        Reply::ReceiveStatus { status } => Reply::ReceiveStatus { status: *status },
-        Reply::PreviousTarget { name } => Reply::PreviousTarget { name: *name },
-        Reply::Extracted { name, kind } => Reply::Extracted {
-            name: *name,
-            kind: *kind,
-        },
-        Reply::SpaceCreated { space, name } => Reply::SpaceCreated {
-            space: *space,
-            name: *name,
-        },
+        PlainCall::SpaceDestroy => PlainCall::SpaceDestroy,
     };
     Ok(copy)
 }

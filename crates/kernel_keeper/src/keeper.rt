@@ -2,12 +2,13 @@ ghost use Rattle.std.specs.Prelude.{◌≡◌, ◌⊎◌, ◌+◌, ◌<◌, ◌�
 ghost use Rattle.codes.specs.declared.name.TheConstants.{FIRST_SPACE};
 ghost use Rattle.ipc_model.specs.history.History.{called, looked, space_after};
 ghost use Rattle.ipc_model.specs.state.Circular.{Acyclic};
-ghost use Rattle.ipc_model.specs.state.Lawful.{Lawful};
+ghost use Rattle.ipc_model.specs.state.LawfulState.{LawfulState};
 ghost use Rattle.kernel_keeper.specs.Keeping.{Ends, IsApart, IsSame, Loads, Makes, entries_in, first_core};
 ghost use Rattle.kernel_keeper.specs.Tokens.{Did, IsHistory, KeepsRead};
 ghost use Rattle.system.specs.Halves.{CanCut, CannotTake, IsFullFor, with_receipt};
 ghost use Rattle.waiting.specs.Places.{names};
-ghost use Rattle.waiting.specs.Waiting.{Wakes, places_of_call};
+ghost use Rattle.waiting.specs.CallPlaces.{places_of_call};
+ghost use Rattle.waiting.specs.Waiting.{Wakes};
 
 use crate::acknowledged::Acknowledged;
 use crate::admissions::Admission;
@@ -67,7 +68,7 @@ impl<L: Founding> KernelKeeper<L> {
         past: Past<L>,
         book: Book<L>,
     ) -> Self
-        requires base { (kernel ≡ L.base) × Lawful L.base × Acyclic L.base }
+        requires base { (kernel ≡ L.base) × LawfulState L.base × Acyclic L.base.ipc }
         requires none { (past.entries ≡ []) × (book.total ≡ 0) }
         ensures { result ≡ record { core = first_core kernel epoch records past } }
     {
@@ -91,7 +92,7 @@ impl<L: Founding> KernelKeeper<L> {
         places: &mut Places,
     ) -> (Session<L>, Result<Ticket, SubmitFault>)
         ensures wakes { IfOk result.1
-            (λ ticket. Wakes self.old.core.half.kernel self.new.core.half.kernel (names places.new)) }
+            (λ ticket. Wakes self.old.core.half.kernel.ipc self.new.core.half.kernel.ipc (names places.new)) }
         ensures given { IfOk result.1 (λ ticket. Did L.base session (called call.now ticket.answer) result.0
             × (ticket.seen ≡ result.0.task.seen)) }
         ensures makes { IfOk result.1

@@ -1,7 +1,7 @@
 ghost use Rattle.std.specs.Prelude.{◌≡◌, ◌⊎◌, ◌≤◌, ◌<◌, ◌-◌, ◌+◌, ◌^◌, ◌++◌, [], false, length, Some, IfOk, IfSome, IfNone, IsErrOf, OnOk, OnErr, MatchBool};
 ghost use Rattle.history.specs.Entries.{Begins};
 ghost use Rattle.ipc_model.specs.state.Circular.{Acyclic};
-ghost use Rattle.ipc_model.specs.state.Lawful.{Lawful};
+ghost use Rattle.ipc_model.specs.state.LawfulState.{LawfulState};
 ghost use Rattle.kernel_keeper.specs.Keeping.{Applies, Ends, IsApart, IsSame, Learns, Loads, Makes, entries_in, entries_of_call, first_core, first_number};
 ghost use Rattle.kernel_keeper.specs.Tokens.{IsHistory, KeepsRead};
 ghost use Rattle.system.specs.Halves.{CanCut, CannotTake, Gives, IsFullFor, with_receipt};
@@ -67,7 +67,7 @@ impl<L: Founding> KernelCore<L> {
         records: u64,
         past: Past<L>,
     ) -> Self
-        requires base { (kernel ≡ L.base) × Lawful L.base × Acyclic L.base }
+        requires base { (kernel ≡ L.base) × LawfulState L.base × Acyclic L.base.ipc }
         requires none { past.entries ≡ [] }
         ensures { result ≡ first_core kernel epoch records past }
     {
@@ -108,7 +108,7 @@ impl<L: Founding> KernelCore<L> {
         places: &mut Places,
     ) -> (Past<L>, Result<Ticket, SubmitFault>)
         requires { IsHistory L.base seen.entries }
-        ensures wakes { IfOk result.1 (λ ticket. Wakes self.old.half.kernel self.new.half.kernel (names places.new)) }
+        ensures wakes { IfOk result.1 (λ ticket. Wakes self.old.half.kernel.ipc self.new.half.kernel.ipc (names places.new)) }
         ensures given { IfOk result.1
             (λ ticket. Applies L.base number space seen.entries call.now ticket result.0.entries self.old.half.log.made
             self.new.half.log.made) }
@@ -297,7 +297,7 @@ fn apply_with_witness<L: Founding>(
     call: &Call,
     places: &mut Places,
 ) -> (Past<L>, Past<L>, Result<Ticket, SubmitFault>)
-    ensures wakes { IfOk result.2 (λ ticket. Wakes half.old.kernel half.new.kernel (names places.new)) }
+    ensures wakes { IfOk result.2 (λ ticket. Wakes half.old.kernel.ipc half.new.kernel.ipc (names places.new)) }
     ensures given { IfOk result.2 (λ ticket. Gives half.old space call.now ticket half.new) }
     ensures kept { IfOk result.2 (λ ticket. result.0.entries ≡ kept.entries
         ++ entries_of_call number space call.now ticket) }

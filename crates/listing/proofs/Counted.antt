@@ -10,8 +10,8 @@ use Rattle.ipc_model.specs.declared.entry.Entry.{Entry}
 use Rattle.ipc_model.specs.declared.message.RightKind.{RightKind}
 use Rattle.ipc_model.specs.declared.message.RightKind.TheVariants as kind
 use Rattle.ipc_model.specs.state.Placed.{Right, rights_of_entry, rights_of_space, placed, same_kind}
-use Rattle.ipc_model.specs.state.State.{State, Names}
-use Rattle.snapshot.specs.Snapshots.{snapshot_of}
+use Rattle.ipc_model.specs.state.Ipc.{Ipc, Names}
+use Rattle.snapshot.specs.Snapshots.{ipc_snapshot_of}
 use Rattle.listing.specs.declared.standing.Standing.{Standing}
 use Rattle.listing.specs.declared.tally.Tally.{Tally}
 use Rattle.listing.specs.Gathering.{Notes, no_rights, tally_of, with_right, noted, gathered}
@@ -52,7 +52,7 @@ spaces_noted (e ∷ es) notes =
     ∙ sym (seen-append noted 0 (rights_of_space e.0 e.1) (flat_map (λ f. rights_of_space f.0 f.1) es) notes)
 
 -- what is recorded of a snapshot is what is recorded of all rights of its state
-pub gathered_is : (state : State) → gathered (snapshot_of state) ≡ all_noted (placed state) finmap.empty
+pub gathered_is : (state : Ipc) → gathered (ipc_snapshot_of state) ≡ all_noted (placed state) finmap.empty
 unfolding gathered placed
 gathered_is state =
     let first : List Right = flat_map (λ e. rights_of_space e.0 e.1) (finmap.entries state.spaces) in

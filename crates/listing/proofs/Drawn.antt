@@ -7,9 +7,9 @@ use Rattle.ipc_model.specs.declared.entry.Entry.{Entry}
 use Rattle.ipc_model.specs.declared.message.RightKind.{RightKind}
 use Rattle.ipc_model.specs.declared.port.PortState.{PortState}
 use Rattle.ipc_model.specs.state.Placed.{Place, held, destination, reply, body, dead_name_request, no_senders_request, port_destroyed_request, waiting, Right, rights_of_entry, rights_of_port}
-use Rattle.ipc_model.specs.state.State.{State, Names}
-use Rattle.snapshot.specs.declared.rows.Snapshot.{Snapshot}
-use Rattle.snapshot.specs.Snapshots.{names_of, snapshot_of}
+use Rattle.ipc_model.specs.state.Ipc.{Ipc, Names}
+use Rattle.snapshot.specs.declared.rows.IpcSnapshot.{IpcSnapshot}
+use Rattle.snapshot.specs.Snapshots.{names_of, ipc_snapshot_of}
 use Rattle.listing.specs.Drawing.{name_node_line, cluster_head, cluster_end, cluster, port_node_line, source, label, edge_text, edge_line, space_edges, port_edges, drawing_head, drawing_end, drawing}
 use Rattle.listing.specs.Gathering.{gathered}
 use Rattle.listing.specs.Listing.{references_of}
@@ -29,14 +29,14 @@ spaces_are [] = refl
 spaces_are (e ∷ es) =
     both (ap (λ text. cluster_head e.0 ++ (text ++ cluster_end)) (names_are e.0 (finmap.entries e.1))) (spaces_are es)
 
-port_is : (state : State) (serial : ℕ) (port : PortState)
-    → port_drawn (gathered (snapshot_of state)) (record { serial = serial; state = port })
+port_is : (state : Ipc) (serial : ℕ) (port : PortState)
+    → port_drawn (gathered (ipc_snapshot_of state)) (record { serial = serial; state = port })
     ≡ port_node_line state serial port
 port_is state serial port =
     rw (send_at state serial, send_once_at state serial)
 
-ports_are : (state : State) (es : List (ℕ × PortState))
-    → ports_drawn (gathered (snapshot_of state)) (map (λ e. record { serial = e.0; state = e.1 }) es) ≡ flat_map
+ports_are : (state : Ipc) (es : List (ℕ × PortState))
+    → ports_drawn (gathered (ipc_snapshot_of state)) (map (λ e. record { serial = e.0; state = e.1 }) es) ≡ flat_map
     (λ e. port_node_line state e.0 e.1) es
 ports_are state [] = refl
 ports_are state (e ∷ es) = both (port_is state e.0 e.1) (ports_are state es)
@@ -95,8 +95,9 @@ port_edges_are (e ∷ es) =
     flat_map-append (edge_line 0) (rights_of_port e.0 e.1) (kept_rights es) ∙ ap
     (λ text. port_edges e.0 e.1 ++ text) (port_edges_are es)
 
-all_edges_are : (state : State) (text : List ℕ)
-    → edges_drawn (snapshot_of state) text ≡ (text ++ flat_map (λ e. space_edges e.0 e.1) (finmap.entries state.spaces))
+all_edges_are : (state : Ipc) (text : List ℕ)
+    → edges_drawn (ipc_snapshot_of state) text
+    ≡ (text ++ flat_map (λ e. space_edges e.0 e.1) (finmap.entries state.spaces))
     ++ flat_map (λ e. port_edges e.0 e.1) (finmap.entries state.ports)
 all_edges_are state text =
     snapshot_is edge_drawn state text
@@ -112,33 +113,34 @@ grouped : (old head clusters ports spaces kept end : List ℕ)
     ++ (head ++ (clusters ++ (ports ++ (spaces ++ (kept ++ end)))))
 grouped old head clusters ports spaces kept end = simp append_assoc
 
-spaces_of_state : (state : State)
-    → spaces_drawn (snapshot_of state).spaces ≡ flat_map (λ e. cluster e.0 e.1) (finmap.entries state.spaces)
-unfolding snapshot_of
+spaces_of_state : (state : Ipc)
+    → spaces_drawn (ipc_snapshot_of state).spaces ≡ flat_map (λ e. cluster e.0 e.1) (finmap.entries state.spaces)
+unfolding ipc_snapshot_of
 spaces_of_state state = spaces_are (finmap.entries state.spaces)
 
-ports_of_state : (state : State)
-    → ports_drawn (gathered (snapshot_of state)) (snapshot_of state).ports ≡ flat_map
+ports_of_state : (state : Ipc)
+    → ports_drawn (gathered (ipc_snapshot_of state)) (ipc_snapshot_of state).ports ≡ flat_map
     (λ e. port_node_line state e.0 e.1) (finmap.entries state.ports)
-unfolding snapshot_of
+unfolding ipc_snapshot_of
 ports_of_state state = ports_are state (finmap.entries state.ports)
 
-drawn_is : (state : State) (old : List ℕ) → drawn (snapshot_of state) old ≡ old ++ drawing state
+drawn_is : (state : Ipc) (old : List ℕ) → drawn (ipc_snapshot_of state) old ≡ old ++ drawing state
 unfolding drawn drawing
 drawn_is state old =
     let clusters : List ℕ = flat_map (λ e. cluster e.0 e.1) (finmap.entries state.spaces) in
     let nodes : List ℕ = flat_map (λ e. port_node_line state e.0 e.1) (finmap.entries state.ports) in
     let spaces : List ℕ = flat_map (λ e. space_edges e.0 e.1) (finmap.entries state.spaces) in
     let kept : List ℕ = flat_map (λ e. port_edges e.0 e.1) (finmap.entries state.ports) in
-    ap (λ text. edges_drawn (snapshot_of state)
-    (((old ++ drawing_head) ++ text) ++ ports_drawn (gathered (snapshot_of state)) (snapshot_of state).ports)
+    ap (λ text. edges_drawn (ipc_snapshot_of state)
+    (((old ++ drawing_head) ++ text) ++ ports_drawn (gathered (ipc_snapshot_of state)) (ipc_snapshot_of state).ports)
     ++ drawing_end) (spaces_of_state state)
-    ∙ ap (λ text. edges_drawn (snapshot_of state) (((old ++ drawing_head) ++ clusters) ++ text) ++ drawing_end)
+    ∙ ap (λ text. edges_drawn (ipc_snapshot_of state) (((old ++ drawing_head) ++ clusters) ++ text) ++ drawing_end)
     (ports_of_state state)
     ∙ ap (λ text. text ++ drawing_end) (all_edges_are state (((old ++ drawing_head) ++ clusters) ++ nodes))
     ∙ grouped old drawing_head clusters nodes spaces kept drawing_end
 
-pub draw_from_rows : {A B : Type 0} (result : Result A B) (new old : List ℕ) (snapshot : Snapshot) (state : State)
-    → snapshot ≡ snapshot_of state → OnOk result (new ≡ drawn snapshot old) → OnOk result (new ≡ old ++ drawing state)
+pub draw_from_rows : {A B : Type 0} (result : Result A B) (new old : List ℕ) (snapshot : IpcSnapshot) (state : Ipc)
+    → snapshot ≡ ipc_snapshot_of state → OnOk result (new ≡ drawn snapshot old)
+    → OnOk result (new ≡ old ++ drawing state)
 draw_from_rows (Ok x) new old snapshot state is added = added ∙ ap (λ s. drawn s old) is ∙ drawn_is state old
 draw_from_rows (Err e) new old snapshot state is added = tt

@@ -8,9 +8,9 @@ use Rattle.std.specs.Ordering.{nat_cmp}
 use Rattle.ipc_model.specs.declared.entry.Entry.{Entry}
 use Rattle.ipc_model.specs.declared.port.PortState.{PortState}
 use Rattle.ipc_model.specs.state.Placed.{Place, held, destination, reply, body, dead_name_request, no_senders_request, port_destroyed_request, waiting, Right, placed, send_count, send_once_count}
-use Rattle.ipc_model.specs.state.State.{State, Names}
-use Rattle.snapshot.specs.declared.rows.Snapshot.{Snapshot}
-use Rattle.snapshot.specs.Snapshots.{names_of, snapshot_of}
+use Rattle.ipc_model.specs.state.Ipc.{Ipc, Names}
+use Rattle.snapshot.specs.declared.rows.IpcSnapshot.{IpcSnapshot}
+use Rattle.snapshot.specs.Snapshots.{names_of, ipc_snapshot_of}
 use Rattle.listing.specs.declared.tally.Tally.{Tally}
 use Rattle.listing.specs.Gathering.{no_rights, tally_of, gathered}
 use Rattle.listing.specs.Listing.{name_line, space_line, space_lines, place_encoding, receive_right, receive_text, port_line, store_line, listing}
@@ -47,48 +47,51 @@ receive_is None = refl
 receive_is (Some right) = place_is right.place
 
 -- what is recorded of a port of a state
-tally_is : (state : State) (serial : ℕ)
-    → tally_of (gathered (snapshot_of state)) serial ≡ tallied serial (placed state) no_rights
+tally_is : (state : Ipc) (serial : ℕ)
+    → tally_of (gathered (ipc_snapshot_of state)) serial ≡ tallied serial (placed state) no_rights
 tally_is state serial =
     ap (λ notes. tally_of notes serial) (gathered_is state) ∙ tally_of_all serial (placed state) finmap.empty
     ∙ ap (λ (o : Option Tally). tallied serial (placed state) (unwrap_or o no_rights)) (get-empty nat_cmp serial)
 
-receive_at : (state : State) (serial : ℕ)
-    → standing_text (tally_of (gathered (snapshot_of state)) serial).receive ≡ receive_text (receive_right state serial)
+receive_at : (state : Ipc) (serial : ℕ)
+    → standing_text (tally_of (gathered (ipc_snapshot_of state)) serial).receive
+    ≡ receive_text (receive_right state serial)
 receive_at state serial =
     ap (λ (t : Tally). standing_text t.receive) (tally_is state serial)
     ∙ ap standing_text (receive_tallied serial (placed state) no_rights) ∙ receive_is (receive_right state serial)
 
-pub send_at : (state : State) (serial : ℕ)
-    → (tally_of (gathered (snapshot_of state)) serial).send ≡ send_count state serial
+pub send_at : (state : Ipc) (serial : ℕ)
+    → (tally_of (gathered (ipc_snapshot_of state)) serial).send ≡ send_count state serial
 send_at state serial =
     ap (λ (t : Tally). t.send) (tally_is state serial) ∙ send_tallied serial (placed state) no_rights ∙ omega arith
 
-pub send_once_at : (state : State) (serial : ℕ)
-    → (tally_of (gathered (snapshot_of state)) serial).send_once ≡ send_once_count state serial
+pub send_once_at : (state : Ipc) (serial : ℕ)
+    → (tally_of (gathered (ipc_snapshot_of state)) serial).send_once ≡ send_once_count state serial
 send_once_at state serial =
     ap (λ (t : Tally). t.send_once) (tally_is state serial) ∙ send_once_tallied serial (placed state) no_rights
     ∙ omega arith
 
-port_is : (state : State) (serial : ℕ) (port : PortState)
-    → port_row (gathered (snapshot_of state)) (record { serial = serial; state = port }) ≡ port_line state serial port
+port_is : (state : Ipc) (serial : ℕ) (port : PortState)
+    → port_row (gathered (ipc_snapshot_of state)) (record { serial = serial; state = port })
+    ≡ port_line state serial port
 port_is state serial port = rw (receive_at state serial, send_at state serial, send_once_at state serial)
 
-ports_are : (state : State) (es : List (ℕ × PortState))
-    → ports_rows (gathered (snapshot_of state)) (map (λ e. record { serial = e.0; state = e.1 }) es) ≡ flat_map
+ports_are : (state : Ipc) (es : List (ℕ × PortState))
+    → ports_rows (gathered (ipc_snapshot_of state)) (map (λ e. record { serial = e.0; state = e.1 }) es) ≡ flat_map
     (λ e. port_line state e.0 e.1) es
 ports_are state [] = refl
 ports_are state (e ∷ es) = both (port_is state e.0 e.1) (ports_are state es)
 
-pub rows_are : (epoch records : ℕ) (state : State)
-    → snapshot_rows epoch records (snapshot_of state) ≡ listing epoch records state
-unfolding snapshot_rows listing snapshot_of
+pub rows_are : (epoch records : ℕ) (state : Ipc)
+    → snapshot_rows epoch records (ipc_snapshot_of state) ≡ listing epoch records state
+unfolding snapshot_rows listing ipc_snapshot_of
 rows_are epoch records state =
     ap (λ text. store_line epoch records ++ text)
     (both (spaces_are (finmap.entries state.spaces)) (ports_are state (finmap.entries state.ports)))
 
-pub list_from_rows : {A B : Type 0} (result : Result A B) (new old : List ℕ) (epoch records : ℕ) (snapshot : Snapshot)
-    (state : State) → snapshot ≡ snapshot_of state
+pub list_from_rows : {A B : Type 0} (result : Result A B) (new old : List ℕ) (epoch records : ℕ)
+    (snapshot : IpcSnapshot)
+    (state : Ipc) → snapshot ≡ ipc_snapshot_of state
     → OnOk result (new ≡ old ++ snapshot_rows epoch records snapshot)
     → OnOk result (new ≡ old ++ listing epoch records state)
 list_from_rows (Ok x) new old epoch records snapshot state is added =

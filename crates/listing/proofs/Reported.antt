@@ -13,7 +13,7 @@ use Rattle.ipc_model.specs.declared.message.RightKind.{RightKind}
 use Rattle.ipc_model.specs.declared.message.RightKind.TheVariants as kind
 use Rattle.ipc_model.specs.declared.port.PortState.{PortState}
 use Rattle.ipc_model.specs.state.Placed.{Place, held, reply, body, dead_name_request, no_senders_request, port_destroyed_request, Right, right_to, right_of_carried, right_of_reply, right_of_target, rights_of_message, rights_of_port, rights_of_entry, rights_of_space, placed, same_kind}
-use Rattle.ipc_model.specs.state.State.{State, Names}
+use Rattle.ipc_model.specs.state.Ipc.{Ipc, Names}
 use Rattle.listing.specs.Holders.{IsHeldOrCarried, IsListed, HoldersAreListed}
 use Rattle.listing.specs.Listing.{is_receive_right}
 
@@ -91,7 +91,7 @@ port_is serial port =
     (no_receive_right (no_senders_request serial) port.no_senders_target)
     (no_receive_right (port_destroyed_request serial) port.port_destroyed_target))
 
-all_are : (state : State) → ArePlaced (placed state)
+all_are : (state : Ipc) → ArePlaced (placed state)
 unfolding placed
 all_are state =
     placed-append (flat_map (λ e. rights_of_space e.0 e.1) (finmap.entries state.spaces)) _

@@ -12,8 +12,8 @@ use Rattle.ipc_model.specs.declared.message.RightKind.{RightKind}
 use Rattle.ipc_model.specs.declared.message.RightKind.TheVariants as kind
 use Rattle.ipc_model.specs.declared.port.PortState.{PortState}
 use Rattle.ipc_model.specs.state.Placed.{Place, held, destination, reply, body, dead_name_request, no_senders_request, port_destroyed_request, waiting, Right, right_to, right_of_carried, right_of_reply, right_of_target, rights_of_message, rights_of_port, rights_of_entry}
-use Rattle.ipc_model.specs.state.State.{State, Names}
-use Rattle.snapshot.specs.Snapshots.{names_of, snapshot_of}
+use Rattle.ipc_model.specs.state.Ipc.{Ipc, Names}
+use Rattle.snapshot.specs.Snapshots.{names_of, ipc_snapshot_of}
 use Rattle.listing.specs.declared.standing.Standing.{Standing}
 use Rattle.listing.specs.declared.standing.Standing.TheVariants.{Held, Queued, DeadNameRequest, NoSendersRequest, PortDestroyedRequest}
 use Rattle.listing.specs.declared.standing.StandingRight.{StandingRight}
@@ -198,10 +198,10 @@ module _ {S : Type 0} (see : StandingRight → S → S) where
       ∙ ports_are es (all_seen 0 (rights_of_port e.0 e.1) s)
       ∙ sym (seen-append 0 (rights_of_port e.0 e.1) (kept_rights es) s)
 
-  pub snapshot_is : (state : State) (s : S)
-      → snapshot_seen see (snapshot_of state) s
+  pub snapshot_is : (state : Ipc) (s : S)
+      → snapshot_seen see (ipc_snapshot_of state) s
       ≡ all_seen 0 (kept_rights (finmap.entries state.ports)) (spaces_all_seen (finmap.entries state.spaces) s)
-  unfolding snapshot_seen snapshot_of
+  unfolding snapshot_seen ipc_snapshot_of
   snapshot_is state s =
       ap (ports_seen see (map (λ e. record { serial = e.0; state = e.1 }) (finmap.entries state.ports)))
       (spaces_are (finmap.entries state.spaces) s)

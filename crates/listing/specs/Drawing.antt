@@ -7,7 +7,7 @@ use Rattle.ipc_model.specs.declared.message.RightKind.{RightKind}
 use Rattle.ipc_model.specs.declared.message.RightKind.TheVariants as kind
 use Rattle.ipc_model.specs.declared.port.PortState.{PortState}
 use Rattle.ipc_model.specs.state.Placed.{Place, held, destination, reply, body, dead_name_request, no_senders_request, port_destroyed_request, waiting, Right, rights_of_entry, rights_of_port, send_count, send_once_count}
-use Rattle.ipc_model.specs.state.State.{State, Names, type_of}
+use Rattle.ipc_model.specs.state.Ipc.{Ipc, Names, type_of}
 use Rattle.listing.specs.Listing.{hexadecimal, references_of}
 
 unfoldable pub name_node : ℕ → ℕ → List ℕ
@@ -48,7 +48,7 @@ port_node_text serial send send_once port =
     ++ (codes " once " ++ (decimal send_once ++ (codes "\\n" ++ (queue_label port ++ codes "\"];\n")))))))))
 
 -- a live port, with how many send and send-once rights it has
-abbrev pub port_node_line : State → ℕ → PortState → List ℕ
+abbrev pub port_node_line : Ipc → ℕ → PortState → List ℕ
 port_node_line state serial port = port_node_text serial (send_count state serial) (send_once_count state serial) port
 
 abbrev pub kind_word : RightKind → List ℕ
@@ -106,7 +106,7 @@ drawing_head = codes "digraph ports {\n  rankdir=LR;\n  node [shape=box];\n"
 abbrev pub drawing_end : List ℕ
 drawing_end = codes "}\n"
 
-unfoldable pub drawing : State → List ℕ
+unfoldable pub drawing : Ipc → List ℕ
 drawing state =
     drawing_head
     ++ (flat_map (λ e. cluster e.0 e.1) (finmap.entries state.spaces)

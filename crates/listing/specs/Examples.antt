@@ -14,7 +14,7 @@ use Rattle.ipc_model.specs.declared.message.PortInMessage.TheVariants as in_mess
 use Rattle.ipc_model.specs.declared.message.RightKind.TheVariants as kind
 use Rattle.ipc_model.specs.declared.port.PortState.{PortState}
 use Rattle.ipc_model.specs.state.Placed.{placed}
-use Rattle.ipc_model.specs.state.State.{State, Names, opening_state, new_port}
+use Rattle.ipc_model.specs.state.Ipc.{Ipc, Names, opening_ipc, new_port}
 use Rattle.listing.specs.Drawing.{name_node, port_node, name_node_line, cluster_head, queue_label, port_node_text, edge_text, drawing}
 use Rattle.listing.specs.Listing.{hexadecimal, name_line, space_line, queue_text, port_encoding, store_line, listing}
 
@@ -27,11 +27,11 @@ none {X} =
     no_length (finmap.entries (finmap.empty {X = X} {R = nat_cmp}))
     (sym (len-entries finmap.empty) ∙ len-empty nat_cmp X)
 
-opened_spaces : finmap.entries opening_state.spaces ≡ (1, finmap.empty) ∷ []
+opened_spaces : finmap.entries opening_ipc.spaces ≡ (1, finmap.empty) ∷ []
 opened_spaces = entries-insert nat_cmp_total finmap.empty 1 finmap.empty ∙ ap (finmap.put nat_cmp 1 finmap.empty) none
 
 -- a new store
-pub opening-lines : listing 0 0 opening_state ≡ codes "epoch 0 records 0\nspace 1\n"
+pub opening-lines : listing 0 0 opening_ipc ≡ codes "epoch 0 records 0\nspace 1\n"
 unfolding listing placed space_line store_line digits
 opening-lines = simp (opened_spaces, none)
 
@@ -45,7 +45,7 @@ ports_made = (1, record new_port { sequence_number = 1; make_send_count = 1 }) �
 abbrev spaces_made : List (ℕ × Names)
 spaces_made = (1, from_sorted names_made) ∷ []
 
-abbrev pub made : State
+abbrev pub made : Ipc
 made = record { spaces = from_sorted spaces_made; ports = from_sorted ports_made; next = 2 }
 
 made_names : finmap.entries {R = nat_cmp} (from_sorted names_made) ≡ names_made
@@ -117,7 +117,7 @@ ports_mixed =
 abbrev spaces_mixed : List (ℕ × Names)
 spaces_mixed = (1, from_sorted names_of_1) ∷ (2, from_sorted names_of_2) ∷ []
 
-abbrev pub mixed : State
+abbrev pub mixed : Ipc
 mixed = record { spaces = from_sorted spaces_mixed; ports = from_sorted ports_mixed; next = 5 }
 
 mixed_names_1 : finmap.entries {R = nat_cmp} (from_sorted names_of_1) ≡ names_of_1

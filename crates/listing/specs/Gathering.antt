@@ -5,7 +5,7 @@ use Rattle.std.specs.Option.{option_or, unwrap_or}
 use Rattle.std.specs.Ordering.{nat_cmp}
 use Rattle.ipc_model.specs.declared.message.RightKind.{RightKind}
 use Rattle.ipc_model.specs.declared.message.RightKind.TheVariants as kind
-use Rattle.snapshot.specs.declared.rows.Snapshot.{Snapshot}
+use Rattle.snapshot.specs.declared.rows.IpcSnapshot.{IpcSnapshot}
 use Rattle.listing.specs.declared.standing.Standing.{Standing}
 use Rattle.listing.specs.declared.standing.StandingRight.{StandingRight}
 use Rattle.listing.specs.declared.tally.Tally.{Tally}
@@ -31,5 +31,5 @@ unfoldable pub noted : StandingRight → Notes → Notes
 noted right notes = finmap.insert notes right.port (with_right right.kind right.standing (tally_of notes right.port))
 
 -- what is recorded of all rights of a snapshot
-unfoldable pub gathered : Snapshot → Notes
+unfoldable pub gathered : IpcSnapshot → Notes
 gathered snapshot = snapshot_seen noted snapshot finmap.empty

@@ -2,7 +2,7 @@
 use Rattle.std.specs.Prelude.{◌≡◌, ℕ, true, Option, None, Some}
 use Rattle.ipc_model.specs.state.Lawful.{Lawful}
 use Rattle.ipc_model.specs.state.Placed.{Place, held, destination, reply, body, dead_name_request, no_senders_request, port_destroyed_request, waiting, Right}
-use Rattle.ipc_model.specs.state.State.{State, lives}
+use Rattle.ipc_model.specs.state.Ipc.{Ipc, lives}
 use Rattle.listing.specs.Listing.{receive_right}
 
 -- under a name, or in a message of a queue
@@ -23,4 +23,4 @@ IsListed (Some right) = IsHeldOrCarried right.place
 -- The line of each live port says where its receive right is.
 abbrev pub HoldersAreListed : Type 0
 HoldersAreListed =
-    (state : State) (serial : ℕ) → Lawful state → lives state serial ≡ true → IsListed (receive_right state serial)
+    (state : Ipc) (serial : ℕ) → Lawful state → lives state serial ≡ true → IsListed (receive_right state serial)

@@ -8,7 +8,7 @@ use Rattle.ipc_model.specs.declared.entry.Entry.TheVariants.{Port, SendOnce, Set
 use Rattle.ipc_model.specs.declared.message.RightKind.TheVariants as kind
 use Rattle.ipc_model.specs.declared.port.PortState.{PortState}
 use Rattle.ipc_model.specs.state.Placed.{Place, held, destination, reply, body, dead_name_request, no_senders_request, port_destroyed_request, waiting, Right, same_kind, placed, send_count, send_once_count}
-use Rattle.ipc_model.specs.state.State.{State, Names, type_of}
+use Rattle.ipc_model.specs.state.Ipc.{Ipc, Names, type_of}
 
 -- eight hexadecimal digits: the four bytes of a number, the high one first
 unfoldable pub hexadecimal : ℕ → List ℕ
@@ -56,7 +56,7 @@ place_encoding waiting = []
 abbrev pub is_receive_right : ℕ → Right → Bool
 is_receive_right serial right = same_kind right.kind kind.Receive && right.port == serial
 
-abbrev pub receive_right : State → ℕ → Option Right
+abbrev pub receive_right : Ipc → ℕ → Option Right
 receive_right state serial = find (is_receive_right serial) (placed state)
 
 abbrev pub receive_text : Option Right → List ℕ
@@ -76,7 +76,7 @@ port_encoding serial receive send send_once port =
     ++ (decimal send ++ (codes " once " ++ (decimal send_once ++ queue_text port))))))
 
 -- a live port, where its receive right is, and how many send and send-once rights it has
-abbrev pub port_line : State → ℕ → PortState → List ℕ
+abbrev pub port_line : Ipc → ℕ → PortState → List ℕ
 port_line state serial port =
     port_encoding serial (receive_text (receive_right state serial)) (send_count state serial)
     (send_once_count state serial) port
@@ -85,7 +85,7 @@ port_line state serial port =
 unfoldable pub store_line : ℕ → ℕ → List ℕ
 store_line epoch records = codes "epoch " ++ (decimal epoch ++ (codes " records " ++ (decimal records ++ codes "\n")))
 
-unfoldable pub listing : ℕ → ℕ → State → List ℕ
+unfoldable pub listing : ℕ → ℕ → Ipc → List ℕ
 listing epoch records state =
     store_line epoch records
     ++ (flat_map (λ e. space_lines e.0 e.1) (finmap.entries state.spaces) ++ flat_map

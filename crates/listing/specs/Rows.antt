@@ -2,7 +2,7 @@
 use Rattle.std.specs.Prelude.{ℕ, List, [], ◌++◌, flat_map, Option, None, Some, codes, decimal}
 use Rattle.snapshot.specs.declared.rows.LivePort.{LivePort}
 use Rattle.snapshot.specs.declared.rows.NamedEntry.{NamedEntry}
-use Rattle.snapshot.specs.declared.rows.Snapshot.{Snapshot}
+use Rattle.snapshot.specs.declared.rows.IpcSnapshot.{IpcSnapshot}
 use Rattle.snapshot.specs.declared.rows.Space.{Space}
 use Rattle.listing.specs.declared.standing.Standing.{Standing}
 use Rattle.listing.specs.declared.standing.Standing.TheVariants.{Held, Queued, DeadNameRequest, NoSendersRequest, PortDestroyedRequest}
@@ -35,6 +35,6 @@ port_row notes port =
 abbrev pub ports_rows : Notes → List LivePort → List ℕ
 ports_rows notes ports = flat_map (port_row notes) ports
 
-unfoldable pub snapshot_rows : ℕ → ℕ → Snapshot → List ℕ
+unfoldable pub snapshot_rows : ℕ → ℕ → IpcSnapshot → List ℕ
 snapshot_rows epoch records snapshot =
     store_line epoch records ++ (spaces_rows snapshot.spaces ++ ports_rows (gathered snapshot) snapshot.ports)

@@ -3,7 +3,7 @@ use Rattle.std.specs.Prelude.{ℕ, List, ◌++◌, flat_map, codes}
 use Rattle.ipc_model.specs.declared.message.RightKind.{RightKind}
 use Rattle.snapshot.specs.declared.rows.LivePort.{LivePort}
 use Rattle.snapshot.specs.declared.rows.NamedEntry.{NamedEntry}
-use Rattle.snapshot.specs.declared.rows.Snapshot.{Snapshot}
+use Rattle.snapshot.specs.declared.rows.IpcSnapshot.{IpcSnapshot}
 use Rattle.snapshot.specs.declared.rows.Space.{Space}
 use Rattle.listing.specs.declared.standing.Standing.{Standing}
 use Rattle.listing.specs.declared.standing.Standing.TheVariants.{Held, Queued, DeadNameRequest, NoSendersRequest, PortDestroyedRequest}
@@ -49,11 +49,11 @@ edge_of right = edge_text (source_of right.standing) right.port (label_of right.
 abbrev pub edge_drawn : StandingRight → List ℕ → List ℕ
 edge_drawn right text = text ++ edge_of right
 
-abbrev pub edges_drawn : Snapshot → List ℕ → List ℕ
+abbrev pub edges_drawn : IpcSnapshot → List ℕ → List ℕ
 edges_drawn snapshot text = snapshot_seen edge_drawn snapshot text
 
 -- a text followed by a whole drawing
-unfoldable pub drawn : Snapshot → List ℕ → List ℕ
+unfoldable pub drawn : IpcSnapshot → List ℕ → List ℕ
 drawn snapshot text =
     edges_drawn snapshot (((text ++ drawing_head) ++ spaces_drawn snapshot.spaces)
     ++ ports_drawn (gathered snapshot) snapshot.ports) ++ drawing_end

@@ -11,7 +11,7 @@ use Rattle.ipc_model.specs.declared.message.RightKind.TheVariants as kind
 use Rattle.ipc_model.specs.declared.port.PortState.{PortState}
 use Rattle.snapshot.specs.declared.rows.LivePort.{LivePort}
 use Rattle.snapshot.specs.declared.rows.NamedEntry.{NamedEntry}
-use Rattle.snapshot.specs.declared.rows.Snapshot.{Snapshot}
+use Rattle.snapshot.specs.declared.rows.IpcSnapshot.{IpcSnapshot}
 use Rattle.snapshot.specs.declared.rows.Space.{Space}
 use Rattle.listing.specs.declared.standing.Standing.{Standing}
 use Rattle.listing.specs.declared.standing.Standing.TheVariants.{Held, Queued, DeadNameRequest, NoSendersRequest, PortDestroyedRequest}
@@ -95,5 +95,5 @@ module _ {S : Type 0} (see : StandingRight → S → S) where
   ports_seen (port ∷ rest) s = ports_seen rest (state_seen port.serial port.state s)
 
   -- all rights of a snapshot
-  unfoldable pub snapshot_seen : Snapshot → S → S
+  unfoldable pub snapshot_seen : IpcSnapshot → S → S
   snapshot_seen snapshot s = ports_seen snapshot.ports (spaces_seen snapshot.spaces s)

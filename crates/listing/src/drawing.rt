@@ -1,6 +1,6 @@
 ghost use Rattle.std.specs.Prelude.{◌≡◌, ◌++◌, OnOk};
-ghost use Rattle.ipc_model.specs.state.State.{State};
-ghost use Rattle.snapshot.specs.Snapshots.{snapshot_of};
+ghost use Rattle.ipc_model.specs.state.Ipc.{Ipc};
+ghost use Rattle.snapshot.specs.Snapshots.{ipc_snapshot_of};
 ghost use Rattle.listing.specs.Drawing.{drawing};
 ghost use Rattle.listing.specs.Strokes.{names_drawn, space_drawn, spaces_drawn, ports_drawn, edges_drawn, drawn};
 
@@ -9,7 +9,7 @@ use crate::standing::StandingRight;
 use crate::stroke::{cluster_head, edge_line, name_node_line, port_node_line};
 use crate::tally::{Tallies, gather};
 use crate::walk::{Visitor, see_snapshot};
-use snapshot::{LivePort, NamedEntry, Snapshot, Space};
+use snapshot::{IpcSnapshot, LivePort, NamedEntry, Space};
 use std::alloc::{AllocError, Global};
 use std::mem;
 
@@ -88,7 +88,7 @@ impl Visitor for Edges {
     }
 }
 
-fn push_edges(alloc: Global, out: &mut Vec<u8>, snapshot: &Snapshot) -> Result<(), AllocError>
+fn push_edges(alloc: Global, out: &mut Vec<u8>, snapshot: &IpcSnapshot) -> Result<(), AllocError>
     ensures { OnOk result (out.new.items ≡ edges_drawn snapshot.now out.old.items) }
 {
     let text = mem::replace(out, Vec::new(alloc));
@@ -99,7 +99,7 @@ fn push_edges(alloc: Global, out: &mut Vec<u8>, snapshot: &Snapshot) -> Result<(
 }
 
 #[tactic(auto, unfolding(crate::specs::Strokes::drawn))]
-fn push_drawing(alloc: Global, snapshot: &Snapshot, out: &mut Vec<u8>) -> Result<(), AllocError>
+fn push_drawing(alloc: Global, snapshot: &IpcSnapshot, out: &mut Vec<u8>) -> Result<(), AllocError>
     ensures { OnOk result (out.new.items ≡ drawn snapshot.now out.old.items) }
 {
     out.extend_from_slice(HEAD)?;
@@ -115,8 +115,8 @@ fn push_drawing(alloc: Global, snapshot: &Snapshot, out: &mut Vec<u8>) -> Result
 /// Adds a drawing of a state to a text, in the language of Graphviz: its spaces as clusters of their names, its live
 /// ports, and an edge for each right from where it stands to its port. It fails if memory runs out, and some of the
 /// drawing may have been added then.
-pub fn draw(alloc: Global, snapshot: &Snapshot, out: &mut Vec<u8>) -> Result<(), AllocError>
-    ensures { (state : State) → snapshot.now ≡ snapshot_of state
+pub fn draw(alloc: Global, snapshot: &IpcSnapshot, out: &mut Vec<u8>) -> Result<(), AllocError>
+    ensures { (state : Ipc) → snapshot.now ≡ ipc_snapshot_of state
         → OnOk result (out.new.items ≡ out.old.items ++ drawing state) }
 {
     push_drawing(alloc, snapshot, out)

@@ -1,12 +1,12 @@
 ghost use Rattle.std.specs.Prelude.{◌≡◌, ◌++◌, OnOk};
-ghost use Rattle.ipc_model.specs.state.State.{State};
-ghost use Rattle.snapshot.specs.Snapshots.{snapshot_of};
+ghost use Rattle.ipc_model.specs.state.Ipc.{Ipc};
+ghost use Rattle.snapshot.specs.Snapshots.{ipc_snapshot_of};
 ghost use Rattle.listing.specs.Listing.{listing};
 ghost use Rattle.listing.specs.Rows.{names_rows, space_rows, spaces_rows, ports_rows, snapshot_rows};
 
 use crate::line::{name_line, port_line, push_encoding, space_line, store_line};
 use crate::tally::{Tallies, gather};
-use snapshot::{LivePort, NamedEntry, Snapshot, Space};
+use snapshot::{IpcSnapshot, LivePort, NamedEntry, Space};
 use std::alloc::{AllocError, Global};
 
 fn push_names(alloc: Global, out: &mut Vec<u8>, names: &[NamedEntry]) -> Result<(), AllocError>
@@ -57,7 +57,7 @@ fn push_rows(
     alloc: Global,
     epoch: u64,
     records: u64,
-    snapshot: &Snapshot,
+    snapshot: &IpcSnapshot,
     out: &mut Vec<u8>,
 ) -> Result<(), AllocError>
     ensures { OnOk result (out.new.items ≡ out.old.items ++ snapshot_rows epoch records snapshot.now) }
@@ -77,10 +77,10 @@ pub fn list(
     alloc: Global,
     epoch: u64,
     records: u64,
-    snapshot: &Snapshot,
+    snapshot: &IpcSnapshot,
     out: &mut Vec<u8>,
 ) -> Result<(), AllocError>
-    ensures { (state : State) → snapshot.now ≡ snapshot_of state
+    ensures { (state : Ipc) → snapshot.now ≡ ipc_snapshot_of state
         → OnOk result (out.new.items ≡ out.old.items ++ listing epoch records state) }
 {
     push_rows(alloc, epoch, records, snapshot, out)

@@ -6,7 +6,7 @@ use crate::standing::{Standing, StandingRight};
 use crate::walk::{Visitor, see_snapshot};
 use ipc_model::RightKind;
 use number_map::NumberMap;
-use snapshot::Snapshot;
+use snapshot::IpcSnapshot;
 use std::alloc::{AllocError, Global};
 
 /// The rights of a port.
@@ -109,7 +109,7 @@ impl Visitor for Tallies {
 
 /// The rights of a snapshot's ports, by one walk over it. It fails if memory runs out.
 #[tactic(auto, unfolding(crate::specs::Gathering::gathered))]
-pub(crate) fn gather(alloc: Global, snapshot: &Snapshot) -> Result<Tallies, AllocError>
+pub(crate) fn gather(alloc: Global, snapshot: &IpcSnapshot) -> Result<Tallies, AllocError>
     ensures { IfOk result (λ tallies. tallies.by_port ≡ gathered snapshot.now) }
 {
     let mut tallies = Tallies::new(alloc);

@@ -3,7 +3,7 @@ ghost use Rattle.listing.specs.Walking.{target_seen, receive_seen, send_seen, re
 
 use crate::standing::{Standing, StandingRight};
 use ipc_model::{CarriedRight, Entry, Message, PortInMessage, PortState, RightKind};
-use snapshot::{LivePort, NamedEntry, Snapshot, Space};
+use snapshot::{IpcSnapshot, LivePort, NamedEntry, Space};
 use std::alloc::AllocError;
 
 /// Sees the rights of a state, one after another.
@@ -242,7 +242,7 @@ fn see_ports<V: Visitor>(visitor: &mut V, ports: &[LivePort]) -> Result<(), Allo
 #[tactic(auto, unfolding(crate::specs::Walking::snapshot_seen))]
 pub(crate) fn see_snapshot<V: Visitor>(
     visitor: &mut V,
-    snapshot: &Snapshot,
+    snapshot: &IpcSnapshot,
 ) -> Result<(), AllocError>
     ensures { OnOk result (V.view visitor.new ≡ snapshot_seen V.seen snapshot.now (V.view visitor.old)) }
 {

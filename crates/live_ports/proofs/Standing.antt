@@ -7,7 +7,7 @@ use Rattle.std.specs.FinMap.{empty, get, insert, remove, len, get-empty, get-ins
 use Rattle.codes.specs.declared.limits.TheConstants.{MAX_PORTS}
 use Rattle.ipc_model.specs.declared.message.Message.{Message}
 use Rattle.ipc_model.specs.declared.port.PortState.{PortState}
-use Rattle.ipc_model.specs.state.State.{new_port}
+use Rattle.ipc_model.specs.state.Ipc.{new_port}
 use Rattle.ipc_laws.specs.ListLaws.{some_same}
 use Rattle.ipc_laws.specs.MapSums.{key_is}
 use Rattle.ipc_model.specs.state.Lawful.{AreShort}

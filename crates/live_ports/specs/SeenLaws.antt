@@ -13,7 +13,7 @@ use Rattle.ipc_model.specs.declared.message.PortInMessage.TheVariants as in_mess
 use Rattle.ipc_model.specs.declared.port.PortState.{PortState}
 use Rattle.ipc_model.specs.effects.Effects.{map_values, carried_after_death, right_after_death, message_after_death}
 use Rattle.ipc_model.specs.state.Circular.{is_port}
-use Rattle.ipc_model.specs.state.State.{new_port}
+use Rattle.ipc_model.specs.state.Ipc.{new_port}
 use Rattle.ipc_laws.specs.MapLaws.{get-map_values, len-map_values}
 use Rattle.ipc_laws.specs.MapSums.{key_is, same_key}
 use Rattle.live_ports.specs.Changed.{IsMessageAt, changed, messages_in, numbers_of, with_message, without_first}

@@ -1,5 +1,5 @@
 ghost use Rattle.std.specs.Prelude.{◌≡◌, ◌<◌, ◌-◌, ◌^◌, None, Some, length, is_some, option_map, slice_index_or, IfSome, OnOk, OnErr};
-ghost use Rattle.ipc_model.specs.state.State.{new_port};
+ghost use Rattle.ipc_model.specs.state.Ipc.{new_port};
 ghost use Rattle.live_ports.specs.Changed.{IsMessageAt, messages_in, numbers_of, with_message, with_numbers, without_first};
 ghost use Rattle.live_ports.specs.PortSlot.{slot_at_rest};
 

@@ -3,7 +3,7 @@ ghost use Rattle.std.specs.FinMap as map;
 ghost use Rattle.codes.specs.declared.limits.TheConstants.{MAX_PORTS};
 ghost use Rattle.ipc_model.specs.effects.Effects.{map_values};
 ghost use Rattle.ipc_model.specs.state.Lawful.{AreShort};
-ghost use Rattle.ipc_model.specs.state.State.{new_port};
+ghost use Rattle.ipc_model.specs.state.Ipc.{new_port};
 ghost use Rattle.live_ports.specs.Changed.{changed, messages_at, numbers_of, with_message, with_numbers, without_first};
 ghost use Rattle.live_ports.specs.Noted.{AreNoted};
 ghost use Rattle.live_ports.specs.PortTable.{ports_at_rest};

@@ -2,7 +2,7 @@
 ghost use Rattle.std.specs.Prelude.{◌≡◌, ◌<◌, ◌+◌, ◌-◌, ◌^◌, ◌∷◌, ◌++◌, [], None, Some, OnOk, OnErr, IfSome, is_some, length, option_map};
 ghost use Rattle.std.specs.FinMap as map;
 ghost use Rattle.codes.specs.declared.limits.TheConstants.{MAX_PORTS};
-ghost use Rattle.ipc_model.specs.state.State.{new_port};
+ghost use Rattle.ipc_model.specs.state.Ipc.{new_port};
 ghost use Rattle.live_ports.specs.Changed.{IsMessageAt, changed, messages_at, numbers_of, with_message, with_numbers, without_first};
 ghost use Rattle.live_ports.specs.Tables.{before_of, current_of, former_ports, present_ports, committed_slot, rolled_back_slot, AreMarked, SameBefore, AreNow, AreAtRest};
 ghost use Rattle.live_ports.specs.Touched.{drained};

@@ -103,6 +103,7 @@ module _ (start : Moment) where
         acyclic = start.image.acyclic;
         short = start.image.short;
         limits = start.image.limits;
+        kept = start.image.kept;
       }
 
   -- A segment in use: its copy encodes what the segment encoded at some moment.

@@ -1,6 +1,6 @@
 ghost use Rattle.std.specs.Prelude.{◌≡◌, IfOk, OnOk, option_and_then};
 ghost use Rattle.std.specs.FinMap as map;
-ghost use Rattle.ipc_model.specs.state.State.{with_port};
+ghost use Rattle.ipc_model.specs.state.Ipc.{with_port};
 ghost use Rattle.ipc_state.specs.Passed.{AreFewReferences};
 ghost use Rattle.notify.specs.Requests.{with_request};
 

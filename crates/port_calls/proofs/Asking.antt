@@ -17,7 +17,7 @@ use Rattle.ipc_model.specs.rights.CopyIn.{Taken, copy_in}
 use Rattle.ipc_model.specs.rights.Dispositions.{Disposition}
 use Rattle.ipc_laws.specs.ListLaws.{some_same}
 use Rattle.ipc_model.specs.messages.Sending.{live_port}
-use Rattle.ipc_model.specs.declared.call.Call.TheVariants as call
+use Rattle.ipc_model.specs.declared.plain_call.PlainCall.TheVariants as call
 use Rattle.ipc_model.specs.declared.message.CarriedRight.{CarriedRight}
 use Rattle.ipc_model.specs.declared.message.PortInMessage.TheVariants.{Live}
 use Rattle.codes.specs.declared.name.TheConstants.{MACH_PORT_NULL}
@@ -25,7 +25,7 @@ use Rattle.rights.specs.Taking.{Takes}
 use Rattle.ipc_model.specs.effects.Effects.{Effect}
 use Rattle.ipc_laws.specs.Others.{with_port_spaces}
 use Rattle.ipc_model.specs.calls.PortCalls.{names_are_used_up, is_no_name, is_variant, names_in, notify_disposition, target_under, tests_of, tests_of_copy_in, tests_of_request, tests_of_taken, tests_of_variant}
-use Rattle.ipc_model.specs.state.State.{State, Names, entry_at, received_port, with_entry, with_names}
+use Rattle.ipc_model.specs.state.Ipc.{Ipc, Names, entry_at, received_port, with_entry, with_names}
 use Rattle.ipc_model.specs.calls.Tests.{Tests, first_failing}
 use Rattle.rights.specs.Passed.{names_added}
 use Rattle.rights.specs.Passed.{or_empty}
@@ -60,7 +60,7 @@ none_fails (test ∷ xs) ys passes =
       | false ↦ λ (later : _). none_fails xs ys later
     ] passes
 
-module _ (state : State) (space name variant sync : ℕ) (cancels : Bool)
+module _ (state : Ipc) (space name variant sync : ℕ) (cancels : Bool)
     (passes : first_failing (tests_of_request state space name variant sync cancels) ≡ None) where
   named_tests : first_failing (tests_of_variant (names_in state space) name variant sync cancels
       ++ ((
@@ -107,7 +107,7 @@ module _ (state : State) (space name variant sync : ℕ) (cancels : Bool)
       leb-false MAX_NAMES (finmap.len (names_in state space)) not_full
 
 -- a name that stands for something that can't have the request
-pub variant_fails : (state : State) (space name variant sync : ℕ) (cancels : Bool) (code : KernReturn)
+pub variant_fails : (state : Ipc) (space name variant sync : ℕ) (cancels : Bool) (code : KernReturn)
     → is_no_name (names_in state space) name ≡ false
     → first_failing (tests_of_variant (names_in state space) name variant sync cancels) ≡ Some code
     → first_failing (tests_of_request state space name variant sync cancels) ≡ Some code
@@ -122,20 +122,20 @@ variant_fails state space name variant sync cancels code named fails =
 
 -- a request takes no name, and makes none
 
-abbrev names_of : State → ℕ → ℕ
+abbrev names_of : Ipc → ℕ → ℕ
 names_of state space = finmap.len (names_in state space)
 
-aside : (state after : State) (space : ℕ) → after.spaces ≡ state.spaces → names_of after space ≡ names_of state space
+aside : (state after : Ipc) (space : ℕ) → after.spaces ≡ state.spaces → names_of after space ≡ names_of state space
 aside state after space same =
     ap (λ (spaces : FinMap nat_cmp Names). finmap.len (or_empty (finmap.get spaces space))) same
 
-entry_put : (state : State) (space name : ℕ) (before after : Entry) → entry_at state space name ≡ Some before
+entry_put : (state : Ipc) (space name : ℕ) (before after : Entry) → entry_at state space name ≡ Some before
     → names_of (with_entry state space name after) space ≡ names_of state space
 entry_put state space name before after at =
     elim (finmap.get state.spaces space)
     as (λ (o : Option Names). finmap.get state.spaces space ≡ o
     → option_and_then (λ names. finmap.get names name) o ≡ Some before
-    → finmap.len (names_in (elim o as (λ _. State)
+    → finmap.len (names_in (elim o as (λ _. Ipc)
     [ None ↦ state | Some names ↦ with_names state space (finmap.insert names name after) ]) space)
     ≡ finmap.len (or_empty o)) [
       | None ↦ λ (_ : _) (none : _). absurd (cc none)
@@ -146,22 +146,22 @@ entry_put state space name before after at =
     ] refl at
 
 abbrev Pair : Type 0
-Pair = State × List Effect
+Pair = Ipc × List Effect
 
-if_pair : (P : State → Type 0) (b : Bool) (one other : Pair) → P one.0 → P other.0 → P (if b then one else other).0
+if_pair : (P : Ipc → Type 0) (b : Bool) (one other : Pair) → P one.0 → P other.0 → P (if b then one else other).0
 if_pair P true one other first second = first
 if_pair P false one other first second = second
 
-port_request : (state : State) (variant sync serial : ℕ) (target : Option ℕ)
+port_request : (state : Ipc) (variant sync serial : ℕ) (target : Option ℕ)
     → (port_request_set state variant sync serial target).0.spaces ≡ state.spaces
 port_request state variant sync serial None = with_port_spaces state serial _
 port_request state variant sync serial (Some target) =
-    let P : State → Type 0 = λ after. after.spaces ≡ state.spaces in
+    let P : Ipc → Type 0 = λ after. after.spaces ≡ state.spaces in
     if_pair P (variant == 69) _ _ (with_port_spaces state serial _)
     (if_pair P (lacks_senders state sync serial) _ _ (with_port_spaces state serial _)
     (with_port_spaces state serial _))
 
-dead_request : (state : State) (space name : ℕ) (target : Option ℕ) (entry : Entry)
+dead_request : (state : Ipc) (space name : ℕ) (target : Option ℕ) (entry : Entry)
     → entry_at state space name ≡ Some entry
     → names_of (dead_name_request_set state space name target entry).0 space ≡ names_of state space
 dead_request state space name target (Port rights) at = entry_put state space name (Port rights) _ at
@@ -170,7 +170,7 @@ dead_request state space name target Set at = refl
 dead_request state space name None (Dead references) at = refl
 dead_request state space name (Some target) (Dead references) at = entry_put state space name (Dead references) _ at
 
-received_request : (state : State) (space variant sync : ℕ) (target : Option ℕ) (o : Option ℕ)
+received_request : (state : Ipc) (space variant sync : ℕ) (target : Option ℕ) (o : Option ℕ)
     → names_of (elim o as (λ _. Pair)
     [ None ↦ (state, []) | Some serial ↦ port_request_set state variant sync serial target ]).0 space
     ≡ names_of state space
@@ -179,7 +179,7 @@ received_request state space variant sync target (Some serial) =
     aside state (port_request_set state variant sync serial target).0 space
     (port_request state variant sync serial target)
 
-pub as_many_names : (state : State) (space name variant sync : ℕ) (target : Option ℕ)
+pub as_many_names : (state : Ipc) (space name variant sync : ℕ) (target : Option ℕ)
     → finmap.len (names_in (request_set_under state space name variant sync target).0 space)
     ≡ finmap.len (names_in state space)
 as_many_names state space name variant sync target =
@@ -190,15 +190,15 @@ as_many_names state space name variant sync target =
     ≡ names_of state space) [
       | None ↦ λ (_ : _). refl
       | Some entry ↦ λ (at : _). if_pair
-          (λ (after : State). names_of after space ≡ names_of state space) (variant == 72) _ _
+          (λ (after : Ipc). names_of after space ≡ names_of state space) (variant == 72) _ _
           (dead_request state space name target entry at)
           (received_request state space variant sync target (received_port entry))
     ] refl
 
 -- the tests after copy in are those of the state that it leaves
 
-taken_tests : (o : Option Taken) (old new : State) (waiting after : List Effect) (right : CarriedRight) (serial : ℕ)
-    (code : KernReturn) (later : State → Tests) → Takes o old waiting (Some right) new after → right.port ≡ Live serial
+taken_tests : (o : Option Taken) (old new : Ipc) (waiting after : List Effect) (right : CarriedRight) (serial : ℕ)
+    (code : KernReturn) (later : Ipc → Tests) → Takes o old waiting (Some right) new after → right.port ≡ Live serial
     → first_failing (tests_of_taken code o (λ taken serial. later taken.state)) ≡ first_failing (later new)
 taken_tests None old new waiting after right serial code later takes live = absurd (cc takes.0)
 taken_tests (Some taken) old new waiting after right serial code later takes live =
@@ -206,10 +206,10 @@ taken_tests (Some taken) old new waiting after right serial code later takes liv
     ap (λ (r : CarriedRight). live_port r.port) (sym (some_same right taken.right takes.0)) ∙ ap live_port live in
     ap (λ (o : Option ℕ). first_failing
     (elim o as (λ _. Tests) [ None ↦ (true, code) ∷ [] | Some serial ↦ later taken.state ])) is ∙ ap
-    (λ (s : State). first_failing (later s)) (sym takes.1)
+    (λ (s : Ipc). first_failing (later s)) (sym takes.1)
 
-pub copied_tests : (old : State) (space name variant sync notify_name disposition : ℕ) (by : Disposition)
-    (right : CarriedRight) (serial : ℕ) (waiting after : List Effect) (new : State)
+pub copied_tests : (old : Ipc) (space name variant sync notify_name disposition : ℕ) (by : Disposition)
+    (right : CarriedRight) (serial : ℕ) (waiting after : List Effect) (new : Ipc)
     → is_variant variant ≡ true → (notify_name == MACH_PORT_NULL) ≡ false → notify_disposition disposition ≡ Some by
     → right.port ≡ Live serial → Takes (copy_in old space notify_name by) old waiting (Some right) new after
     → first_failing (tests_of old space (names_in old space)
@@ -218,7 +218,7 @@ pub copied_tests : (old : State) (space name variant sync notify_name dispositio
 unfolding tests_of
 copied_tests old space name variant sync notify_name disposition by right serial waiting after new known named allowed
     live takes =
-    let later : State → Tests = λ state. tests_of_request state space name variant sync false in
+    let later : Ipc → Tests = λ state. tests_of_request state space name variant sync false in
     let copied : Option Disposition → Tests =
     λ o. tests_of_copy_in old space notify_name o InvalidCapability (λ taken serial. later taken.state) in
     let cancelled : Tests = tests_of_request old space name variant sync true in

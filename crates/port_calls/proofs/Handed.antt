@@ -4,20 +4,20 @@ use Rattle.ipc_model.specs.declared.message.CarriedRight.{CarriedRight}
 use Rattle.ipc_model.specs.rights.CopyIn.{Taken}
 use Rattle.ipc_model.specs.effects.Effects.{Effect}
 use Rattle.ipc_laws.specs.ListLaws.{some_same}
-use Rattle.ipc_model.specs.state.State.{State}
+use Rattle.ipc_model.specs.state.Ipc.{Ipc}
 use Rattle.rights.specs.Taking.{Takes}
 
-abbrev made : CarriedRight → State → List Effect → Option Taken
+abbrev made : CarriedRight → Ipc → List Effect → Option Taken
 made right new notices = Some (record { right = right; state = new; notices = notices })
 
-some_is : (taken : Taken) (right : CarriedRight) (new : State) (notices : List Effect) → Some right ≡ Some taken.right
+some_is : (taken : Taken) (right : CarriedRight) (new : Ipc) (notices : List Effect) → Some right ≡ Some taken.right
     → new ≡ taken.state → notices ≡ taken.notices → Some taken ≡ made right new notices
 some_is taken right new notices same state reported =
     sym (ap (λ (r : CarriedRight). made r new notices) (some_same right taken.right same) ∙ ap
-    (λ (s : State). made taken.right s notices) state ∙ ap (made taken.right taken.state) reported)
+    (λ (s : Ipc). made taken.right s notices) state ∙ ap (made taken.right taken.state) reported)
 
 -- what came out is what was to be taken
-pub taken_is : (o : Option Taken) (old new : State) (waiting after : List Effect) (right : CarriedRight) → waiting ≡ []
+pub taken_is : (o : Option Taken) (old new : Ipc) (waiting after : List Effect) (right : CarriedRight) → waiting ≡ []
     → Takes o old waiting (Some right) new after → o ≡ Some (record { right = right; state = new; notices = after })
 taken_is None old new waiting after right none takes = absurd (cc takes.0)
 taken_is (Some taken) old new waiting after right none takes =

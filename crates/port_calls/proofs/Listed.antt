@@ -3,14 +3,14 @@ use Rattle.std.proofs.Common.{◌≡◌, ℕ, [], Some, false, refl}
 use Rattle.std.specs.FinMap as finmap
 use Rattle.ipc_model.specs.calls.Actions.{Done}
 use Rattle.ipc_model.specs.calls.PortCalls.{is_no_name, tests_of}
-use Rattle.ipc_model.specs.calls.Step.{ActsIn}
-use Rattle.ipc_model.specs.declared.call.Call.TheVariants as call
-use Rattle.ipc_model.specs.declared.call.Reply.{Reply}
-use Rattle.ipc_model.specs.declared.call.Reply.TheVariants as reply
+use Rattle.ipc_model.specs.calls.PlainStep.{ActsIn}
+use Rattle.ipc_model.specs.declared.plain_call.PlainCall.TheVariants as call
+use Rattle.ipc_model.specs.declared.plain_reply.PlainReply.{PlainReply}
+use Rattle.ipc_model.specs.declared.plain_reply.PlainReply.TheVariants as reply
 use Rattle.ipc_model.specs.declared.entry.Entry.TheVariants.{Set}
-use Rattle.ipc_model.specs.state.State.{State, Names, members_of}
+use Rattle.ipc_model.specs.state.Ipc.{Ipc, Names, members_of}
 
-pub members_reported : (old : State) (space : ℕ) (names : Names) (name : ℕ) (answer : Reply) → is_no_name names name
+pub members_reported : (old : Ipc) (space : ℕ) (names : Names) (name : ℕ) (answer : PlainReply) → is_no_name names name
     ≡ false
     → finmap.get names name ≡ Some Set → answer ≡ reply.SetStatus (members_of old names name)
     → ActsIn old space names (call.GetSetStatus name) answer old []

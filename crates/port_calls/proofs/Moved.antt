@@ -6,34 +6,34 @@ use Rattle.ipc_model.specs.declared.entry.Entry.TheVariants.{Set}
 use Rattle.ipc_model.specs.declared.port.PortState.{PortState}
 use Rattle.ipc_model.specs.calls.Actions.{renamed, serials_of_members, with_ports}
 use Rattle.ipc_model.specs.calls.PortCalls.{names_in}
-use Rattle.ipc_model.specs.state.State.{State, Names, with_changed, with_names, with_port}
+use Rattle.ipc_model.specs.state.Ipc.{Ipc, Names, with_changed, with_names, with_port}
 use Rattle.rights.specs.Passed.{changed_there, under_other_name}
 
-port_alongside : (state : State) (space : ℕ) (names : Names) (serial : ℕ) (change : PortState → PortState)
+port_alongside : (state : Ipc) (space : ℕ) (names : Names) (serial : ℕ) (change : PortState → PortState)
     → with_port (with_names state space names) serial change ≡ with_names (with_port state serial change) space names
 port_alongside state space names serial change =
     elim (finmap.get state.ports serial) as (λ (o : Option PortState).
-    (elim o as (λ _. State) [
+    (elim o as (λ _. Ipc) [
       | None ↦ with_names state space names
       | Some port ↦
           record (with_names state space names) { ports = finmap.insert state.ports serial (change port) }
     ])
-    ≡ with_names (elim o as (λ _. State)
+    ≡ with_names (elim o as (λ _. Ipc)
     [ None ↦ state | Some port ↦ record state { ports = finmap.insert state.ports serial (change port) } ]) space
     names) [
       | None ↦ refl
       | Some port ↦ refl
     ]
 
-ports_alongside : (state : State) (space : ℕ) (names : Names) (serials : List ℕ) (change : PortState → PortState)
+ports_alongside : (state : Ipc) (space : ℕ) (names : Names) (serials : List ℕ) (change : PortState → PortState)
     → with_ports (with_names state space names) serials change
     ≡ with_names (with_ports state serials change) space names
 ports_alongside state space names [] change = refl
 ports_alongside state space names (serial ∷ serials) change =
-    ap (λ (s : State). with_ports s serials change) (port_alongside state space names serial change)
+    ap (λ (s : Ipc). with_ports s serials change) (port_alongside state space names serial change)
     ∙ ports_alongside (with_port state serial change) space names serials change
 
-module _ (state : State) (space from to : ℕ) (entry : Entry) (there : IsSome (finmap.get state.spaces space))
+module _ (state : Ipc) (space from to : ℕ) (entry : Entry) (there : IsSome (finmap.get state.spaces space))
     (at : finmap.get (names_in state space) from ≡ Some entry) where
   abbrev after : Names
   after = finmap.insert (finmap.remove (names_in state space) from) to entry
@@ -49,7 +49,7 @@ module _ (state : State) (space from to : ℕ) (entry : Entry) (there : IsSome (
       ])) at
 
 -- the set's name changes first
-pub set_renamed : (state : State) (space from to : ℕ) → IsSome (finmap.get state.spaces space)
+pub set_renamed : (state : Ipc) (space from to : ℕ) → IsSome (finmap.get state.spaces space)
     → finmap.get (names_in state space) from ≡ Some Set
     → with_ports (with_changed state space (λ names. under_other_name names from to))
     (serials_of_members state (names_in state space) from) (λ port. record port { set = Some to })
@@ -57,5 +57,5 @@ pub set_renamed : (state : State) (space from to : ℕ) → IsSome (finmap.get s
 set_renamed state space from to there at =
     let serials : List ℕ = serials_of_members state (names_in state space) from in
     let into : PortState → PortState = λ port. record port { set = Some to } in
-    ap (λ (s : State). with_ports s serials into) (names_renamed state space from to Set there at)
+    ap (λ (s : Ipc). with_ports s serials into) (names_renamed state space from to Set there at)
     ∙ ports_alongside state space (finmap.insert (finmap.remove (names_in state space) from) to Set) serials into

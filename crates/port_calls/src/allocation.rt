@@ -1,18 +1,18 @@
 ghost use Rattle.std.specs.Prelude.{◌≡◌, ◌&&◌, ◌∷◌, ℕ, List, [], None, Some, IfOk, OnOk, IsSome};
 ghost use Rattle.std.specs.FinMap as map;
 ghost use Rattle.ipc_model.specs.calls.Actions.{allocated};
-ghost use Rattle.ipc_model.specs.declared.call.Call.TheVariants as call;
+ghost use Rattle.ipc_model.specs.declared.plain_call.PlainCall.TheVariants as call;
 ghost use Rattle.ipc_model.specs.effects.Effects.{Effect};
 ghost use Rattle.ipc_model.specs.calls.PortCalls.{names_are_used_up, is_right, names_in, tests_of};
-ghost use Rattle.ipc_model.specs.state.State.{State, IsUnused, ports_are_used_up};
-ghost use Rattle.ipc_model.specs.calls.Step.{Acts, ActsIn};
+ghost use Rattle.ipc_model.specs.state.Ipc.{Ipc, IsUnused, ports_are_used_up};
+ghost use Rattle.ipc_model.specs.calls.PlainStep.{Acts, ActsIn};
 ghost use Rattle.ipc_model.specs.calls.Tests.{first_failing};
 
 use crate::entry::{allocated_entry, is_allocatable};
 use crate::name_lookup::is_null_or_dead;
 use crate::reply::refused;
 use codes::{KernReturn, MACH_PORT_ALLOCATE, MACH_PORT_ALLOCATE_NAME, MAX_NAMES, Right};
-use ipc_model::Reply;
+use ipc_model::PlainReply;
 use rights::IpcState;
 use std::alloc::AllocError;
 
@@ -24,14 +24,14 @@ pub fn allocate(
     space: u32,
     right: u32,
     wanted: Option<u32>,
-) -> Result<Reply, AllocError>
+) -> Result<PlainReply, AllocError>
     requires there { IsSome (map.get state.old.current.spaces space) }
     requires fresh { map.get state.old.current.ports state.old.current.next ≡ None }
     ensures acts { Acts state.old.current space (call.Allocate right) result state.new.current [] }
     // If the call may be answered with the preferred name, it is.
-    ensures wanted { IfOk result (λ reply. (shown : ℕ) → wanted ≡ Some shown → (new : State) → (effects : List Effect)
+    ensures wanted { IfOk result (λ reply. (shown : ℕ) → wanted ≡ Some shown → (new : Ipc) → (effects : List Effect)
         → ActsIn state.old.current space (names_in state.old.current space) (call.Allocate right)
-        (Reply.Allocate shown) new effects → reply ≡ Reply.Allocate shown) }
+        (PlainReply.Allocate shown) new effects → reply ≡ PlainReply.Allocate shown) }
     ensures before { state.new.before ≡ state.old.before }
 {
     if let Some(code) = refusal_of_allocate(state, space, right) {
@@ -39,7 +39,7 @@ pub fn allocate(
     }
     let name = chosen_name(state, space, wanted);
     add_right(state, space, right, name)?;
-    Ok(Reply::Allocate { name })
+    Ok(PlainReply::Allocate { name })
 }
 
 /// The name that a new right gets: the preferred one if it is unused, else the least unused one.
@@ -93,7 +93,7 @@ pub fn allocate_name(
     space: u32,
     right: u32,
     name: u32,
-) -> Result<Reply, AllocError>
+) -> Result<PlainReply, AllocError>
     requires there { IsSome (map.get state.old.current.spaces space) }
     requires fresh { map.get state.old.current.ports state.old.current.next ≡ None }
     ensures acts { Acts state.old.current space (call.AllocateName right name) result state.new.current [] }
@@ -104,7 +104,7 @@ pub fn allocate_name(
         return Ok(refused(number, code));
     }
     add_right(state, space, right, name)?;
-    Ok(Reply::Done { number })
+    Ok(PlainReply::Done { number })
 }
 
 /// The code with which an allocation under a chosen name is refused, if it is.

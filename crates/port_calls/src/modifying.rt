@@ -1,11 +1,11 @@
 ghost use Rattle.std.specs.Prelude.{◌≡◌, ◌++◌, ◌∷◌, [], Some, false, OnOk};
 ghost use Rattle.std.specs.FinMap as map;
-ghost use Rattle.ipc_model.specs.declared.call.Call.TheVariants as call;
-ghost use Rattle.ipc_model.specs.calls.Step.{Acts};
+ghost use Rattle.ipc_model.specs.declared.plain_call.PlainCall.TheVariants as call;
+ghost use Rattle.ipc_model.specs.calls.PlainStep.{Acts};
 ghost use Rattle.ipc_model.specs.rights.CopyIn.{with_left, notices_of_left};
 ghost use Rattle.ipc_model.specs.effects.Effects.{release};
 ghost use Rattle.ipc_model.specs.calls.PortCalls.{names_in, is_no_name, sum_is_negative, sum_of, falls_by};
-ghost use Rattle.ipc_model.specs.state.State.{entry_at};
+ghost use Rattle.ipc_model.specs.state.Ipc.{entry_at};
 ghost use Rattle.codes.specs.Right.{number_of};
 ghost use Rattle.rights.specs.Passed.{AreFewReferences};
 
@@ -15,7 +15,7 @@ use crate::removal::move_members;
 use crate::reply::refused;
 use codes::{KernReturn, MACH_PORT_MOD_REFS, MAX_DEAD_REFERENCES, MAX_SEND_REFERENCES, Right};
 use effects::Effects;
-use ipc_model::{Entry, PortRights, Reply, RightKind};
+use ipc_model::{Entry, PlainReply, PortRights, RightKind};
 use rights::{IpcState, announce_left, set_left};
 use std::alloc::{AllocError, Global};
 
@@ -33,7 +33,7 @@ pub fn mod_refs(
     right: u32,
     delta: u32,
     effects: &mut Effects,
-) -> Result<Reply, AllocError>
+) -> Result<PlainReply, AllocError>
     requires none { effects.old ≡ [] }
     ensures acts { Acts state.old.current space (call.ModRefs name right delta) result state.new.current effects.new }
     ensures before { state.new.before ≡ state.old.before }
@@ -72,7 +72,7 @@ fn mod_send(
     rights: PortRights,
     delta: u32,
     effects: &mut Effects,
-) -> Result<Reply, AllocError>
+) -> Result<PlainReply, AllocError>
     requires none { effects.old ≡ [] }
     requires a_name { is_no_name (names_in state.old.current space) name ≡ false }
     requires found { map.get (names_in state.old.current space) name ≡ Some (Entry.Port rights) }
@@ -92,7 +92,7 @@ fn mod_send(
         return Ok(refused(MACH_PORT_MOD_REFS, KernReturn::UrefsOverflow));
     }
     send_left(state, space, name, rights, left as u32, effects)?;
-    Ok(Reply::Done {
+    Ok(PlainReply::Done {
         number: MACH_PORT_MOD_REFS,
     })
 }
@@ -105,7 +105,7 @@ fn mod_receive(
     rights: PortRights,
     delta: u32,
     effects: &mut Effects,
-) -> Result<Reply, AllocError>
+) -> Result<PlainReply, AllocError>
     requires none { effects.old ≡ [] }
     requires a_name { is_no_name (names_in state.old.current space) name ≡ false }
     requires found { map.get (names_in state.old.current space) name ≡ Some (Entry.Port rights) }
@@ -123,7 +123,7 @@ fn mod_receive(
     } else if delta != 0 {
         return Ok(refused(MACH_PORT_MOD_REFS, KernReturn::InvalidValue));
     }
-    Ok(Reply::Done {
+    Ok(PlainReply::Done {
         number: MACH_PORT_MOD_REFS,
     })
 }
@@ -163,7 +163,7 @@ fn mod_send_once(
     request: Option<u64>,
     delta: u32,
     effects: &mut Effects,
-) -> Result<Reply, AllocError>
+) -> Result<PlainReply, AllocError>
     requires none { effects.old ≡ [] }
     requires a_name { is_no_name (names_in state.old.current space) name ≡ false }
     requires found { map.get (names_in state.old.current space) name ≡ Some (Entry.SendOnce port request) }
@@ -176,7 +176,7 @@ fn mod_send_once(
     } else if delta != 0 {
         return Ok(refused(MACH_PORT_MOD_REFS, KernReturn::InvalidValue));
     }
-    Ok(Reply::Done {
+    Ok(PlainReply::Done {
         number: MACH_PORT_MOD_REFS,
     })
 }
@@ -189,7 +189,7 @@ fn mod_dead(
     references: u32,
     delta: u32,
     effects: &mut Effects,
-) -> Result<Reply, AllocError>
+) -> Result<PlainReply, AllocError>
     requires none { effects.old ≡ [] }
     requires a_name { is_no_name (names_in state.old.current space) name ≡ false }
     requires found { map.get (names_in state.old.current space) name ≡ Some (Entry.Dead references) }
@@ -217,7 +217,7 @@ fn mod_dead(
             references: left as u32,
         },
     )?;
-    Ok(Reply::Done {
+    Ok(PlainReply::Done {
         number: MACH_PORT_MOD_REFS,
     })
 }
@@ -230,7 +230,7 @@ fn mod_set(
     name: u32,
     delta: u32,
     effects: &mut Effects,
-) -> Result<Reply, AllocError>
+) -> Result<PlainReply, AllocError>
     requires none { effects.old ≡ [] }
     requires a_name { is_no_name (names_in state.old.current space) name ≡ false }
     requires found { map.get (names_in state.old.current space) name ≡ Some Entry.Set }
@@ -241,7 +241,7 @@ fn mod_set(
 {
     let _none = &effects;
     if delta == 0 {
-        return Ok(Reply::Done {
+        return Ok(PlainReply::Done {
             number: MACH_PORT_MOD_REFS,
         });
     }
@@ -250,7 +250,7 @@ fn mod_set(
     }
     move_members(alloc, state, space, name, None, Entry::Set)?;
     state.remove_name(space, name)?;
-    Ok(Reply::Done {
+    Ok(PlainReply::Done {
         number: MACH_PORT_MOD_REFS,
     })
 }

@@ -1,12 +1,12 @@
 ghost use Rattle.std.specs.Prelude.{◌≡◌, []};
-ghost use Rattle.ipc_model.specs.declared.call.Call.TheVariants as call;
-ghost use Rattle.ipc_model.specs.calls.Step.{Acts};
+ghost use Rattle.ipc_model.specs.declared.plain_call.PlainCall.TheVariants as call;
+ghost use Rattle.ipc_model.specs.calls.PlainStep.{Acts};
 ghost use Rattle.ipc_model.specs.calls.PortCalls.{is_in_some_set};
 
 use crate::name_lookup::named;
 use crate::reply::refused;
 use codes::{KernReturn, MACH_PORT_MOVE_MEMBER, MACH_PORT_NULL};
-use ipc_model::{Entry, Reply};
+use ipc_model::{Entry, PlainReply};
 use port_set::received_port;
 use rights::IpcState;
 use std::alloc::AllocError;
@@ -19,7 +19,7 @@ pub fn move_member(
     space: u32,
     member: u32,
     after: u32,
-) -> Result<Reply, AllocError>
+) -> Result<PlainReply, AllocError>
     ensures acts { Acts state.old.current space (call.MoveMember member after) result state.new.current [] }
     ensures before { state.new.before ≡ state.old.before }
 {
@@ -42,7 +42,7 @@ pub fn move_member(
         }
     }
     port_set::move_member(state, entry, after)?;
-    Ok(Reply::Done { number })
+    Ok(PlainReply::Done { number })
 }
 
 /// Whether the port whose receive right a name holds is a member of a set.

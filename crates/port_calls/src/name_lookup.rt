@@ -1,7 +1,7 @@
 ghost use Rattle.std.specs.Prelude.{◌≡◌, IfSome, IfNone, Some, true, false};
 ghost use Rattle.std.specs.FinMap as map;
 ghost use Rattle.ipc_model.specs.calls.PortCalls.{is_no_name, names_in};
-ghost use Rattle.ipc_model.specs.state.State.{entry_at, is_null_or_dead};
+ghost use Rattle.ipc_model.specs.state.Ipc.{entry_at, is_null_or_dead};
 ghost use Rattle.rights.specs.Passed.{AreFewReferences};
 
 use codes::{MACH_PORT_DEAD, MACH_PORT_NULL};

@@ -1,13 +1,13 @@
 ghost use Rattle.std.specs.Prelude.{◌≡◌, []};
-ghost use Rattle.ipc_model.specs.declared.call.Call.TheVariants as call;
-ghost use Rattle.ipc_model.specs.calls.Step.{Acts};
+ghost use Rattle.ipc_model.specs.declared.plain_call.PlainCall.TheVariants as call;
+ghost use Rattle.ipc_model.specs.calls.PlainStep.{Acts};
 
 use crate::name_lookup::named;
 use crate::reply::refused;
 use codes::{
     KernReturn, MACH_PORT_SET_MSCOUNT, MACH_PORT_SET_QLIMIT, MACH_PORT_SET_SEQNO, MAX_QUEUE_LIMIT,
 };
-use ipc_model::Reply;
+use ipc_model::PlainReply;
 use port_set::received_port;
 use rights::{IpcState, PortNumbers};
 use std::alloc::AllocError;
@@ -20,7 +20,7 @@ pub fn set_qlimit(
     space: u32,
     name: u32,
     limit: u32,
-) -> Result<Reply, AllocError>
+) -> Result<PlainReply, AllocError>
     ensures acts { Acts state.old.current space (call.SetQlimit name limit) result state.new.current [] }
     ensures before { state.new.before ≡ state.old.before }
 {
@@ -37,7 +37,7 @@ pub fn set_qlimit(
     if let Some(numbers) = state.numbers(port) {
         state.set_numbers(port, PortNumbers { limit, ..numbers })?;
     }
-    Ok(Reply::Done { number })
+    Ok(PlainReply::Done { number })
 }
 
 /// `mach_port_set_mscount`: sets the make-send count of a port. If an allocation fails, the changes must be rolled
@@ -48,7 +48,7 @@ pub fn set_mscount(
     space: u32,
     name: u32,
     count: u32,
-) -> Result<Reply, AllocError>
+) -> Result<PlainReply, AllocError>
     ensures acts { Acts state.old.current space (call.SetMscount name count) result state.new.current [] }
     ensures before { state.new.before ≡ state.old.before }
 {
@@ -69,7 +69,7 @@ pub fn set_mscount(
             },
         )?;
     }
-    Ok(Reply::Done { number })
+    Ok(PlainReply::Done { number })
 }
 
 /// `mach_port_set_seqno`: sets the sequence number of the next message from a port. If an allocation fails, the changes
@@ -80,7 +80,7 @@ pub fn set_seqno(
     space: u32,
     name: u32,
     seqno: u32,
-) -> Result<Reply, AllocError>
+) -> Result<PlainReply, AllocError>
     ensures acts { Acts state.old.current space (call.SetSeqno name seqno) result state.new.current [] }
     ensures before { state.new.before ≡ state.old.before }
 {
@@ -101,5 +101,5 @@ pub fn set_seqno(
             },
         )?;
     }
-    Ok(Reply::Done { number })
+    Ok(PlainReply::Done { number })
 }

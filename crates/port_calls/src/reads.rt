@@ -2,10 +2,10 @@ ghost use Rattle.std.specs.Prelude.{◌≡◌, ◌-◌, ◌^◌, [], min, IfOk, 
 ghost use Rattle.std.specs.FinMap as finmap;
 ghost use Rattle.ipc_model.specs.calls.Actions.{status_of};
 ghost use Rattle.ipc_model.specs.state.Placed.{send_once_count};
-ghost use Rattle.ipc_model.specs.state.State.{type_of};
-ghost use Rattle.ipc_model.specs.declared.call.Call.TheVariants as call;
+ghost use Rattle.ipc_model.specs.state.Ipc.{type_of};
+ghost use Rattle.ipc_model.specs.declared.plain_call.PlainCall.TheVariants as call;
 ghost use Rattle.ipc_model.specs.calls.PortCalls.{names_in, references_of};
-ghost use Rattle.ipc_model.specs.calls.Step.{Acts, ActsIn};
+ghost use Rattle.ipc_model.specs.calls.PlainStep.{Acts, ActsIn};
 ghost use Rattle.codes.specs.Right.{number_of};
 
 use crate::name_lookup::named;
@@ -14,19 +14,19 @@ use codes::{
     KernReturn, MACH_PORT_GET_RECEIVE_STATUS, MACH_PORT_GET_REFS, MACH_PORT_GET_SET_STATUS,
     MACH_PORT_NULL, MACH_PORT_TYPE, Right,
 };
-use ipc_model::{Entry, NamedType, ReceiveStatus, Reply, Sequence};
+use ipc_model::{Entry, NamedType, PlainReply, ReceiveStatus, Sequence};
 use port_set::received_port;
 use rights::IpcState;
 use std::alloc::{AllocError, Global};
 
 /// `mach_port_type`: the type bits of a name.
 #[tactic(auto, unfolding(ipc_model::specs::calls::PortCalls::tests_of, ipc_model::specs::calls::Actions::Done))]
-pub fn port_type(state: &IpcState, space: u32, name: u32) -> Reply
+pub fn port_type(state: &IpcState, space: u32, name: u32) -> PlainReply
     ensures { ActsIn state.now.current space (names_in state.now.current space)
         (call.Type name) result state.now.current [] }
 {
     match named(state, space, name) {
-        Some(entry) => Reply::Type {
+        Some(entry) => PlainReply::Type {
             bits: entry.type_bits(),
         },
         None => refused(MACH_PORT_TYPE, KernReturn::InvalidName),
@@ -35,7 +35,7 @@ pub fn port_type(state: &IpcState, space: u32, name: u32) -> Reply
 
 /// `mach_port_get_refs`: the user references of a right under a name.
 #[tactic(auto, unfolding(ipc_model::specs::calls::PortCalls::tests_of, ipc_model::specs::calls::Actions::Done))]
-pub fn get_refs(state: &IpcState, space: u32, name: u32, right: u32) -> Reply
+pub fn get_refs(state: &IpcState, space: u32, name: u32, right: u32) -> PlainReply
     ensures { ActsIn state.now.current space (names_in state.now.current space)
         (call.GetRefs name right) result state.now.current [] }
 {
@@ -44,7 +44,7 @@ pub fn get_refs(state: &IpcState, space: u32, name: u32, right: u32) -> Reply
         return refused(number, KernReturn::InvalidValue);
     };
     match named(state, space, name) {
-        Some(entry) => Reply::References {
+        Some(entry) => PlainReply::References {
             count: references_of(wanted, entry),
         },
         None => refused(number, KernReturn::InvalidName),
@@ -53,11 +53,11 @@ pub fn get_refs(state: &IpcState, space: u32, name: u32, right: u32) -> Reply
 
 /// `mach_port_names`: the names in use, in ascending order, with their type bits.
 #[tactic(auto, unfolding(ipc_model::specs::calls::PortCalls::tests_of, ipc_model::specs::calls::Actions::Done))]
-pub fn names(alloc: Global, state: &IpcState, space: u32) -> Result<Reply, AllocError>
+pub fn names(alloc: Global, state: &IpcState, space: u32) -> Result<PlainReply, AllocError>
     ensures { Acts state.now.current space call.Names result state.now.current [] }
 {
     let names = named_types(alloc, state, space)?;
-    Ok(Reply::Names {
+    Ok(PlainReply::Names {
         names: Sequence::new(names),
     })
 }
@@ -79,7 +79,7 @@ fn named_types(alloc: Global, state: &IpcState, space: u32) -> Result<Vec<NamedT
 
 /// `mach_port_get_receive_status`: the numbers of a port, and whether there are rights and requests.
 #[tactic(auto, unfolding(ipc_model::specs::calls::PortCalls::tests_of, ipc_model::specs::calls::Actions::Done))]
-pub fn receive_status(state: &IpcState, space: u32, name: u32) -> Reply
+pub fn receive_status(state: &IpcState, space: u32, name: u32) -> PlainReply
     ensures { ActsIn state.now.current space (names_in state.now.current space)
         (call.GetReceiveStatus name) result state.now.current [] }
 {
@@ -91,8 +91,8 @@ pub fn receive_status(state: &IpcState, space: u32, name: u32) -> Reply
         return refused(number, KernReturn::InvalidRight);
     };
     match status_of(state, port) {
-        Some(status) => Reply::ReceiveStatus { status },
-        None => Reply::Done { number },
+        Some(status) => PlainReply::ReceiveStatus { status },
+        None => PlainReply::Done { number },
     }
 }
 
@@ -128,7 +128,7 @@ pub fn get_set_status(
     state: &IpcState,
     space: u32,
     name: u32,
-) -> Result<Reply, AllocError>
+) -> Result<PlainReply, AllocError>
     ensures { Acts state.now.current space (call.GetSetStatus name) result state.now.current [] }
 {
     let number = MACH_PORT_GET_SET_STATUS;
@@ -136,7 +136,7 @@ pub fn get_set_status(
         None => Ok(refused(number, KernReturn::InvalidName)),
         Some(Entry::Set) => {
             let members = port_set::members(alloc, state, space, name)?;
-            Ok(Reply::SetStatus {
+            Ok(PlainReply::SetStatus {
                 members: Sequence::new(members),
             })
         }

@@ -1,18 +1,18 @@
 ghost use Rattle.std.specs.Prelude.{◌≡◌, ◌++◌, ◌∷◌, ◌==◌, ◌≤◌, ◌||◌, ◌&&◌, [], OnOk, IsSome, Some};
 ghost use Rattle.codes.specs.declared.limits.TheConstants.{MAX_SEND_REFERENCES};
 ghost use Rattle.ipc_model.specs.calls.Actions.{release_if, effects_of_name};
-ghost use Rattle.ipc_model.specs.calls.Step.{Acts};
+ghost use Rattle.ipc_model.specs.calls.PlainStep.{Acts};
 ghost use Rattle.ipc_model.specs.rights.CopyIn.{with_left, notices_of_left};
-ghost use Rattle.ipc_model.specs.declared.call.Call.TheVariants as call;
+ghost use Rattle.ipc_model.specs.declared.plain_call.PlainCall.TheVariants as call;
 ghost use Rattle.ipc_model.specs.effects.Effects.{release, port_deleted};
 ghost use Rattle.ipc_model.specs.calls.PortCalls.{is_set, has_receive, send_references};
-ghost use Rattle.ipc_model.specs.state.State.{entry_at, without_name};
+ghost use Rattle.ipc_model.specs.state.Ipc.{entry_at, without_name};
 
 use crate::name_lookup::named;
 use crate::reply::refused;
 use codes::{KernReturn, MACH_PORT_DEALLOCATE};
 use effects::{Effect, Effects};
-use ipc_model::{Entry, PortRights, Reply, RightKind};
+use ipc_model::{Entry, PlainReply, PortRights, RightKind};
 use rights::{IpcState, announce_left, set_left};
 use std::alloc::AllocError;
 
@@ -23,7 +23,7 @@ pub fn deallocate(
     space: u32,
     name: u32,
     effects: &mut Effects,
-) -> Result<Reply, AllocError>
+) -> Result<PlainReply, AllocError>
     requires none { effects.old ≡ [] }
     ensures acts { Acts state.old.current space (call.Deallocate name) result state.new.current effects.new }
     ensures before { state.new.before ≡ state.old.before }
@@ -58,7 +58,7 @@ pub fn deallocate(
             },
         )?,
     }
-    Ok(Reply::Done { number })
+    Ok(PlainReply::Done { number })
 }
 
 /// Whether a name is a set, or holds only a receive right.

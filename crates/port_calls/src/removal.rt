@@ -1,7 +1,7 @@
 ghost use Rattle.std.specs.Prelude.{◌≡◌, [], OnOk};
 ghost use Rattle.ipc_model.specs.calls.Actions.{members_moved};
-ghost use Rattle.ipc_model.specs.calls.Step.{Acts};
-ghost use Rattle.ipc_model.specs.declared.call.Call.TheVariants as call;
+ghost use Rattle.ipc_model.specs.calls.PlainStep.{Acts};
+ghost use Rattle.ipc_model.specs.declared.plain_call.PlainCall.TheVariants as call;
 ghost use Rattle.ipc_model.specs.calls.PortCalls.{names_in};
 
 use crate::name_lookup::named;
@@ -9,7 +9,7 @@ use crate::references::release_name;
 use crate::reply::refused;
 use codes::{KernReturn, MACH_PORT_DESTROY};
 use effects::Effects;
-use ipc_model::{Entry, Reply};
+use ipc_model::{Entry, PlainReply};
 use port_set::{member_ports, move_ports};
 use rights::IpcState;
 use std::alloc::{AllocError, Global};
@@ -22,7 +22,7 @@ pub fn destroy(
     space: u32,
     name: u32,
     effects: &mut Effects,
-) -> Result<Reply, AllocError>
+) -> Result<PlainReply, AllocError>
     requires none { effects.old ≡ [] }
     ensures acts { Acts state.old.current space (call.Destroy name) result state.new.current effects.new }
     ensures before { state.new.before ≡ state.old.before }
@@ -34,7 +34,7 @@ pub fn destroy(
     release_name(effects, name, entry)?;
     move_members(alloc, state, space, name, None, entry)?;
     state.remove_name(space, name)?;
-    Ok(Reply::Done { number })
+    Ok(PlainReply::Done { number })
 }
 
 /// A set that is removed leaves its members in none; one that gets another name takes them along.

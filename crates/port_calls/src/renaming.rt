@@ -1,15 +1,15 @@
 ghost use Rattle.std.specs.Prelude.{◌≡◌, [], Some, None, OnOk, IsSome};
 ghost use Rattle.std.specs.FinMap as map;
 ghost use Rattle.ipc_model.specs.calls.Actions.{renamed};
-ghost use Rattle.ipc_model.specs.calls.Step.{Acts};
-ghost use Rattle.ipc_model.specs.declared.call.Call.TheVariants as call;
+ghost use Rattle.ipc_model.specs.calls.PlainStep.{Acts};
+ghost use Rattle.ipc_model.specs.declared.plain_call.PlainCall.TheVariants as call;
 ghost use Rattle.ipc_model.specs.calls.PortCalls.{names_in};
-ghost use Rattle.ipc_model.specs.state.State.{entry_at};
+ghost use Rattle.ipc_model.specs.state.Ipc.{entry_at};
 
 use crate::name_lookup::{is_null_or_dead, named};
 use crate::reply::refused;
 use codes::{KernReturn, MACH_PORT_RENAME};
-use ipc_model::{Entry, Reply};
+use ipc_model::{Entry, PlainReply};
 use port_set::{member_ports, move_ports};
 use rights::IpcState;
 use std::alloc::{AllocError, Global};
@@ -23,7 +23,7 @@ pub fn rename(
     space: u32,
     from: u32,
     to: u32,
-) -> Result<Reply, AllocError>
+) -> Result<PlainReply, AllocError>
     requires there { IsSome (map.get state.old.current.spaces space) }
     ensures acts { Acts state.old.current space (call.Rename from to) result state.new.current [] }
     ensures before { state.new.before ≡ state.old.before }
@@ -39,7 +39,7 @@ pub fn rename(
         return Ok(refused(number, KernReturn::NameExists));
     }
     move_entry(alloc, state, space, from, to, entry)?;
-    Ok(Reply::Done { number })
+    Ok(PlainReply::Done { number })
 }
 
 /// Makes what stands under one name stand under another; a set takes its members along. If an allocation fails, the

@@ -1,11 +1,11 @@
 ghost use Rattle.std.specs.Prelude.{◌≡◌};
 
 use codes::KernReturn;
-use ipc_model::Reply;
+use ipc_model::PlainReply;
 
 /// The reply to a call with this number that is refused.
-pub fn refused(number: u32, code: KernReturn) -> Reply
-    ensures { result ≡ Reply.Refused number code }
+pub fn refused(number: u32, code: KernReturn) -> PlainReply
+    ensures { result ≡ PlainReply.Refused number code }
 {
-    Reply::Refused { number, code }
+    PlainReply::Refused { number, code }
 }

@@ -1,11 +1,11 @@
 ghost use Rattle.std.specs.Prelude.{◌≡◌, ◌<◌, ◌++◌, ℕ, List, [], Some, None, IfOk, IfErr, OnOk, IsSome, is_none};
 ghost use Rattle.std.specs.FinMap as map;
 ghost use Rattle.ipc_model.specs.calls.Actions.{GivesBack, dead_name_request_set, lacks_senders, make_send_count_of, port_request_set, request_set_under, target_for};
-ghost use Rattle.ipc_model.specs.declared.call.Call.TheVariants as call;
+ghost use Rattle.ipc_model.specs.declared.plain_call.PlainCall.TheVariants as call;
 ghost use Rattle.ipc_model.specs.effects.Effects as machine;
 ghost use Rattle.ipc_model.specs.calls.PortCalls.{dead_references, is_variant, names_in, notify_disposition, target_under, tests_of, tests_of_request, tests_of_variant};
-ghost use Rattle.ipc_model.specs.state.State.{State, entry_at};
-ghost use Rattle.ipc_model.specs.calls.Step.{ActsIn};
+ghost use Rattle.ipc_model.specs.state.Ipc.{Ipc, entry_at};
+ghost use Rattle.ipc_model.specs.calls.PlainStep.{ActsIn};
 ghost use Rattle.ipc_model.specs.calls.Tests.{first_failing};
 ghost use Rattle.port_calls.specs.Trying.{Tries};
 ghost use Rattle.rights.specs.Passed.{AreFewReferences};
@@ -19,7 +19,7 @@ use codes::{
     MAX_DEAD_REFERENCES, MAX_NAMES,
 };
 use effects::{Effect, Effects, Notice};
-use ipc_model::{Entry, PortInMessage, Reply};
+use ipc_model::{Entry, PlainReply, PortInMessage};
 use notify::{replace_no_senders, replace_port_destroyed, with_request};
 use port_set::received_port;
 use rights::{IpcState, request_of, take_right};
@@ -50,24 +50,24 @@ pub fn request_notification(
     asked: NoticeRequest,
     wanted: Option<u32>,
     effects: &mut Effects,
-) -> Result<Reply, AllocError>
+) -> Result<PlainReply, AllocError>
     requires none { effects.old ≡ [] }
     ensures tries { IfOk result
         (λ reply. Tries state.old.current space
         (call.RequestNotification asked.name asked.variant asked.sync asked.notify asked.disposition) reply
         state.new.current effects.new) }
-    ensures wanted { IfOk result (λ reply. (shown : ℕ) → wanted ≡ Some shown → (new : State)
+    ensures wanted { IfOk result (λ reply. (shown : ℕ) → wanted ≡ Some shown → (new : Ipc)
         → (effects : List machine.Effect)
         → ActsIn state.old.current space (names_in state.old.current space)
         (call.RequestNotification asked.name asked.variant asked.sync asked.notify asked.disposition)
-        (Reply.PreviousTarget shown) new effects → reply ≡ Reply.PreviousTarget shown) }
+        (PlainReply.PreviousTarget shown) new effects → reply ≡ PlainReply.PreviousTarget shown) }
     ensures before { state.new.before ≡ state.old.before }
 {
     match take_target(state, space, asked, effects)? {
         Err(code) => Ok(refused(MACH_PORT_REQUEST_NOTIFICATION, code)),
         Ok(target) => {
             let name = replace_target(state, space, asked, target, wanted, effects)?;
-            Ok(Reply::PreviousTarget { name })
+            Ok(PlainReply::PreviousTarget { name })
         }
     }
 }
@@ -247,7 +247,7 @@ fn replace_target(
         state.new.current) }
     ensures effects { OnOk result (effects.new ≡ effects.old
         ++ (request_set_under state.old.current space asked.name asked.variant asked.sync target).1) }
-    ensures wanted { IfOk result (λ given. (shown : ℕ) → wanted ≡ Some shown → (new : State)
+    ensures wanted { IfOk result (λ given. (shown : ℕ) → wanted ≡ Some shown → (new : Ipc)
         → GivesBack (request_set_under state.old.current space asked.name asked.variant asked.sync target).0 space
         (target_under state.old.current (names_in state.old.current space) asked.variant asked.name) shown new
         → given ≡ shown) }
@@ -396,7 +396,7 @@ fn give_back(
 ) -> Result<u32, AllocError>
     requires room { IsSome former → map.len (names_in state.old.current space) < MAX_NAMES }
     ensures given { IfOk result (λ given. GivesBack state.old.current space former given state.new.current) }
-    ensures wanted { IfOk result (λ given. (shown : ℕ) → wanted ≡ Some shown → (new : State)
+    ensures wanted { IfOk result (λ given. (shown : ℕ) → wanted ≡ Some shown → (new : Ipc)
         → GivesBack state.old.current space former shown new → given ≡ shown) }
     ensures before { state.new.before ≡ state.old.before }
 {

@@ -3,11 +3,11 @@ ghost use Rattle.std.specs.FinMap as map;
 ghost use Rattle.ipc_model.specs.calls.Actions.{taken_by};
 ghost use Rattle.ipc_model.specs.rights.CopyIn.{copy_in};
 ghost use Rattle.ipc_model.specs.rights.CopyOut.{MayArrive, names_after};
-ghost use Rattle.ipc_model.specs.declared.call.Call.TheVariants as call;
+ghost use Rattle.ipc_model.specs.declared.plain_call.PlainCall.TheVariants as call;
 ghost use Rattle.ipc_model.specs.effects.Effects.{Effect};
 ghost use Rattle.ipc_model.specs.calls.PortCalls.{is_in_use, names_are_used_up, is_send_once_kind, is_taken_otherwise, names_in, passes_bound, stands_elsewhere, tests_of};
-ghost use Rattle.ipc_model.specs.state.State.{State, with_names};
-ghost use Rattle.ipc_model.specs.calls.Step.{ActsIn};
+ghost use Rattle.ipc_model.specs.state.Ipc.{Ipc, with_names};
+ghost use Rattle.ipc_model.specs.calls.PlainStep.{ActsIn};
 ghost use Rattle.ipc_model.specs.calls.Tests.{first_failing};
 ghost use Rattle.port_calls.specs.Trying.{Tries};
 
@@ -18,7 +18,7 @@ use codes::{
     MAX_SEND_REFERENCES,
 };
 use effects::Effects;
-use ipc_model::{CarriedRight, Entry, PortInMessage, Reply, RightKind};
+use ipc_model::{CarriedRight, Entry, PlainReply, PortInMessage, RightKind};
 use rights::{IpcState, arrival_needed, names_needed, put_right, take_right};
 use std::alloc::AllocError;
 
@@ -32,7 +32,7 @@ pub fn insert_right(
     right_name: u32,
     disposition: u32,
     effects: &mut Effects,
-) -> Result<Reply, AllocError>
+) -> Result<PlainReply, AllocError>
     requires none { effects.old ≡ [] }
     requires there { IsSome (map.get state.old.current.spaces space) }
     ensures tries { IfOk result
@@ -57,7 +57,7 @@ pub fn insert_right(
         return Ok(refused(number, code));
     }
     put_given(state, space, right, name)?;
-    Ok(Reply::Done { number })
+    Ok(PlainReply::Done { number })
 }
 
 /// Takes the right that a name hands over, as copy in does.
@@ -177,16 +177,16 @@ pub fn extract_right(
     disposition: u32,
     wanted: Option<u32>,
     effects: &mut Effects,
-) -> Result<Reply, AllocError>
+) -> Result<PlainReply, AllocError>
     requires none { effects.old ≡ [] }
     requires there { IsSome (map.get state.old.current.spaces space) }
     ensures acts { IfOk result
         (λ reply. Tries state.old.current space
         (call.ExtractRight name disposition) reply state.new.current effects.new) }
-    ensures wanted { IfOk result (λ reply. (shown : ℕ) → wanted ≡ Some shown → (kind : RightKind) → (new : State)
+    ensures wanted { IfOk result (λ reply. (shown : ℕ) → wanted ≡ Some shown → (kind : RightKind) → (new : Ipc)
         → (effects : List Effect)
         → ActsIn state.old.current space (names_in state.old.current space) (call.ExtractRight name disposition)
-        (Reply.Extracted shown kind) new effects → reply ≡ Reply.Extracted shown kind) }
+        (PlainReply.Extracted shown kind) new effects → reply ≡ PlainReply.Extracted shown kind) }
     ensures before { state.new.before ≡ state.old.before }
 {
     let right = match take_extracted(state, space, name, disposition, effects)? {
@@ -195,7 +195,7 @@ pub fn extract_right(
     };
     let shown = arrival_needed(state, space, right, wanted);
     put_given(state, space, right, shown)?;
-    Ok(Reply::Extracted {
+    Ok(PlainReply::Extracted {
         name: shown,
         kind: right.kind,
     })

@@ -2,11 +2,11 @@ ghost use Rattle.std.specs.Prelude.{◌≡◌, ◌<◌, ℕ, ◌++◌, List, [],
 ghost use Rattle.std.specs.FinMap as map;
 ghost use Rattle.ipc_model.specs.calls.Actions.{IsUnusedSpace, effects_of_name, received_serials, taken_by, with_ports};
 ghost use Rattle.ipc_model.specs.rights.CopyOut.{MayArrive, names_after};
-ghost use Rattle.ipc_model.specs.declared.call.Call.TheVariants as call;
+ghost use Rattle.ipc_model.specs.declared.plain_call.PlainCall.TheVariants as call;
 ghost use Rattle.ipc_model.specs.effects.Effects.{Effect};
 ghost use Rattle.ipc_model.specs.calls.PortCalls.{names_in, tests_of};
-ghost use Rattle.ipc_model.specs.state.State.{State, with_names};
-ghost use Rattle.ipc_model.specs.calls.Step.{Acts, ActsIn};
+ghost use Rattle.ipc_model.specs.state.Ipc.{Ipc, with_names};
+ghost use Rattle.ipc_model.specs.calls.PlainStep.{Acts, ActsIn};
 ghost use Rattle.ipc_model.specs.calls.Tests.{first_failing};
 ghost use Rattle.port_calls.specs.Trying.{Tries};
 ghost use Rattle.rights.specs.Taking.{Takes};
@@ -18,14 +18,14 @@ use codes::{
     ATTACH, Disposition, FIRST_SPACE, KernReturn, MAX_SPACES, SPACE_CREATE, SPACE_DESTROY,
 };
 use effects::Effects;
-use ipc_model::{CarriedRight, PortInMessage, Reply};
+use ipc_model::{CarriedRight, PlainReply, PortInMessage};
 use port_set::{move_ports, received_ports};
 use rights::{IpcState, arrival_needed, put_right, take_right};
 use std::alloc::{AllocError, Global};
 
 /// Attaches a task to another space, which has to exist.
 #[tactic(auto, unfolding(ipc_model::specs::calls::PortCalls::tests_of, ipc_model::specs::calls::Actions::Done))]
-pub fn attach(state: &IpcState, space: u32, other: u32) -> Reply
+pub fn attach(state: &IpcState, space: u32, other: u32) -> PlainReply
     ensures { ActsIn state.now.current space (names_in state.now.current space)
         (call.Attach other) result state.now.current [] }
 {
@@ -33,7 +33,7 @@ pub fn attach(state: &IpcState, space: u32, other: u32) -> Reply
     if !state.has_space(other) {
         return refused(number, KernReturn::InvalidTask);
     }
-    Reply::Done { number }
+    PlainReply::Done { number }
 }
 
 /// Makes a space whose one name holds a right that is copied in from a name of the caller's. Its number and its name
@@ -48,22 +48,22 @@ pub fn space_create(
     disposition: u32,
     wanted: Option<(u32, u32)>,
     effects: &mut Effects,
-) -> Result<Reply, AllocError>
+) -> Result<PlainReply, AllocError>
     requires none { effects.old ≡ [] }
     ensures tries { IfOk result
         (λ reply. Tries state.old.current space
         (call.SpaceCreate name disposition) reply state.new.current effects.new) }
-    ensures wanted { IfOk result (λ reply. (number : ℕ) → (child : ℕ) → wanted ≡ Some (number, child) → (new : State)
+    ensures wanted { IfOk result (λ reply. (number : ℕ) → (child : ℕ) → wanted ≡ Some (number, child) → (new : Ipc)
         → (effects : List Effect)
         → ActsIn state.old.current space (names_in state.old.current space) (call.SpaceCreate name disposition)
-        (Reply.SpaceCreated number child) new effects → reply ≡ Reply.SpaceCreated number child) }
+        (PlainReply.SpaceCreated number child) new effects → reply ≡ PlainReply.SpaceCreated number child) }
     ensures before { state.new.before ≡ state.old.before }
 {
     match take_for_space(state, space, name, disposition, effects)? {
         Err(code) => Ok(refused(SPACE_CREATE, code)),
         Ok(right) => {
             let (space, name) = add_child(alloc, state, right, wanted)?;
-            Ok(Reply::SpaceCreated { space, name })
+            Ok(PlainReply::SpaceCreated { space, name })
         }
     }
 }
@@ -76,7 +76,7 @@ pub fn space_destroy(
     state: &mut IpcState,
     space: u32,
     effects: &mut Effects,
-) -> Result<Reply, AllocError>
+) -> Result<PlainReply, AllocError>
     requires none { effects.old ≡ [] }
     ensures acts { Acts state.old.current space call.SpaceDestroy result state.new.current effects.new }
     ensures before { state.new.before ≡ state.old.before }
@@ -88,7 +88,7 @@ pub fn space_destroy(
     release_names(alloc, state, space, effects)?;
     leave_sets(alloc, state, space)?;
     state.remove_space(space)?;
-    Ok(Reply::Done { number })
+    Ok(PlainReply::Done { number })
 }
 
 /// The ports whose receive rights the names of a space hold leave their sets. If an allocation fails, the changes must

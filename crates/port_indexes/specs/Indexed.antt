@@ -4,7 +4,7 @@ use Rattle.std.proofs.lemmas.Bool.{eqb-true, eq-eqb}
 use Rattle.std.specs.Cmp.{nat_cmp_total}
 use Rattle.std.specs.Ordering.{nat_cmp, eq_by_cmp}
 use Rattle.std.specs.FinMap.{empty, get, get-empty, get-insert, get-remove}
-use Rattle.ipc_model.specs.state.State.{is_number}
+use Rattle.ipc_model.specs.state.Ipc.{is_number}
 use Rattle.ipc_laws.specs.MapSums.{key_is, same_key}
 use Rattle.port_indexes.specs.Places.{Numbers, key, stands_at, with_place, without_place, moved}
 

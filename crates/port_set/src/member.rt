@@ -1,7 +1,7 @@
 ghost use Rattle.std.specs.Prelude.{◌≡◌, IfOk};
 ghost use Rattle.ipc_model.specs.calls.Actions.{received_serials, serials_of_members};
 ghost use Rattle.ipc_model.specs.calls.PortCalls.{names_in};
-ghost use Rattle.ipc_model.specs.state.State.{members_of, received_port};
+ghost use Rattle.ipc_model.specs.state.Ipc.{members_of, received_port};
 
 use ipc_model::Entry;
 use ipc_state::IpcState;

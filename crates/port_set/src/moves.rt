@@ -1,6 +1,6 @@
 ghost use Rattle.std.specs.Prelude.{◌≡◌, OnOk};
 ghost use Rattle.ipc_model.specs.calls.Actions.{set_named, with_ports, with_received};
-ghost use Rattle.ipc_model.specs.state.State.{with_port};
+ghost use Rattle.ipc_model.specs.state.Ipc.{with_port};
 
 use crate::member::received_port;
 use codes::MACH_PORT_NULL;

@@ -6,7 +6,7 @@ use Rattle.codes.specs.declared.limits.TheConstants.{MAX_NAMES}
 use Rattle.codes.specs.declared.name.TheConstants.{FIRST_NAME}
 use Rattle.ipc_model.specs.declared.entry.Entry.{Entry}
 use Rattle.ipc_model.specs.calls.PortCalls.{stands_elsewhere}
-use Rattle.ipc_model.specs.state.State.{Names, IsUnused, is_number, name_of_port, port_held}
+use Rattle.ipc_model.specs.state.Ipc.{Names, IsUnused, is_number, name_of_port, port_held}
 use Rattle.port_space.specs.Alongside.{Numbers, has, holds, StandAlongside}
 use Rattle.port_space.specs.Crowded.{crowded}
 use Rattle.port_space.specs.Finding.{first_entry, no_entry, some_entry, not_any}

@@ -6,7 +6,7 @@ use Rattle.std.specs.Ordering.{nat_cmp, eq_by_cmp}
 use Rattle.std.specs.Prelude.{option_and_then}
 use Rattle.std.specs.FinMap.{get, get-insert, get-remove}
 use Rattle.ipc_model.specs.declared.entry.Entry.{Entry}
-use Rattle.ipc_model.specs.state.State.{Names, is_number, port_held}
+use Rattle.ipc_model.specs.state.Ipc.{Names, is_number, port_held}
 use Rattle.ipc_laws.specs.MapSums.{key_is, same_key}
 use Rattle.port_space.specs.Alongside.{Numbers, has, holds, port_key, AreByPort, with_port, without_port}
 

@@ -5,7 +5,7 @@ use Rattle.std.specs.Ordering.{nat_cmp, eq_by_cmp}
 use Rattle.std.specs.FinMap.{get, insert, remove, len, empty, get-empty, get-insert, get-remove}
 use Rattle.codes.specs.declared.limits.TheConstants.{MAX_NAMES}
 use Rattle.ipc_model.specs.declared.entry.Entry.{Entry}
-use Rattle.ipc_model.specs.state.State.{Names, is_number, port_held}
+use Rattle.ipc_model.specs.state.Ipc.{Names, is_number, port_held}
 use Rattle.ipc_laws.specs.MapSums.{key_is}
 use Rattle.port_space.specs.Alongside.{Numbers, has, with_port, without_port, StandAlongside, AreByPort, AreFree, GoesOn}
 use Rattle.port_space.specs.References.{AreBounded, AreFewReferences}

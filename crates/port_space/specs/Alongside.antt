@@ -3,7 +3,7 @@ use Rattle.std.specs.Prelude.{◌≡◌, ◌⊎◌, ℕ, ◌+◌, ◌*◌, ◌^�
 use Rattle.std.specs.Ordering.{nat_cmp}
 use Rattle.std.specs.FinMap as map
 use Rattle.codes.specs.declared.name.TheConstants.{FIRST_NAME}
-use Rattle.ipc_model.specs.state.State.{Names, is_number, port_held}
+use Rattle.ipc_model.specs.state.Ipc.{Names, is_number, port_held}
 use Rattle.port_space.specs.References.{AreBounded}
 
 -- a set of numbers

@@ -1,7 +1,7 @@
 -- One entry of a space under another name.
 use Rattle.std.specs.Prelude.{ℕ, None, Some}
 use Rattle.std.specs.FinMap as map
-use Rattle.ipc_model.specs.state.State.{Names}
+use Rattle.ipc_model.specs.state.Ipc.{Names}
 
 -- the names once what stands under one name, if anything, stands under another
 abbrev pub under_other_name : Names → ℕ → ℕ → Names

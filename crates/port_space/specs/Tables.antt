@@ -3,7 +3,7 @@ use Rattle.std.specs.Prelude.{◌≡◌, ℕ, ◌^◌, ◌<◌, ◌≤◌, ◌�
 use Rattle.std.specs.FinMap as map
 use Rattle.codes.specs.declared.name.TheConstants.{FIRST_NAME}
 use Rattle.ipc_model.specs.declared.entry.Entry.{Entry}
-use Rattle.ipc_model.specs.state.State.{Names, port_held}
+use Rattle.ipc_model.specs.state.Ipc.{Names, port_held}
 use Rattle.port_space.specs.Alongside.{with_port, without_port, GoesOn}
 use Rattle.tracked_map.specs.Tracked.{at_rest}
 use Rattle.port_space.specs.declared.tables.Tables.{Tables}

@@ -1,7 +1,7 @@
 ghost use Rattle.std.specs.Prelude.{◌≡◌, ℕ, ◌≤◌, ◌<◌, ◌^◌, ◌↔◌, true, false, IfOk, OnOk, OnErr, IsSome, IfSome, IsTrue, MatchBool, None, is_some};
 ghost use Rattle.std.specs.FinMap as map;
 ghost use Rattle.ipc_model.specs.calls.PortCalls.{stands_elsewhere};
-ghost use Rattle.ipc_model.specs.state.State.{IsUnused, name_of_port};
+ghost use Rattle.ipc_model.specs.state.Ipc.{IsUnused, name_of_port};
 ghost use Rattle.port_space.specs.Alongside.{holds};
 ghost use Rattle.port_space.specs.References.{AreFewReferences};
 ghost use Rattle.port_space.specs.Walking.{IsNextEntry};

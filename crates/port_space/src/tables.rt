@@ -1,7 +1,7 @@
 //! The names of a space as plain tables, with the indexes that go with them.
 ghost use Rattle.std.specs.Prelude.{◌≡◌, ◌≤◌, ◌<◌, ◌^◌, ℕ, true, false, None, Some, IfOk, OnOk, MatchOption, is_some, option_and_then};
 ghost use Rattle.std.specs.FinMap as map;
-ghost use Rattle.ipc_model.specs.state.State.{port_held};
+ghost use Rattle.ipc_model.specs.state.Ipc.{port_held};
 ghost use Rattle.port_space.specs.Alongside.{holds, with_port, without_port, port_key, AreByPort, AreFree, GoesOn};
 ghost use Rattle.port_space.specs.Tables.{IsPut, IsRemoved, SameBefore, AreRolledBack, AreCommitted, AreNew, AreSmall};
 

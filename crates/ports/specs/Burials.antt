@@ -20,7 +20,7 @@ use Rattle.ipc_model.specs.declared.port.PortState.{PortState}
 use Rattle.ipc_model.specs.effects.Effects.{map_values, carried_after_death, right_after_death, message_after_death}
 use Rattle.ipc_model.specs.state.Circular.{is_port}
 use Rattle.ipc_model.specs.state.Placed.{same_kind}
-use Rattle.ipc_model.specs.state.State.{is_number}
+use Rattle.ipc_model.specs.state.Ipc.{is_number}
 use Rattle.live_ports.specs.Changed.{messages_at, messages_in}
 use Rattle.live_ports.specs.PortTable.{PortTable}
 use Rattle.live_ports.specs.Seen.{Ports, is_to, reply_is_to, mentions, queue_after_death}

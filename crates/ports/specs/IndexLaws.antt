@@ -10,7 +10,7 @@ use Rattle.ipc_laws.specs.MapSums.{key_is, weigh, weigh-append, weight, total-in
 use Rattle.ipc_laws.specs.Weights.{Weight, target_weigh, message_weigh, port_weigh}
 use Rattle.ipc_model.specs.declared.message.Message.{Message}
 use Rattle.ipc_model.specs.declared.port.PortState.{PortState}
-use Rattle.ipc_model.specs.state.State.{new_port}
+use Rattle.ipc_model.specs.state.Ipc.{new_port}
 use Rattle.live_ports.specs.Changed.{changed, numbers_of, with_message, with_numbers}
 use Rattle.live_ports.specs.declared.port.PortNumbers.{PortNumbers}
 use Rattle.live_ports.specs.PortTable.{PortTable}

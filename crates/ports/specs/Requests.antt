@@ -8,7 +8,7 @@ use Rattle.ipc_laws.specs.MapLaws.{get-map_values}
 use Rattle.ipc_laws.specs.MapSums.{key_is, same_key, weight, total, total-insert}
 use Rattle.ipc_model.specs.declared.port.PortState.{PortState}
 use Rattle.ipc_model.specs.effects.Effects.{map_values, port_after_death, without_target}
-use Rattle.ipc_model.specs.state.State.{is_number}
+use Rattle.ipc_model.specs.state.Ipc.{is_number}
 use Rattle.live_ports.specs.Changed.{changed}
 use Rattle.live_ports.specs.PortTable.{TrackedPorts}
 use Rattle.live_ports.specs.Seen.{Ports, queue_after_death}

@@ -2,7 +2,7 @@
 ghost use Rattle.std.specs.Prelude.{◌≡◌, ◌<◌, ◌≤◌, ◌+◌, ◌-◌, ◌^◌, OnOk, OnErr, take};
 ghost use Rattle.std.specs.FinMap as map;
 ghost use Rattle.codes.specs.declared.limits.TheConstants.{MAX_PORTS};
-ghost use Rattle.ipc_model.specs.state.State.{new_port};
+ghost use Rattle.ipc_model.specs.state.Ipc.{new_port};
 ghost use Rattle.live_ports.specs.Changed.{changed, messages_at, with_message, with_numbers, without_first};
 ghost use Rattle.live_ports.specs.PortTable.{ports_at_rest};
 ghost use Rattle.live_ports.specs.Seen.{AreLive};

@@ -5,13 +5,13 @@ use Rattle.std.proofs.lemmas.Bool.{eq-eqb, eqb-true}
 use Rattle.std.specs.FinMap as finmap
 use Rattle.codes.specs.declared.kern_return.KernReturn.{KernReturn}
 use Rattle.codes.specs.declared.kern_return.KernReturn.TheVariants.{Success, RcvTooLarge, RcvHeaderErrorSpace}
-use Rattle.ipc_model.specs.declared.call.Reply.{Reply}
-use Rattle.ipc_model.specs.declared.call.Reply.TheVariants as reply
+use Rattle.ipc_model.specs.declared.plain_reply.PlainReply.{PlainReply}
+use Rattle.ipc_model.specs.declared.plain_reply.PlainReply.TheVariants as reply
 use Rattle.ipc_model.specs.declared.message.Message.{Message}
 use Rattle.ipc_model.specs.declared.port.PortState.{PortState}
 use Rattle.ipc_model.specs.effects.Effects.{Effect}
 use Rattle.ipc_model.specs.messages.Receiving.{HoldsReceiveRight, ReceiveArguments, ReceiveRefused, Received, Receives, TakesMessage, TakesOut, TooLarge, lacks_names, message_size, oldest, received_encoding, without_message}
-use Rattle.ipc_model.specs.state.State.{Names, State}
+use Rattle.ipc_model.specs.state.Ipc.{Names, Ipc}
 use Rattle.ipc_laws.specs.ReceiveLaws.{large_answer}
 use Rattle.rights.specs.Passed.{messages_at}
 use Rattle.receiving.specs.Shows.{preferred_by}
@@ -23,14 +23,14 @@ use Rattle.receiving.specs.declared.asked.Preference.{Preference}
 use Rattle.receiving.specs.declared.asked.Preference.TheVariants as preference
 
 -- the port that was found, with its oldest message
-record Found (state : State) (serial : ℕ) : Type 0 where
+record Found (state : Ipc) (serial : ℕ) : Type 0 where
   port : PortState
   message : Message
   later : List Message
   live : finmap.get state.ports serial ≡ Some port
   first : port.messages ≡ message ∷ later
 
-found : (state : State) (serial : ℕ) → has_message state serial ≡ true → Found state serial
+found : (state : Ipc) (serial : ℕ) → has_message state serial ≡ true → Found state serial
 found state serial has = by_port (finmap.get state.ports serial) refl has
   where
     by_messages : (port : PortState) (messages : List Message) → finmap.get state.ports serial ≡ Some port
@@ -46,13 +46,13 @@ found state serial has = by_port (finmap.get state.ports serial) refl has
     by_port (Some port) at some = by_messages port port.messages at refl some
 
 -- a receive, by whether it is refused
-abbrev ReceivesBy : Option KernReturn → State → ℕ → Names → ReceiveArguments → Reply → State → List Effect → Type 0
+abbrev ReceivesBy : Option KernReturn → Ipc → ℕ → Names → ReceiveArguments → PlainReply → Ipc → List Effect → Type 0
 ReceivesBy refusal old space names arguments answer new effects =
     MatchOption refusal (TakesMessage old space names arguments answer new effects)
     (λ code. ReceiveRefused code old answer new effects)
 
-pub receives_found : (old : State) (space : ℕ) (names : Names) (arguments : ReceiveArguments) (member serial : ℕ)
-    (answer : Reply) (new : State) (effects : List Effect) → IsSource old names arguments member serial
+pub receives_found : (old : Ipc) (space : ℕ) (names : Names) (arguments : ReceiveArguments) (member serial : ℕ)
+    (answer : PlainReply) (new : Ipc) (effects : List Effect) → IsSource old names arguments member serial
     → OfOldest old serial (λ port message. TakesOut old space names arguments member serial port message answer new
     effects) → Receives old space names arguments answer new effects
 receives_found old space names arguments member serial answer new effects source takes =
@@ -72,7 +72,7 @@ receives_found old space names arguments member serial answer new effects source
     })
 
 -- The member of a reply that shows it is the one that was found.
-shown_member : (old : State) (names : Names) (arguments : ReceiveArguments) (wanted : Preference)
+shown_member : (old : Ipc) (names : Names) (arguments : ReceiveArguments) (wanted : Preference)
     (member serial other port : ℕ)
     → IsPreferred old names arguments wanted member serial → wanted ≡ preference.Member other
     → Contains (source_list old names arguments) other → HoldsReceiveRight names other port
@@ -81,20 +81,21 @@ shown_member old names arguments wanted member serial other port prefers is amon
     let here = subst (λ (p : Preference). IsPreferred old names arguments p member serial) is prefers in
     sym (eqb-true member other (here other port among holds has (eq-eqb other other refl)))
 
-has_first : (state : State) (serial : ℕ) (port : PortState) (message : Message) (later : List Message)
+has_first : (state : Ipc) (serial : ℕ) (port : PortState) (message : Message) (later : List Message)
     → finmap.get state.ports serial ≡ Some port → port.messages ≡ message ∷ later → has_message state serial ≡ true
 has_first state serial port message later live first =
     ap (λ (l : List Message). is_some (oldest l)) (messages_of_port state serial port live ∙ first)
 
 -- another receive that took the message of the port that was found
-abbrev pub HasOneAnswer : State → ℕ → Names → ReceiveArguments → ℕ → ℕ → Reply → Reply → State → List Effect → Type 0
+abbrev pub HasOneAnswer : Ipc → ℕ → Names → ReceiveArguments → ℕ → ℕ → PlainReply → PlainReply → Ipc → List Effect
+    → Type 0
 HasOneAnswer old space names arguments member serial answer other last others =
     OfOldest old serial (λ port message. TakesOut old space names arguments member serial port message other last others
     → answer ≡ other)
 
-same_source : (old : State) (space : ℕ) (names : Names) (arguments : ReceiveArguments)
+same_source : (old : Ipc) (space : ℕ) (names : Names) (arguments : ReceiveArguments)
     (member serial other_member other_serial : ℕ) (port : PortState) (message : Message) (later : List Message)
-    (answer other : Reply) (last : State) (others : List Effect)
+    (answer other : PlainReply) (last : Ipc) (others : List Effect)
     → HasOneAnswer old space names arguments member serial answer other last others
     → HoldsReceiveRight names member serial
     → HoldsReceiveRight names other_member other_serial → other_member ≡ member
@@ -109,13 +110,13 @@ same_source old space names arguments member serial other_member other_serial po
     (subst (λ (s : ℕ). TakesOut old space names arguments member s port message other last others) serials
     (subst (λ (n : ℕ). TakesOut old space names arguments n other_serial port message other last others) same may))
 
-by_code : (answer : Reply) (code : KernReturn) (size member : ℕ) (encoding : List ℕ)
+by_code : (answer : PlainReply) (code : KernReturn) (size member : ℕ) (encoding : List ℕ)
     → answer ≡ reply.Message code size member encoding
     → preferred_by answer ≡ preferred_by (reply.Message code size member encoding)
 by_code answer code size member encoding is = ap preferred_by is
 
 -- a message for whose rights the space lacks names
-lacking_first : (arguments : ReceiveArguments) (names : Names) (state : State) (serial : ℕ) (port : PortState)
+lacking_first : (arguments : ReceiveArguments) (names : Names) (state : Ipc) (serial : ℕ) (port : PortState)
     (message : Message)
     (later : List Message) → finmap.get state.ports serial ≡ Some port → port.messages ≡ message ∷ later
     → oldest_lacks arguments names (messages_at state.ports serial)
@@ -128,8 +129,8 @@ both_lack true lacks is = absurd (cc is)
 both_lack false lacks is = (refl, is)
 
 -- if there are no names for the message that was found, the reply says so
-lacking_answer : (old : State) (space : ℕ) (names : Names) (arguments : ReceiveArguments) (member serial : ℕ)
-    (answer : Reply) (new : State) (effects : List Effect) → has_message old serial ≡ true
+lacking_answer : (old : Ipc) (space : ℕ) (names : Names) (arguments : ReceiveArguments) (member serial : ℕ)
+    (answer : PlainReply) (new : Ipc) (effects : List Effect) → has_message old serial ≡ true
     → OfOldest old serial (λ port message. TakesOut old space names arguments member serial port message answer new
     effects) → oldest_lacks arguments names (messages_at old.ports serial) ≡ true
     → answer ≡ without_message RcvHeaderErrorSpace 0 0
@@ -151,13 +152,13 @@ lacking_answer old space names arguments member serial answer new effects has ta
     (Received old space names member serial is.port is.message answer new effects)) both.1 small in
     short.0
 
-module _ (old : State) (space : ℕ) (names : Names) (arguments : ReceiveArguments) (member serial : ℕ)
+module _ (old : Ipc) (space : ℕ) (names : Names) (arguments : ReceiveArguments) (member serial : ℕ)
     (wanted : Preference)
-    (answer : Reply) (new : State) (effects : List Effect) (source : IsSource old names arguments member serial)
+    (answer : PlainReply) (new : Ipc) (effects : List Effect) (source : IsSource old names arguments member serial)
     (prefers : IsPreferred old names arguments wanted member serial)
     (takes : OfOldest old serial
     (λ port message. TakesOut old space names arguments member serial port message answer new effects))
-    (other : Reply) (last : State) (others : List Effect)
+    (other : PlainReply) (last : Ipc) (others : List Effect)
     (alike : HasOneAnswer old space names arguments member serial answer other last others)
     (shows : wanted ≡ preferred_by other) where
   by_member : (name port_serial : ℕ) (port : PortState) (message : Message) (later : List Message) (code : KernReturn)

@@ -26,7 +26,7 @@ use Rattle.ipc_model.specs.messages.Sending.{items_if_complex}
 use Rattle.ipc_model.specs.rights.CopyOut.{Arrives, MayArrive, names_after, merged_entry}
 use Rattle.ipc_model.specs.rights.Dispositions.{number_of_kind}
 use Rattle.ipc_model.specs.state.Lawful.{LawfulMessage, LawfulNames, HoldsPorts}
-use Rattle.ipc_model.specs.state.State.{Names, IsUnused, name_of_port}
+use Rattle.ipc_model.specs.state.Ipc.{Names, IsUnused, name_of_port}
 use Rattle.words.specs.WordLaws.{little_number-word}
 use Rattle.words.specs.Words.{AreBytes, word}
 

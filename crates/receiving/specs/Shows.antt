@@ -2,8 +2,8 @@
 use Rattle.std.specs.Prelude.{ℕ, List, []}
 use Rattle.codes.specs.declared.kern_return.KernReturn.{KernReturn}
 use Rattle.codes.specs.declared.kern_return.KernReturn.TheVariants.{RcvHeaderErrorSpace}
-use Rattle.ipc_model.specs.declared.call.Reply.{Reply}
-use Rattle.ipc_model.specs.declared.call.Reply.TheVariants as reply
+use Rattle.ipc_model.specs.declared.plain_reply.PlainReply.{PlainReply}
+use Rattle.ipc_model.specs.declared.plain_reply.PlainReply.TheVariants as reply
 use Rattle.ipc_model.specs.messages.Receiving.{ReceiveArguments}
 use Rattle.receiving.specs.declared.asked.Asked.{Asked}
 use Rattle.receiving.specs.declared.asked.Preference.{Preference}
@@ -18,11 +18,11 @@ abbrev pub preferred_by_code : KernReturn → ℕ → Preference
 preferred_by_code RcvHeaderErrorSpace member = preference.Lacking
 preferred_by_code _ member = preference.Member member
 
-abbrev pub preferred_by : Reply → Preference
+abbrev pub preferred_by : PlainReply → Preference
 preferred_by (reply.Message code size member message) = preferred_by_code code member
 preferred_by _ = preference.Least
 
 -- the bytes of the message that was received
-abbrev pub encoding_in : Reply → List ℕ
+abbrev pub encoding_in : PlainReply → List ℕ
 encoding_in (reply.Message code size member message) = message
 encoding_in _ = []

@@ -12,7 +12,7 @@ use Rattle.ipc_model.specs.declared.message.Message.{Message}
 use Rattle.ipc_model.specs.declared.port.PortState.{PortState}
 use Rattle.ipc_model.specs.messages.Receiving.{ReceiveArguments, HoldsReceiveRight, all_empty, oldest, oldest_under, port_under, receive_refusal, refusal_of_sources, source_names, sources, sources_of_port}
 use Rattle.ipc_model.specs.messages.Receiving as machine
-use Rattle.ipc_model.specs.state.State.{State, Names, is_member, members_of, received_port}
+use Rattle.ipc_model.specs.state.Ipc.{Ipc, Names, is_member, members_of, received_port}
 use Rattle.ipc_laws.specs.Dangling.{later_found, front_of, back_of}
 use Rattle.ipc_laws.specs.ListLaws.{some_same}
 use Rattle.ipc_laws.specs.MapSums.{same_key}
@@ -92,11 +92,11 @@ find_none test (p ∷ pairs) is pair at =
 
 -- the members of a set
 
-abbrev pub member_pairs : State → Names → ℕ → List (ℕ × ℕ)
+abbrev pub member_pairs : Ipc → Names → ℕ → List (ℕ × ℕ)
 member_pairs state names set = flat_map (member_under state set) (finmap.entries names)
 
 -- a name that holds a port's receive right
-one_pair : (state : State) (set : ℕ) (e : ℕ × Entry) (rest : List (ℕ × ℕ)) (member serial : ℕ) (b : Bool) (o : Option ℕ)
+one_pair : (state : Ipc) (set : ℕ) (e : ℕ × Entry) (rest : List (ℕ × ℕ)) (member serial : ℕ) (b : Bool) (o : Option ℕ)
     → received_port e.1 ≡ o
     → (P : Type 0) → Contains (elim (cond b o None) as (λ _. List (ℕ × ℕ)) [ None ↦ [] | Some port ↦ (e.0, port) ∷ [] ]
     ++ rest) (member, serial)
@@ -108,7 +108,7 @@ one_pair state set e rest member serial true (Some port) at P found first others
     others
 one_pair state set e rest member serial false o at P found first others = others found
 
-pair_held : (state : State) (set : ℕ) (es : List (ℕ × Entry)) (member serial : ℕ) → T (is_sorted nat_cmp es)
+pair_held : (state : Ipc) (set : ℕ) (es : List (ℕ × Entry)) (member serial : ℕ) → T (is_sorted nat_cmp es)
     → Contains (flat_map (member_under state set) es) (member, serial)
     → (entry : Entry) × (finmap.find nat_cmp member es ≡ Some entry) × (received_port entry ≡ Some serial)
 pair_held state set [] member serial sorted at = in_none (member, serial) _ at
@@ -132,19 +132,19 @@ pair_held state set (e ∷ es) member serial sorted at =
       found.2,
     ))
 
-pub pair_holds : (state : State) (names : Names) (set member serial : ℕ)
+pub pair_holds : (state : Ipc) (names : Names) (set member serial : ℕ)
     → Contains (member_pairs state names set) (member, serial) → HoldsReceiveRight names member serial
 pair_holds state names set member serial at =
     let found = pair_held state set (finmap.entries names) member serial (entries_sorted names) at in
     (found.0, get-entries names member ∙ found.1, found.2)
 
-pub pair_named : (state : State) (names : Names) (set member serial : ℕ)
+pub pair_named : (state : Ipc) (names : Names) (set member serial : ℕ)
     → Contains (member_pairs state names set) (member, serial) → Contains (members_of state names set) member
 pair_named state names set member serial at =
     subst (λ (l : List ℕ). Contains l member) (member_names state set (finmap.entries names))
     (names_of_pair (member_pairs state names set) member serial at)
 
-pub named_pair : (state : State) (names : Names) (set member serial : ℕ) → Contains (members_of state names set) member
+pub named_pair : (state : Ipc) (names : Names) (set member serial : ℕ) → Contains (members_of state names set) member
     → HoldsReceiveRight names member serial → Contains (member_pairs state names set) (member, serial)
 named_pair state names set member serial at holds =
     let found =
@@ -155,14 +155,14 @@ named_pair state names set member serial at holds =
 
 -- the message that the port under a name gives is its oldest
 
-under_held : (state : State) (names : Names) (member serial : ℕ) → HoldsReceiveRight names member serial
+under_held : (state : Ipc) (names : Names) (member serial : ℕ) → HoldsReceiveRight names member serial
     → port_under state names member ≡ finmap.get state.ports serial
 under_held state names member serial holds =
     ap (λ (o : Option Entry). option_and_then (λ (s : ℕ). finmap.get state.ports s) (option_and_then received_port o))
     holds.1
     ∙ ap (λ (o : Option ℕ). option_and_then (λ (s : ℕ). finmap.get state.ports s) o) holds.2
 
-pub has_under : (state : State) (names : Names) (member serial : ℕ) → HoldsReceiveRight names member serial
+pub has_under : (state : Ipc) (names : Names) (member serial : ℕ) → HoldsReceiveRight names member serial
     → is_some (oldest_under state names member) ≡ has_message state serial
 has_under state names member serial holds =
     ap (λ (o : Option PortState). is_some (option_and_then (λ (port : PortState). oldest port.messages) o))
@@ -180,7 +180,7 @@ has_under state names member serial holds =
 
 -- some or none of a list's ports have a message
 
-none_empty : (state : State) (names : Names) (among : List ℕ) (member : ℕ) → Contains among member
+none_empty : (state : Ipc) (names : Names) (among : List ℕ) (member : ℕ) → Contains among member
     → is_some (oldest_under state names member) ≡ true → all_empty state names among ≡ false
 none_empty state names [] member at has = in_none member _ at
 none_empty state names (name ∷ others) member at has =
@@ -195,7 +195,7 @@ none_empty state names (name ∷ others) member at has =
           (λ (rest : Contains others member). none_empty state names others member rest has)
     ] refl
 
-every_empty : (state : State) (names : Names) (among : List ℕ)
+every_empty : (state : Ipc) (names : Names) (among : List ℕ)
     → ((member : ℕ) → Contains among member → is_some (oldest_under state names member) ≡ false)
     → all_empty state names among ≡ true
 every_empty state names [] each = refl
@@ -214,13 +214,13 @@ same_port one other e = ap port_in e
     port_in (giver.Port port) = port
     port_in giver.Set = one
 
-record FromPort (state : State) (names : Names) (name serial : ℕ) (o : Option Entry) : Type 0 where
+record FromPort (state : Ipc) (names : Names) (name serial : ℕ) (o : Option Entry) : Type 0 where
   entry : Entry
   there : o ≡ Some entry
   received : received_port entry ≡ Some serial
   alone : sources state names name o ≡ Some (name ∷ [])
 
-from_port : (state : State) (names : Names) (name serial : ℕ) (o : Option Entry) → giver_of o ≡ giver.Port serial
+from_port : (state : Ipc) (names : Names) (name serial : ℕ) (o : Option Entry) → giver_of o ≡ giver.Port serial
     → FromPort state names name serial o
 from_port state names name serial None is = absurd (cc is)
 from_port state names name serial (Some (Port rights)) is =
@@ -240,12 +240,12 @@ from_port state names name serial (Some (SendOnce port target)) is = absurd (cc 
 from_port state names name serial (Some Set) is = absurd (cc is)
 from_port state names name serial (Some (Dead references)) is = absurd (cc is)
 
-pub port_held : (state : State) (names : Names) (name serial : ℕ) → giver_of (finmap.get names name) ≡ giver.Port serial
+pub port_held : (state : Ipc) (names : Names) (name serial : ℕ) → giver_of (finmap.get names name) ≡ giver.Port serial
     → HoldsReceiveRight names name serial
 port_held state names name serial is =
     let from = from_port state names name serial (finmap.get names name) is in (from.entry, from.there, from.received)
 
-pub port_refused : (state : State) (names : Names) (arguments : ReceiveArguments) (serial : ℕ)
+pub port_refused : (state : Ipc) (names : Names) (arguments : ReceiveArguments) (serial : ℕ)
     → giver_of (finmap.get names arguments.name) ≡ giver.Port serial
     → receive_refusal state names arguments ≡ port_refusal state arguments serial
 port_refused state names arguments serial is =
@@ -282,14 +282,14 @@ set_there (Some (SendOnce port target)) is = absurd (cc is)
 set_there (Some Set) is = refl
 set_there (Some (Dead references)) is = absurd (cc is)
 
-pub set_members : (state : State) (names : Names) (arguments : ReceiveArguments)
+pub set_members : (state : Ipc) (names : Names) (arguments : ReceiveArguments)
     → giver_of (finmap.get names arguments.name) ≡ giver.Set
     → source_list state names arguments ≡ members_of state names arguments.name
 set_members state names arguments is =
     ap (λ (o : Option Entry). source_names (sources state names arguments.name o))
     (set_there (finmap.get names arguments.name) is)
 
-set_refused : (state : State) (names : Names) (arguments : ReceiveArguments) → giver_of
+set_refused : (state : Ipc) (names : Names) (arguments : ReceiveArguments) → giver_of
     (finmap.get names arguments.name) ≡ giver.Set → receive_refusal state names arguments
     ≡ (if all_empty state names (members_of state names arguments.name) then Some RcvTimedOut else None)
 set_refused state names arguments is =
@@ -301,7 +301,7 @@ set_refused state names arguments is =
     else None) (ap (λ (o : Option Entry). option_and_then
     (λ (s : ℕ). finmap.get state.ports s) (option_and_then received_port o)) there)
 
-pub set_source : (state : State) (names : Names) (arguments : ReceiveArguments) (test : ℕ × ℕ → Bool)
+pub set_source : (state : Ipc) (names : Names) (arguments : ReceiveArguments) (test : ℕ × ℕ → Bool)
     (member serial : ℕ) → giver_of (finmap.get names arguments.name) ≡ giver.Set
     → find test (member_pairs state names arguments.name) ≡ Some (member, serial)
     → (test (member, serial) ≡ true → has_message state serial ≡ true) → IsSource state names arguments member serial
@@ -321,7 +321,7 @@ set_source state names arguments test member serial is found passes =
       has = has;
     }
 
-pub gives_has : (state : State) (names : Names) (arguments : ReceiveArguments) (preference : Preference)
+pub gives_has : (state : Ipc) (names : Names) (arguments : ReceiveArguments) (preference : Preference)
     (member serial : ℕ)
     → gives state names arguments preference (member, serial) ≡ true → has_message state serial ≡ true
 gives_has state names arguments preference member serial is =
@@ -332,7 +332,7 @@ gives_has state names arguments preference member serial is =
       | false ↦ λ (e : _). absurd (cc e)
     ] is
 
-pub gives_preferred : (state : State) (names : Names) (arguments : ReceiveArguments) (preference : Preference)
+pub gives_preferred : (state : Ipc) (names : Names) (arguments : ReceiveArguments) (preference : Preference)
     (member serial : ℕ) → gives state names arguments preference (member, serial) ≡ true
     → is_preferred state names arguments preference member serial ≡ true
 gives_preferred state names arguments preference member serial is =
@@ -343,14 +343,14 @@ gives_preferred state names arguments preference member serial is =
       | false ↦ λ (e : _). absurd (cc e)
     ] is
 
-both_give : (state : State) (names : Names) (arguments : ReceiveArguments) (preference : Preference) (member serial : ℕ)
+both_give : (state : Ipc) (names : Names) (arguments : ReceiveArguments) (preference : Preference) (member serial : ℕ)
     → has_message state serial ≡ true → is_preferred state names arguments preference member serial ≡ true
     → gives state names arguments preference (member, serial) ≡ true
 both_give state names arguments preference member serial has preferred =
     ap (λ (b : Bool). if b then is_preferred state names arguments preference member serial else false) has ∙ preferred
 
 -- no member is preferred, where the search for one found none
-pub none_preferred : (state : State) (names : Names) (arguments : ReceiveArguments) (preference : Preference)
+pub none_preferred : (state : Ipc) (names : Names) (arguments : ReceiveArguments) (preference : Preference)
     (member serial : ℕ) → giver_of (finmap.get names arguments.name) ≡ giver.Set
     → find (gives state names arguments preference) (member_pairs state names arguments.name) ≡ None
     → IsPreferred state names arguments preference member serial
@@ -365,7 +365,7 @@ has_none : (b : Bool) → (if b then true else false) ≡ false → b ≡ false
 has_none true e = absurd (cc e)
 has_none false e = refl
 
-pub set_empty : (state : State) (names : Names) (arguments : ReceiveArguments)
+pub set_empty : (state : Ipc) (names : Names) (arguments : ReceiveArguments)
     → giver_of (finmap.get names arguments.name) ≡ giver.Set
     → find (gives state names arguments preference.Least) (member_pairs state names arguments.name) ≡ None
     → receive_refusal state names arguments ≡ Some RcvTimedOut

@@ -4,8 +4,8 @@ use Rattle.std.proofs.Common.{sym, ◌∙◌, ap, subst, arith}
 use Rattle.std.specs.FinMap as finmap
 use Rattle.codes.specs.declared.kern_return.KernReturn.TheVariants.{Success, RcvHeaderErrorSpace}
 use Rattle.ipc_model.specs.declared.message.CarriedRight.{CarriedRight}
-use Rattle.ipc_model.specs.declared.call.Reply.{Reply}
-use Rattle.ipc_model.specs.declared.call.Reply.TheVariants as reply
+use Rattle.ipc_model.specs.declared.plain_reply.PlainReply.{PlainReply}
+use Rattle.ipc_model.specs.declared.plain_reply.PlainReply.TheVariants as reply
 use Rattle.ipc_model.specs.declared.message.Message.{Message}
 use Rattle.ipc_model.specs.declared.port.PortState.{PortState}
 use Rattle.ipc_model.specs.effects.Effects.{Effect}
@@ -15,7 +15,7 @@ use Rattle.ipc_model.specs.rights.CopyOut.{Arrives}
 use Rattle.ipc_model.specs.rights.Dispositions.{number_of_kind}
 use Rattle.ipc_model.specs.calls.PortCalls.{names_in}
 use Rattle.ipc_model.specs.state.Lawful.{Lawful, LawfulMessage, LawfulNames}
-use Rattle.ipc_model.specs.state.State.{Names, State, next_count, with_names}
+use Rattle.ipc_model.specs.state.Ipc.{Names, Ipc, next_count, with_names}
 use Rattle.ipc_laws.specs.ReceiveArgumentLaws.{as_many_names}
 use Rattle.ipc_laws.specs.RecordedReceives.{body_long, names_left}
 use Rattle.ipc_laws.specs.ReceiveLaws.{large_answer}
@@ -28,14 +28,14 @@ use Rattle.receiving.specs.Shows.{encoding_in}
 use Rattle.receiving.specs.Taking.{OfOldest}
 
 -- the messages of a port that lives
-pub messages_of_port : (state : State) (serial : ℕ) (port : PortState) → finmap.get state.ports serial ≡ Some port
+pub messages_of_port : (state : Ipc) (serial : ℕ) (port : PortState) → finmap.get state.ports serial ≡ Some port
     → messages_at state.ports serial ≡ port.messages
 messages_of_port state serial port live = ap messages_in live
 
 first_less : (first : Message) (later : List Message) → 0 < length (first ∷ later)
 first_less first later = omega arith
 
-pub oldest_lawful : (state : State) (serial : ℕ) (port : PortState) (message : Message) (later : List Message)
+pub oldest_lawful : (state : Ipc) (serial : ℕ) (port : PortState) (message : Message) (later : List Message)
     → Lawful state → finmap.get state.ports serial ≡ Some port → port.messages ≡ message ∷ later → LawfulMessage message
 oldest_lawful state serial port message later lawful live first =
     (subst (λ (l : List Message). All LawfulMessage l) first (lawful.ports serial port live).2.messages) 0 message
@@ -47,10 +47,10 @@ body_names_seen lives None given = refl
 body_names_seen lives (Some right) given = refl
 
 -- names and queues can be changed in either order
-pub names_then_oldest : (state : State) (space serial : ℕ) (names : Names)
+pub names_then_oldest : (state : Ipc) (space serial : ℕ) (names : Names)
     → without_oldest (with_names state space names) serial ≡ with_names (without_oldest state serial) space names
 names_then_oldest state space serial names = elim (finmap.get state.ports serial) as (λ (o : Option PortState).
-    (elim o as (λ _. State) [
+    (elim o as (λ _. Ipc) [
       | None ↦ with_names state space names
       | Some port ↦
           record (with_names state space names) {
@@ -58,7 +58,7 @@ names_then_oldest state space serial names = elim (finmap.get state.ports serial
                 (record port { messages = drop 1 port.messages; sequence_number = (without port) });
           }
     ])
-    ≡ with_names (elim o as (λ _. State) [
+    ≡ with_names (elim o as (λ _. Ipc) [
       | None ↦ state
       | Some port ↦ record state {
         ports = finmap.insert state.ports serial
@@ -73,8 +73,8 @@ names_then_oldest state space serial names = elim (finmap.get state.ports serial
     without port = next_count port.sequence_number
 
 -- what becomes of the message
-pub was_large : (old : State) (space : ℕ) (names : Names) (arguments : ReceiveArguments) (member serial : ℕ)
-    (port : PortState) (message : Message) (answer : Reply) (new : State) (effects : List Effect)
+pub was_large : (old : Ipc) (space : ℕ) (names : Names) (arguments : ReceiveArguments) (member serial : ℕ)
+    (port : PortState) (message : Message) (answer : PlainReply) (new : Ipc) (effects : List Effect)
     → nat_lt arguments.limit (message_size message) ≡ true
     → TooLarge old member serial message arguments.large answer new effects
     → TakesOut old space names arguments member serial port message answer new effects
@@ -84,8 +84,8 @@ was_large old space names arguments member serial port message answer new effect
     ((answer ≡ without_message RcvHeaderErrorSpace 0 0) × (new ≡ old) × (effects ≡ []))
     (Received old space names member serial port message answer new effects))) (sym large) is
 
-pub was_lacking : (old : State) (space : ℕ) (names : Names) (arguments : ReceiveArguments) (member serial : ℕ)
-    (port : PortState) (message : Message) (answer : Reply) (new : State) (effects : List Effect)
+pub was_lacking : (old : Ipc) (space : ℕ) (names : Names) (arguments : ReceiveArguments) (member serial : ℕ)
+    (port : PortState) (message : Message) (answer : PlainReply) (new : Ipc) (effects : List Effect)
     → nat_lt arguments.limit (message_size message) ≡ false → lacks_names names message ≡ true
     → answer ≡ without_message RcvHeaderErrorSpace 0 0 → new ≡ old → effects ≡ []
     → TakesOut old space names arguments member serial port message answer new effects
@@ -98,8 +98,8 @@ was_lacking old space names arguments member serial port message answer new effe
     ((answer ≡ without_message RcvHeaderErrorSpace 0 0) × (new ≡ old) × (effects ≡ []))
     (Received old space names member serial port message answer new effects)) (sym lacks) (is, same, none))
 
-pub was_received : (old : State) (space : ℕ) (names : Names) (arguments : ReceiveArguments) (member serial : ℕ)
-    (port : PortState) (message : Message) (answer : Reply) (new : State) (effects : List Effect)
+pub was_received : (old : Ipc) (space : ℕ) (names : Names) (arguments : ReceiveArguments) (member serial : ℕ)
+    (port : PortState) (message : Message) (answer : PlainReply) (new : Ipc) (effects : List Effect)
     → nat_lt arguments.limit (message_size message) ≡ false → lacks_names names message ≡ false
     → Received old space names member serial port message answer new effects
     → TakesOut old space names arguments member serial port message answer new effects
@@ -113,7 +113,7 @@ was_received old space names arguments member serial port message answer new eff
     (Received old space names member serial port message answer new effects)) (sym fits) is)
 
 -- a live port and its messages, of which `sent`, as it is seen, is the oldest
-pub record Known (state : State) (serial : ℕ) (sent : Message) : Type 0 where
+pub record Known (state : Ipc) (serial : ℕ) (sent : Message) : Type 0 where
   pub port : PortState
   pub later : List Message
   pub live : finmap.get state.ports serial ≡ Some port
@@ -124,7 +124,7 @@ numbered : (o : Option PortState) (numbers : PortNumbers) → Some numbers ≡ o
 numbered None numbers is = absurd (cc is)
 numbered (Some port) numbers is = (port, refl)
 
-pub known : (state : State) (serial : ℕ) (sent : Message) (numbers : PortNumbers)
+pub known : (state : Ipc) (serial : ℕ) (sent : Message) (numbers : PortNumbers)
     → messages_at state.ports serial
     ≡ seen_message (lives_in state.ports) sent ∷ drop 1 (messages_at state.ports serial)
     → Some numbers ≡ option_map numbers_of (finmap.get state.ports serial) → Known state serial sent
@@ -137,12 +137,12 @@ known state serial sent numbers oldest is =
       first = sym (messages_of_port state serial port.0 port.1) ∙ oldest;
     }
 
-pub oldest_small : (state : State) (serial : ℕ) (sent : Message) → Known state serial sent
+pub oldest_small : (state : Ipc) (serial : ℕ) (sent : Message) → Known state serial sent
     → OfOldest state serial (λ _ message. LawfulMessage message) → message_size sent < 2 ^ 32
 oldest_small state serial sent is lawful =
     omega (arith, (lawful is.port (seen_message (lives_in state.ports) sent) is.later is.live is.first).small)
 
-pub oldest_long : (state : State) (serial : ℕ) (sent : Message) (given : List ℕ) → Known state serial sent
+pub oldest_long : (state : Ipc) (serial : ℕ) (sent : Message) (given : List ℕ) → Known state serial sent
     → OfOldest state serial (λ _ message. LawfulMessage message)
     → OfOldest state serial (λ _ message. length given ≡ length (arriving message))
     → length (received_body sent (body_names sent.reply given)) ≡ length sent.body
@@ -177,8 +177,9 @@ encoding_of_header message member seqno given header first mid last long is none
     ∙ ap (λ (h : Header). message_encoding (header_bits h) h.remote h.local seqno h.id body) is
 
 -- a message that was taken out whole
-pub whole_received : (old : State) (space : ℕ) (names : Names) (member serial : ℕ) (port : PortState)
-    (message : Message) (answer : Reply) (mid new : State) (effects before : List Effect) (rights : List CarriedRight)
+pub whole_received : (old : Ipc) (space : ℕ) (names : Names) (member serial : ℕ) (port : PortState)
+    (message : Message) (answer : PlainReply) (mid new : Ipc) (effects before : List Effect)
+    (rights : List CarriedRight)
     (given encoding : List ℕ) (after : Names) (size : ℕ)
     → rights ≡ arriving message → Arrives names rights given after → size ≡ message_size message
     → encoding ≡ received_encoding message member port.sequence_number given
@@ -193,15 +194,15 @@ whole_received old space names member serial port message answer mid new effects
       subst (λ (l : List CarriedRight). Arrives names l given after) are arrives,
       is ∙ ap (λ (n : ℕ). reply.Message Success n member encoding) size_is
           ∙ ap (reply.Message Success (message_size message) member) encoding_is,
-      taken ∙ ap (λ (s : State). without_oldest s serial) named ∙ names_then_oldest old space serial after,
+      taken ∙ ap (λ (s : Ipc). without_oldest s serial) named ∙ names_then_oldest old space serial after,
       consumed ∙ ap (λ (l : List Effect). l ++ destination_consumed message.destination serial) none,
     )
 
 -- A reply is determined by what it shows.
 
-pub large_reported : (old : State) (space : ℕ) (names : Names) (arguments : ReceiveArguments) (member serial : ℕ)
+pub large_reported : (old : Ipc) (space : ℕ) (names : Names) (arguments : ReceiveArguments) (member serial : ℕ)
     (port : PortState)
-    (message : Message) (answer : Reply) (new : State) (effects : List Effect) (other : Reply) (last : State)
+    (message : Message) (answer : PlainReply) (new : Ipc) (effects : List Effect) (other : PlainReply) (last : Ipc)
     (others : List Effect)
     → nat_lt arguments.limit (message_size message) ≡ true
     → TooLarge old member serial message arguments.large answer new effects
@@ -215,8 +216,8 @@ large_reported old space names arguments member serial port message answer new e
     large_answer old member serial message arguments.large answer new effects is
     ∙ sym (large_answer old member serial message arguments.large other last others too)
 
-small_takes : (old : State) (space : ℕ) (names : Names) (arguments : ReceiveArguments) (member serial : ℕ)
-    (port : PortState) (message : Message) (other : Reply) (last : State) (others : List Effect)
+small_takes : (old : Ipc) (space : ℕ) (names : Names) (arguments : ReceiveArguments) (member serial : ℕ)
+    (port : PortState) (message : Message) (other : PlainReply) (last : Ipc) (others : List Effect)
     → nat_lt arguments.limit (message_size message) ≡ false
     → TakesOut old space names arguments member serial port message other last others
     → MatchBool (lacks_names names message)
@@ -228,8 +229,9 @@ small_takes old space names arguments member serial port message other last othe
     ((other ≡ without_message RcvHeaderErrorSpace 0 0) × (last ≡ old) × (others ≡ []))
     (Received old space names member serial port message other last others))) small may
 
-pub lacking_reported : (old : State) (space : ℕ) (names : Names) (arguments : ReceiveArguments) (member serial : ℕ)
-    (port : PortState) (message : Message) (answer : Reply) (other : Reply) (last : State) (others : List Effect)
+pub lacking_reported : (old : Ipc) (space : ℕ) (names : Names) (arguments : ReceiveArguments) (member serial : ℕ)
+    (port : PortState) (message : Message) (answer : PlainReply) (other : PlainReply) (last : Ipc)
+    (others : List Effect)
     → nat_lt arguments.limit (message_size message) ≡ false → lacks_names names message ≡ true
     → answer ≡ without_message RcvHeaderErrorSpace 0 0
     → TakesOut old space names arguments member serial port message other last others → answer ≡ other
@@ -240,9 +242,9 @@ lacking_reported old space names arguments member serial port message answer oth
     (small_takes old space names arguments member serial port message other last others small may) in
     is ∙ sym too.0
 
-pub whole_reported : (old : State) (space : ℕ) (names : Names) (arguments : ReceiveArguments) (member serial : ℕ)
+pub whole_reported : (old : Ipc) (space : ℕ) (names : Names) (arguments : ReceiveArguments) (member serial : ℕ)
     (port : PortState)
-    (message : Message) (answer : Reply) (wanted : List ℕ) (other : Reply) (last : State) (others : List Effect)
+    (message : Message) (answer : PlainReply) (wanted : List ℕ) (other : PlainReply) (last : Ipc) (others : List Effect)
     → nat_lt arguments.limit (message_size message) ≡ false → lacks_names names message ≡ false → LawfulMessage message
     → LawfulNames names
     → ((after : Names) → Arrives names (arriving message) wanted after
@@ -260,14 +262,14 @@ whole_reported old space names arguments member serial port message answer wante
     let given : List ℕ = whole.0 in
     let many = as_many_names names (arriving message) given whole.1 whole.2 in
     let same : wanted ≡ given =
-    shows ∙ ap (λ (r : Reply). names_shown (encoding_in r)) whole.3
+    shows ∙ ap (λ (r : PlainReply). names_shown (encoding_in r)) whole.3
     ∙ shown_are_given message member port.sequence_number given lawful many
     (arrived_small names (arriving message) given whole.1 (lawful_fit names named) whole.2) in
     alike whole.1 (subst (λ (l : List ℕ). Arrives names (arriving message) l whole.1) (sym same) whole.2)
     ∙ ap (λ (l : List ℕ). reply.Message Success (message_size message) member
     (received_encoding message member port.sequence_number l)) same ∙ sym whole.3
 
-pub names_lawful : (state : State) (space : ℕ) → Lawful state → IsSome (finmap.get state.spaces space)
+pub names_lawful : (state : Ipc) (space : ℕ) → Lawful state → IsSome (finmap.get state.spaces space)
     → LawfulNames (names_in state space)
 names_lawful state space lawful there = by_case (finmap.get state.spaces space) refl there
   where

@@ -2,14 +2,14 @@ ghost use Rattle.std.specs.Prelude.{◌≡◌, ◌+◌, ◌≤◌, ◌<◌, ◌+
 ghost use Rattle.std.specs.FinMap as map;
 ghost use Rattle.codes.specs.declared.limits.TheConstants.{MAX_NAMES};
 ghost use Rattle.ipc_model.specs.calls.PortCalls.{names_in};
-ghost use Rattle.ipc_model.specs.calls.Step.{Acts, ActsIn};
-ghost use Rattle.ipc_model.specs.declared.call.Call.TheVariants as call;
-ghost use Rattle.ipc_model.specs.declared.call.Reply as machine;
+ghost use Rattle.ipc_model.specs.calls.PlainStep.{Acts, ActsIn};
+ghost use Rattle.ipc_model.specs.declared.plain_call.PlainCall.TheVariants as call;
+ghost use Rattle.ipc_model.specs.declared.plain_reply.PlainReply as machine;
 ghost use Rattle.ipc_model.specs.effects.Effects as waiting;
 ghost use Rattle.ipc_model.specs.messages.Receiving.{Received, TakesOut, TooLarge, arriving, destination_consumed, message_size, received_encoding};
 ghost use Rattle.ipc_model.specs.rights.CopyOut.{Arrives, names_needed};
 ghost use Rattle.ipc_model.specs.state.Lawful.{Lawful, LawfulMessage};
-ghost use Rattle.ipc_model.specs.state.State.{Names, State};
+ghost use Rattle.ipc_model.specs.state.Ipc.{Names, Ipc};
 ghost use Rattle.rights.specs.Passed.{messages_at};
 ghost use Rattle.receiving.specs.ShownNames.{names_shown};
 ghost use Rattle.receiving.specs.Shows.{preferred_by, arguments_of, encoding_in};
@@ -21,7 +21,7 @@ use crate::looking::{arriving, lacks_room, size_of};
 use crate::source::{Source, find_source};
 use codes::{KernReturn, MACH_PORT_NULL};
 use effects::{Effect, Effects};
-use ipc_model::{CarriedRight, Reply, RightKind, Sequence};
+use ipc_model::{CarriedRight, PlainReply, RightKind, Sequence};
 use rights::{IpcState, arrive};
 use std::alloc::{AllocError, Global};
 
@@ -53,21 +53,21 @@ pub fn receive(
     preference: Preference,
     names: &[u32],
     effects: &mut Effects,
-) -> Result<Reply, AllocError>
+) -> Result<PlainReply, AllocError>
     requires none { effects.old ≡ [] }
     requires there { IsSome (map.get state.old.current.spaces space) }
     requires lawful { Lawful state.old.current }
     ensures acts { Acts state.old.current space (call.Receive asked.limit asked.large asked.name asked.waited) result
         state.new.current effects.new }
     // If the call may be answered by a reply that shows this, it is.
-    ensures shown { IfOk result (λ reply. (other : machine.Reply) → (last : State) → (others : List waiting.Effect)
+    ensures shown { IfOk result (λ reply. (other : machine.PlainReply) → (last : Ipc) → (others : List waiting.Effect)
         → preference ≡ preferred_by other → names.now ≡ names_shown (encoding_in other)
         → ActsIn state.old.current space (names_in state.old.current space)
         (call.Receive asked.limit asked.large asked.name asked.waited) other last others → reply ≡ other) }
     ensures before { state.new.before ≡ state.old.before }
 {
     match find_source(alloc, state, space, asked, preference)? {
-        Err(code) => Ok(Reply::without_message(alloc, code, 0, MACH_PORT_NULL)),
+        Err(code) => Ok(PlainReply::without_message(alloc, code, 0, MACH_PORT_NULL)),
         Ok(source) => {
             let reply = take_out(alloc, state, space, asked, source, names, effects)?;
             Ok(reply)
@@ -84,7 +84,7 @@ fn take_out(
     source: Source,
     names: &[u32],
     effects: &mut Effects,
-) -> Result<Reply, AllocError>
+) -> Result<PlainReply, AllocError>
     requires none { effects.old ≡ [] }
     requires there { IsSome (map.get state.old.current.spaces space) }
     requires lawful { Lawful state.old.current }
@@ -92,7 +92,7 @@ fn take_out(
         (λ port message. TakesOut state.old.current space (names_in state.old.current space)
         (arguments_of asked) source.member source.port port message reply state.new.current effects.new)) }
     ensures shown { IfOk result (λ reply. OfOldest state.old.current source.port
-        (λ port message. (other : machine.Reply) → (last : State) → (others : List waiting.Effect)
+        (λ port message. (other : machine.PlainReply) → (last : Ipc) → (others : List waiting.Effect)
         → names.now ≡ names_shown (encoding_in other)
         → TakesOut state.old.current space (names_in state.old.current space)
         (arguments_of asked) source.member source.port port message other last others → reply ≡ other)) }
@@ -161,7 +161,7 @@ fn too_large(
     outline: Outline,
     large: bool,
     effects: &mut Effects,
-) -> Result<Reply, AllocError>
+) -> Result<PlainReply, AllocError>
     requires none { effects.old ≡ [] }
     ensures large { IfOk result (λ reply. OfOldest state.old.current source.port
         (λ _ message. outline.size ≡ message_size message → outline.destination ≡ message.destination
@@ -173,7 +173,7 @@ fn too_large(
         state.release_oldest(source.port, effects)?;
         state.take_message(source.port)?;
     }
-    Ok(Reply::without_message(alloc, KernReturn::RcvTooLarge, outline.size, source.member))
+    Ok(PlainReply::without_message(alloc, KernReturn::RcvTooLarge, outline.size, source.member))
 }
 
 /// Consumes the destination right of a message that was taken out: a send right is released, a send-once right
@@ -197,7 +197,7 @@ fn take_whole(
     rights: &[CarriedRight],
     names: &[u32],
     effects: &mut Effects,
-) -> Result<Reply, AllocError>
+) -> Result<PlainReply, AllocError>
     requires none { effects.old ≡ [] }
     requires there { IsSome (map.get state.old.current.spaces space) }
     requires lawful { Lawful state.old.current }
@@ -212,7 +212,7 @@ fn take_whole(
         effects.new)) }
     ensures wanted { IfOk result (λ reply. OfOldest state.old.current source.port
         (λ port message. (last : Names) → Arrives (names_in state.old.current space) (arriving message) names.now last
-        → reply ≡ Reply.Message KernReturn.Success (message_size message) source.member
+        → reply ≡ PlainReply.Message KernReturn.Success (message_size message) source.member
         (received_encoding message source.member port.sequence_number names.now))) }
     ensures before { state.new.before ≡ state.old.before }
 {
@@ -221,7 +221,7 @@ fn take_whole(
     let encoding = oldest_encoding(alloc, state, source, given.as_slice())?;
     consume(outline.destination, source.port, effects)?;
     state.take_message(source.port)?;
-    Ok(Reply::Message {
+    Ok(PlainReply::Message {
         code: KernReturn::Success,
         size: outline.size,
         member: source.member,
@@ -255,8 +255,8 @@ fn oldest_encoding(
 }
 
 /// The answer of `mach_msg` that reports no message.
-fn without_message(alloc: Global, code: KernReturn) -> Reply
-    ensures { result ≡ Reply.Message code 0 MACH_PORT_NULL [] }
+fn without_message(alloc: Global, code: KernReturn) -> PlainReply
+    ensures { result ≡ PlainReply.Message code 0 MACH_PORT_NULL [] }
 {
-    Reply::without_message(alloc, code, 0, MACH_PORT_NULL)
+    PlainReply::without_message(alloc, code, 0, MACH_PORT_NULL)
 }

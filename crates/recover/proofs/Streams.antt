@@ -5,26 +5,26 @@ use Rattle.codes.specs.StoreVersion.{IsNoVersion, version_number}
 use Rattle.codes.specs.declared.store_version.StoreVersion.{StoreVersion}
 use Rattle.ipc_model.specs.declared.record.Record.{Record}
 use Rattle.ipc_model.specs.state.State.{State}
-use Rattle.ipc_model.specs.calls.Step.{Step, Run}
+use Rattle.ipc_model.specs.calls.Step.{Replays, Run}
 use Rattle.ipc_model.specs.store.Recovery.{version_of}
 use Rattle.ipc_model.specs.store.Store.{batches_encoding, all_records, IsClosed, NoneEmpty, AreRecords, AreWithin, EncodesBatches, EncodesSegment, IsWithin, LeavesAnEpoch}
 use Rattle.ipc_model.specs.encodings.Encodings.{records_encoding}
 use Rattle.ipc_laws.specs.Counted.{EncodesCounted}
 use Rattle.ipc_laws.specs.RecoveryLaws.{same_version}
 use Rattle.journal.specs.Reading.{MAX_RECORDS, Place, EncodesFrom, Leads, IsLast, IsNothing}
-use Rattle.recover.specs.Replayed.{Replays, ReplaysAll}
+use Rattle.recover.specs.Replayed.{ReplaysFrom, ReplaysAll}
 
 -- What is left to be replayed from here on, in this state, is what was to be replayed at first.
 pub record IsLeft (version : StoreVersion) (segment : List ℕ) (first place : Place) (old now : State) : Type 0 where
   pub same : (state : State) (count end : ℕ)
-      → Replays version segment place now state count end ↔ Replays version segment first old state count end
+      → ReplaysFrom version segment place now state count end ↔ ReplaysFrom version segment first old state count end
 
 -- the records after the first, from the state after it
 beyond : (version : StoreVersion) (segment : List ℕ) (place next : Place) (entry : Record) (now mid state : State) (records more : List Record)
     (count end : ℕ) → records ≡ entry ∷ more → EncodesFrom segment next more end
-    → ((other : State) → Step now entry.space entry.call entry.reply other → other ≡ mid)
+    → ((other : State) → Replays now entry other → other ≡ mid)
     → next.number ≡ place.number + 1 → AreWithin version records → Run now records state
-    → count ≡ place.number + length records → Replays version segment next mid state count end
+    → count ≡ place.number + length records → ReplaysFrom version segment next mid state count end
 beyond version segment place next entry now mid state records more count end are encoded only numbered within run
     counted =
     let first : Run now (entry ∷ more) state = subst (λ (l : List Record). Run now l state) are run in
@@ -38,8 +38,8 @@ beyond version segment place next entry now mid state records more count end are
 
 pub left_on : (version : StoreVersion) (segment : List ℕ) (first place next : Place) (entry : Record) (old now mid : State)
     → IsLeft version segment first place old now → Leads segment place entry next → next.number ≡ place.number + 1
-    → IsWithin version entry.call → Step now entry.space entry.call entry.reply mid
-    → ((other : State) → Step now entry.space entry.call entry.reply other → other ≡ mid)
+    → IsWithin version entry.call → Replays now entry mid
+    → ((other : State) → Replays now entry other → other ≡ mid)
     → IsLeft version segment first next old mid
 left_on version segment first place next entry old now mid so_far leads numbered within step only = record {
   same = λ state count end. (
@@ -61,9 +61,9 @@ left_on version segment first place next entry old now mid so_far leads numbered
 -- a record that isn't a step, or isn't one of the version
 pub none_left : (version : StoreVersion) (segment : List ℕ) (first place next : Place) (entry : Record) (old now : State)
     → IsLeft version segment first place old now → Leads segment place entry next
-    → (IsWithin version entry.call → (new : State) → Step now entry.space entry.call entry.reply new → ⊥)
+    → (IsWithin version entry.call → (new : State) → Replays now entry new → ⊥)
     → (state : State) (count end : ℕ)
-    → Replays version segment first old state count end → ⊥
+    → ReplaysFrom version segment first old state count end → ⊥
 none_left version segment first place next entry old now so_far leads fails state count end r =
     let here = (so_far.same state count end).1 r in
     let apart = (leads.on here.records end).0 here.encoded in
@@ -72,13 +72,13 @@ none_left version segment first place next entry old now so_far leads fails stat
 
 -- bytes that encode nothing
 pub unread : (version : StoreVersion) (segment : List ℕ) (first place : Place) (old now : State) → IsLeft version segment first place old now
-    → IsNothing segment place → (state : State) (count end : ℕ) → Replays version segment first old state count end → ⊥
+    → IsNothing segment place → (state : State) (count end : ℕ) → ReplaysFrom version segment first old state count end → ⊥
 unread version segment first place old now so_far nothing state count end r =
     let here = (so_far.same state count end).1 r in nothing here.records end here.encoded
 
 -- no record is left
 pub all_replayed : (version : StoreVersion) (segment : List ℕ) (first place : Place) (old now : State) → IsLeft version segment first place old now
-    → IsLast segment place → Replays version segment first old now place.number place.at
+    → IsLast segment place → ReplaysFrom version segment first old now place.number place.at
 all_replayed version segment first place old now so_far last =
     (so_far.same now place.number place.at).0
     (record { records = []; encoded = last; within = tt; run = refl; counted = omega arith })
@@ -147,7 +147,7 @@ first_encodes segment batches records inside encoded =
     }
 
 pub never_replayed : (version : StoreVersion) (segment : List ℕ) (batches : ℕ) (old : State) → batches ≤ length segment
-    → ((state : State) (count end : ℕ) → Replays version segment (first_place batches) old state count end → ⊥)
+    → ((state : State) (count end : ℕ) → ReplaysFrom version segment (first_place batches) old state count end → ⊥)
     → (records : List Record) (state : State) → EncodesBatches (drop batches segment) records → AreWithin version records
     → Run old records state → ⊥
 never_replayed version segment batches old inside none records state encoded within run =
@@ -167,7 +167,7 @@ segment_says epoch segment records encodes = ap version_of encodes.encoding
 
 pub never_read : (version : StoreVersion) (epoch : ℕ) (segment : List ℕ) (old : State) → 16 ≤ length segment
     → version_of segment ≡ version_number version
-    → ((state : State) (count end : ℕ) → Replays version segment (first_place 16) old state count end → ⊥)
+    → ((state : State) (count end : ℕ) → ReplaysFrom version segment (first_place 16) old state count end → ⊥)
     → (records : List Record) (state : State) → EncodesSegment epoch segment records → Run old records state → ⊥
 never_read version epoch segment old inside says none records state encodes run =
     let same : encodes.version ≡ version =
@@ -187,7 +187,7 @@ no_version epoch segment records none encodes =
 -- all that was replayed, from the first batch on
 pub replayed_all : (version : StoreVersion) (epoch : ℕ) (segment : List ℕ) (old new : State) (count end : ℕ)
     → 16 ≤ length segment → version_of segment ≡ version_number version → LeavesAnEpoch version epoch
-    → Replays version segment (first_place 16) old new count end → ReplaysAll epoch segment old new count end
+    → ReplaysFrom version segment (first_place 16) old new count end → ReplaysAll epoch segment old new count end
 replayed_all version epoch segment old new count end inside says next replays =
     let counted = counted_first segment 16 end replays.records inside replays.encoded in
     record {

@@ -1,28 +1,34 @@
 -- Images that are read from their slots.
-use Rattle.std.proofs.Common.{◌≡◌, ℕ, ◌≤◌, ◌<◌, ◌^◌, List, [], ◌∷◌, ◌++◌, length, take, drop, refl, sym, ap, subst, ◌∙◌, arith, append_assoc, length-append, take-append-drop, length-take, length-drop}
-use Rattle.std.specs.Prelude.{◌-◌, All, map, min, slice_index}
-use Rattle.std.specs.FinMap.{entries}
+use Rattle.std.proofs.Common.{true, ◌≡◌, ℕ, ◌≤◌, ◌<◌, ◌^◌, List, [], ◌∷◌, ◌++◌, length, take, drop, refl, sym, ap, subst, ◌∙◌, arith, append_assoc, length-append, take-append-drop, length-take, length-drop}
+use Rattle.std.specs.Prelude.{◌-◌, All, Option, None, Some, is_some, map, min, slice_index}
+use Rattle.std.specs.Cmp.{nat_cmp_total}
+use Rattle.std.specs.Ordering.{nat_cmp}
+use Rattle.std.specs.FinMap.{entries, get, get-empty, nat_cmp-IsAntisymmetric, same_map}
 use Rattle.std.proofs.lemmas.List.Elements.{All-cons, All-head, All-map, All-nil, All-tail}
 use Rattle.std.proofs.lemmas.List.{append-nil, drop-drop, take_at}
 use Rattle.codes.specs.StoreVersion.{version_number}
 use Rattle.codes.specs.declared.store_version.StoreVersion.{StoreVersion}
+use Rattle.codes.specs.declared.store_version.StoreVersion.TheVariants.{One, Two}
 use Rattle.ipc_laws.specs.RecoveryLaws.{same_version}
 use Rattle.ipc_model.specs.declared.port.PortState.{PortState}
 use Rattle.words.specs.WordLaws.{same_long_word}
 use Rattle.words.specs.Words.{long_word}
 use Rattle.ipc_model.specs.state.Circular.{Acyclic}
-use Rattle.ipc_model.specs.state.Lawful.{Lawful, ShortQueues}
+use Rattle.ipc_model.specs.state.Lawful.{ShortQueues}
+use Rattle.ipc_model.specs.state.LawfulState.{LawfulState}
+use Rattle.ipc_model.specs.declared.reply.NumberedReply.{NumberedReply}
+use Rattle.ipc_model.specs.state.Ipc.{Names}
 use Rattle.ipc_model.specs.state.State.{State}
-use Rattle.ipc_model.specs.store.Recovery.{HasLimits, HoldsImage, IsImageIn, IsOfEpoch, version_of}
+use Rattle.ipc_model.specs.store.Recovery.{HasLimits, HoldsImage, IsImageIn, IsOfEpoch, KeepsWhatItMay, version_of}
 use Rattle.ipc_model.specs.store.Store.{image_content_of, open_gate, segment_header_of}
 use Rattle.ipc_model.specs.encodings.Images.{image_encoding_of}
-use Rattle.image.specs.Fitting.{FitsImage}
+use Rattle.image.specs.Fitting.{FitsImage, FitsKept, FitsRow}
 use Rattle.image.specs.LawfulFits.{lawful_snapshots_fit}
-use Rattle.image.specs.RowLaws.{image_of_state}
+use Rattle.image.specs.RowLaws.{image_of_state, kept_row, rows_same}
 use Rattle.image.specs.Rows.{snapshot_encoding_of}
 use Rattle.snapshot.specs.LawfulSnapshot.{IsLawfulSnapshot}
-use Rattle.snapshot.specs.Rows.{all_entries, each_entry, one_state, port_row}
-use Rattle.snapshot.specs.Snapshots.{snapshot_of}
+use Rattle.snapshot.specs.Rows.{all_entries, each_entry, port_row}
+use Rattle.snapshot.specs.Snapshots.{ipc_snapshot_of, snapshot_of}
 use Rattle.snapshot.specs.declared.rows.Snapshot.{Snapshot}
 use Rattle.recover.specs.Loaded.{HasLimit, HoldsEncoding}
 use Rattle.recover.proofs.Fronts.{header_version}
@@ -70,6 +76,7 @@ encoding_is_image version number epoch slot encoding state says is holds image =
       acyclic = image.acyclic;
       short = image.short;
       limits = image.limits;
+      kept = image.kept;
     }
 
 -- a word that is read after a slot's header
@@ -125,8 +132,8 @@ encoding_read slot buffer old rest n size word fits room long made count bytes =
 -- the image of a lawful state, read as rows
 
 pub image_fits : (version : StoreVersion) (encoding : List ℕ) (state : State) → IsImageIn version encoding state
-    → FitsImage (snapshot_of state)
-image_fits version encoding state is = lawful_snapshots_fit state is.lawful is.short
+    → FitsImage version (snapshot_of state)
+image_fits version encoding state is = lawful_snapshots_fit version state is.lawful is.short is.kept
 
 pub image_as_rows : (version : StoreVersion) (encoding : List ℕ) (state : State) → IsImageIn version encoding state
     → encoding ≡ snapshot_encoding_of version (snapshot_of state)
@@ -140,36 +147,63 @@ All-unmap P f (y ∷ ys) all =
 
 -- the limits of a state's queues, as rows have them
 rows_have_limits : (version : StoreVersion) (state : State) → HasLimits version state
-    → All (HasLimit version) (snapshot_of state).ports
-unfolding snapshot_of
+    → All (HasLimit version) (snapshot_of state).ipc.ports
+unfolding snapshot_of ipc_snapshot_of
 rows_have_limits version state limits =
-    All-map (HasLimit version) port_row (entries state.ports)
-    (all_entries (λ (e : ℕ × PortState). HasLimit version (port_row e)) state.ports limits)
+    All-map (HasLimit version) port_row (entries state.ipc.ports)
+    (all_entries (λ (e : ℕ × PortState). HasLimit version (port_row e)) state.ipc.ports limits)
 
-limits_of_rows : (version : StoreVersion) (state : State) → All (HasLimit version) (snapshot_of state).ports
+limits_of_rows : (version : StoreVersion) (state : State) → All (HasLimit version) (snapshot_of state).ipc.ports
     → HasLimits version state
-unfolding snapshot_of
+unfolding snapshot_of ipc_snapshot_of
 limits_of_rows version state rows serial port at =
-    each_entry (λ (e : ℕ × PortState). HasLimit version (port_row e)) state.ports serial port
-    (All-unmap (HasLimit version) port_row (entries state.ports) rows) at
+    each_entry (λ (e : ℕ × PortState). HasLimit version (port_row e)) state.ipc.ports serial port
+    (All-unmap (HasLimit version) port_row (entries state.ipc.ports) rows) at
+
+-- what a version lets spaces keep
+none_kept : (state : State) → LawfulState state → All (FitsRow One) (map (kept_row state.kept) (entries state.ipc.spaces))
+    → (space : ℕ) → get state.kept space ≡ None
+none_kept state lawful rows space = by (get state.kept space) refl
+  where
+    at : (kept : NumberedReply) (there : Option Names) → get state.kept space ≡ Some kept
+        → get state.ipc.spaces space ≡ there → is_some there ≡ true → ⊥
+    at kept None is found there = absurd (cc there)
+    at kept (Some names) is found there =
+        subst (FitsKept One) is
+        (each_entry (λ (e : ℕ × Names). FitsRow One (kept_row state.kept e)) state.ipc.spaces space names
+        (All-unmap (FitsRow One) (kept_row state.kept) (entries state.ipc.spaces) rows) found).1
+
+    by : (kept : Option NumberedReply) → get state.kept space ≡ kept → get state.kept space ≡ None
+    by None is = is
+    by (Some kept) is = absurd (at kept (get state.ipc.spaces space) is refl (lawful.kept space kept is).0)
+
+kept_of_rows : (version : StoreVersion) (state : State) → LawfulState state → FitsImage version (snapshot_of state)
+    → KeepsWhatItMay version state
+unfolding snapshot_of ipc_snapshot_of
+kept_of_rows One state lawful fits =
+    same_map nat_cmp_total nat_cmp-IsAntisymmetric _ _ (λ (space : ℕ).
+    none_kept state lawful (subst (All (FitsRow One)) (rows_same state.kept (entries state.ipc.spaces)) fits.spaces) space
+    ∙ sym (get-empty nat_cmp space))
+kept_of_rows Two state lawful fits = tt
 
 pub rows_within : (version : StoreVersion) (encoding : List ℕ) (snapshot : Snapshot) (state : State)
-    → snapshot ≡ snapshot_of state → IsImageIn version encoding state → All (HasLimit version) snapshot.ports
+    → snapshot ≡ snapshot_of state → IsImageIn version encoding state → All (HasLimit version) snapshot.ipc.ports
 rows_within version encoding snapshot state same is =
-    subst (λ (s : Snapshot). All (HasLimit version) s.ports) (sym same) (rows_have_limits version state is.limits)
+    subst (λ (s : Snapshot). All (HasLimit version) s.ipc.ports) (sym same) (rows_have_limits version state is.limits)
 
 pub rows_are_image : (version : StoreVersion) (encoding : List ℕ) (snapshot : Snapshot) (state : State)
-    → encoding ≡ snapshot_encoding_of version snapshot → snapshot ≡ snapshot_of state → IsLawfulSnapshot snapshot
-    → All (HasLimit version) snapshot.ports → IsImageIn version encoding state
-rows_are_image version encoding snapshot state is same lawful within =
-    let one : lawful.state ≡ state = one_state lawful.state state (sym lawful.same ∙ same) in
+    → encoding ≡ snapshot_encoding_of version snapshot → FitsImage version snapshot → snapshot ≡ snapshot_of state
+    → LawfulState state → Acyclic state.ipc → ShortQueues state.ipc
+    → All (HasLimit version) snapshot.ipc.ports → IsImageIn version encoding state
+rows_are_image version encoding snapshot state is fits same lawful acyclic short within =
     record {
       encoding_is = is ∙ ap (snapshot_encoding_of version) same ∙ image_of_state version state;
-      lawful = subst Lawful one lawful.lawful;
-      acyclic = subst Acyclic one lawful.acyclic;
-      short = subst ShortQueues one lawful.short;
+      lawful = lawful;
+      acyclic = acyclic;
+      short = short;
       limits = limits_of_rows version state
-          (subst (λ (s : Snapshot). All (HasLimit version) s.ports) same within);
+          (subst (λ (s : Snapshot). All (HasLimit version) s.ipc.ports) same within);
+      kept = kept_of_rows version state lawful (subst (FitsImage version) same fits);
     }
 
 pub lawful_rows : (version : StoreVersion) (encoding : List ℕ) (snapshot : Snapshot) (state : State)
@@ -208,6 +242,7 @@ encoding_of_image epoch slot encoding state holds image =
       acyclic = image.acyclic;
       short = image.short;
       limits = image.limits;
+      kept = image.kept;
     }
 
 -- an image's version is the one that its header says

@@ -6,15 +6,15 @@ use Rattle.disk.specs.Moments.{View, MayLeave, Passes, Follows}
 use Rattle.disk.specs.Slots.{Slots, slot_of, with_slot}
 use Rattle.ipc_laws.specs.BatchLaws.{one_segment}
 use Rattle.ipc_laws.specs.Counted.{EncodesCounted}
-use Rattle.ipc_laws.specs.RecoveryLaws.{image_header_is, image_is_open, one_epoch, one_image}
+use Rattle.ipc_laws.specs.RecoveryLaws.{image_header_is, image_is_open, one_epoch, one_image, records_fit}
 use Rattle.ipc_laws.specs.RunLaws.{run_split}
 use Rattle.ipc_laws.specs.StoreLaws.{in_use_encodes}
-use Rattle.ipc_laws.specs.StepsKeep.{FitCalls, one_run}
+use Rattle.ipc_laws.specs.RunsKeep.{one_run}
 use Rattle.ipc_model.specs.calls.Step.{Run}
 use Rattle.ipc_model.specs.declared.record.Record.{Record}
 use Rattle.ipc_model.specs.state.State.{State, opening_state}
 use Rattle.ipc_model.specs.store.Recovery.{Continues, HoldsImage, IsNew, IsOfEpoch, IsOpen, IsStored, Recovered, image_header, segment_header_length, version_of}
-use Rattle.ipc_model.specs.store.Store.{AreRecords, EncodesSegment, IsInUseOf, open_gate, closed_gate, segment_header_of}
+use Rattle.ipc_model.specs.store.Store.{EncodesSegment, IsInUseOf, open_gate, closed_gate, segment_header_of}
 use Rattle.slot_steps.specs.Steps.{IsRemade, image_slot, segment_slot}
 use Rattle.disk.proofs.Moments.{passes_as, passes_then, own_bytes}
 use Rattle.store_layout.specs.Changes.{one_segment_changed, two_finished}
@@ -217,10 +217,6 @@ next_encodes s e next used (inr (inr encoded)) = encoded.1
 
 one_base : (e : ℕ) (slot : List ℕ) (one other : State) → HoldsImage e slot one → HoldsImage e slot other → one ≡ other
 one_base = one_image
-
-records_fit : (records : List Record) → AreRecords records → FitCalls records
-records_fit [] are = tt
-records_fit (first ∷ records) are = (are.0.call.fits, records_fit records are.1)
 
 -- an epoch's image and segment lead to only one state
 pub one_read : (s : Slots) (e n : ℕ) (state other : State) (count end : ℕ) → IsOfEpoch n e (slot_of s (segment_slot e))

@@ -14,7 +14,8 @@ use Rattle.store_layout.specs.Standing.{InOne}
 use Rattle.recover.specs.AtRest.{IsAtRest}
 
 -- All of the disk is synced. It holds the image of the epoch in use and that epoch's segment, of this version, with
--- this many records and one closed gate after them, and the state is the one after them. The other slots are passed over.
+-- this many records and one closed gate after them, and the state is the one after them. The other slots are passed
+-- over.
 pub record IsKeptIn (version : StoreVersion) (disk : View) (segment : Segment) (state : State) : Type 0 where
   pub at_rest : IsAtRest disk
   pub base : State

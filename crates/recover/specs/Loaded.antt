@@ -1,6 +1,8 @@
 -- An image in its slot, after the header's epoch, and what it may hold.
 use Rattle.std.specs.Prelude.{◌≡◌, ℕ, ◌^◌, ◌<◌, List, ◌++◌, length, drop}
 use Rattle.codes.specs.declared.store_version.StoreVersion.{StoreVersion}
+use Rattle.ipc_model.specs.state.State.{State}
+use Rattle.ipc_model.specs.store.Recovery.{HoldsImage, IsOfEpoch}
 use Rattle.ipc_model.specs.store.Store.{IsLimitOf}
 use Rattle.snapshot.specs.declared.rows.LivePort.{LivePort}
 use Rattle.words.specs.Words.{long_word}
@@ -14,3 +16,11 @@ pub record HoldsEncoding (slot encoding : List ℕ) : Type 0 where
 -- a port's queue has a limit of a version
 abbrev pub HasLimit : StoreVersion → LivePort → Type 0
 HasLimit version port = IsLimitOf version port.state.limit
+
+-- the slot, if it is of an epoch, holds this state's image
+abbrev pub HoldsImageOf : List ℕ → State → Type 0
+HoldsImageOf slot state = (number epoch : ℕ) → IsOfEpoch number epoch slot → HoldsImage epoch slot state
+
+-- the slot holds no image
+abbrev pub HoldsNoImage : List ℕ → Type 0
+HoldsNoImage slot = (epoch : ℕ) (state : State) → HoldsImage epoch slot state → ⊥

@@ -7,12 +7,12 @@ use Rattle.ipc_model.specs.calls.Step.{Run}
 use Rattle.ipc_model.specs.declared.record.Record.{Record}
 use Rattle.ipc_model.specs.state.State.{State}
 use Rattle.ipc_model.specs.store.Recovery.{version_of}
-use Rattle.ipc_model.specs.store.Store.{AreWithin, LeavesAnEpoch}
+use Rattle.ipc_model.specs.store.Store.{AreWithin, EncodesSegment, LeavesAnEpoch}
 use Rattle.journal.specs.Reading.{Place, EncodesFrom}
 
 -- The records that a segment of a version encodes from this place on lead from one state to another. By then `count`
 -- records are read, and the last batch ends at `end`.
-pub record Replays (version : StoreVersion) (segment : List ℕ) (place : Place) (old new : State)
+pub record ReplaysFrom (version : StoreVersion) (segment : List ℕ) (place : Place) (old new : State)
     (count end : ℕ) : Type 0 where
   pub records : List Record
   pub encoded : EncodesFrom segment place records end
@@ -33,3 +33,8 @@ pub record ReplaysAll (epoch : ℕ) (segment : List ℕ) (old new : State) (coun
   pub counted : count ≡ length records
   pub beyond : 16 ≤ end
   pub inside : end ≤ length segment
+
+-- no records that an epoch's segment encodes lead on from this state
+abbrev pub ReplaysNone : ℕ → List ℕ → State → Type 0
+ReplaysNone epoch segment state =
+    (records : List Record) (new : State) → EncodesSegment epoch segment records → Run state records new → ⊥

@@ -4,9 +4,9 @@ ghost use Rattle.disk.specs.Moments.{CountsFailure, MayLeave, Passes, ReadsOnly}
 ghost use Rattle.disk.specs.Slots.{slot_of};
 ghost use Rattle.ipc_model.specs.state.State.{State};
 ghost use Rattle.codes.specs.StoreVersion.{version_number};
-ghost use Rattle.ipc_model.specs.store.Recovery.{HoldsImage, IsImageIn, IsOfEpoch, IsOpen, version_of};
+ghost use Rattle.ipc_model.specs.store.Recovery.{IsImageIn, IsOpen, version_of};
 ghost use Rattle.words.specs.Words.{long_word};
-ghost use Rattle.recover.specs.Loaded.{HasLimit, HoldsEncoding};
+ghost use Rattle.recover.specs.Loaded.{HasLimit, HoldsEncoding, HoldsImageOf, HoldsNoImage};
 ghost use Rattle.recover.specs.Outcomes.{CountsDevice, OnlyReadingFaults};
 
 use crate::headers::read_version;
@@ -83,12 +83,15 @@ fn state_of(alloc: Global, version: StoreVersion, encoding: &[u8]) -> Result<Ker
         Err(ImageFault::NotCanonical) => return Err(StoreFault::Damaged),
         Err(ImageFault::NoMemory) => return Err(StoreFault::NoMemory),
     };
-    if !have_limits(version, snapshot.ports.as_slice()) {
+    if !have_limits(version, snapshot.ipc.ports.as_slice()) {
         drop(snapshot);
         return Err(StoreFault::Damaged);
     }
     match Kernel::from_snapshot(alloc, snapshot) {
-        Ok(kernel) => Ok(kernel),
+        Ok(kernel) => {
+            kernel.show_image();
+            Ok(kernel)
+        }
         Err(SnapshotFault::NotLawful) => Err(StoreFault::Damaged),
         Err(SnapshotFault::NoMemory) => Err(StoreFault::NoMemory),
     }
@@ -105,11 +108,9 @@ fn load_image_in<D: Disk>(
 ) -> Result<Kernel, StoreFault>
     requires open { D.honest → IsOpen 24 (slot_of (D.view disk.old).seen slot) }
     requires says { D.honest → version_of (slot_of (D.view disk.old).seen slot) ≡ version_number version }
-    ensures image { D.honest → IfOk result
-        (λ kernel. (number epoch : ℕ) → IsOfEpoch number epoch (slot_of (D.view disk.old).seen slot)
-        → HoldsImage epoch (slot_of (D.view disk.old).seen slot) kernel) }
-    ensures damaged { D.honest → IsErrOf result StoreFault.Damaged → (epoch : ℕ) (state : State)
-        → HoldsImage epoch (slot_of (D.view disk.old).seen slot) state → ⊥ }
+    ensures image { D.honest → IfOk result (HoldsImageOf (slot_of (D.view disk.old).seen slot)) }
+    ensures damaged { D.honest → IsErrOf result StoreFault.Damaged
+        → HoldsNoImage (slot_of (D.view disk.old).seen slot) }
     ensures reads_only { D.honest → ReadsOnly (D.view disk.old) (D.view disk.new) }
     ensures failures { CountsDevice (D.failed_calls disk.old) (D.failed_calls disk.new) result }
     ensures faults { OnlyReadingFaults result }
@@ -128,11 +129,9 @@ pub(crate) fn load_image<D: Disk>(
     slot: Slot,
 ) -> Result<Kernel, StoreFault>
     requires { D.honest → IsOpen 24 (slot_of (D.view disk.old).seen slot) }
-    ensures image { D.honest → IfOk result
-        (λ kernel. (number epoch : ℕ) → IsOfEpoch number epoch (slot_of (D.view disk.old).seen slot)
-        → HoldsImage epoch (slot_of (D.view disk.old).seen slot) kernel) }
-    ensures damaged { D.honest → IsErrOf result StoreFault.Damaged → (epoch : ℕ) (state : State)
-        → HoldsImage epoch (slot_of (D.view disk.old).seen slot) state → ⊥ }
+    ensures image { D.honest → IfOk result (HoldsImageOf (slot_of (D.view disk.old).seen slot)) }
+    ensures damaged { D.honest → IsErrOf result StoreFault.Damaged
+        → HoldsNoImage (slot_of (D.view disk.old).seen slot) }
     ensures reads_only { D.honest → ReadsOnly (D.view disk.old) (D.view disk.new) }
     ensures failures { CountsDevice (D.failed_calls disk.old) (D.failed_calls disk.new) result }
     ensures faults { OnlyReadingFaults result }

@@ -1,16 +1,15 @@
-ghost use Rattle.std.specs.Prelude.{◌≡◌, ◌⊎◌, ◌↔◌, ◌≤◌, ℕ, List, IsTrue, IfOk, OnErr, IsErrOf, length};
+ghost use Rattle.std.specs.Prelude.{◌≡◌, ◌⊎◌, ◌↔◌, ◌≤◌, ℕ, IsTrue, IfOk, OnErr, IsErrOf, length};
 ghost use Rattle.codes.specs.StoreVersion.{version_number};
 ghost use Rattle.codes.specs.declared.store_version.StoreVersion.{StoreVersion};
 ghost use Rattle.disk.specs.Slots.{slot_of};
 ghost use Rattle.disk.specs.Moments.{ReadsOnly};
-ghost use Rattle.ipc_model.specs.calls.Step.{Run, Step};
-ghost use Rattle.ipc_model.specs.declared.record.Record.{Record};
+ghost use Rattle.ipc_model.specs.calls.Step.{Replays};
 ghost use Rattle.ipc_model.specs.state.State.{State};
 ghost use Rattle.ipc_model.specs.store.Recovery.{version_of};
-ghost use Rattle.ipc_model.specs.store.Store.{EncodesSegment, IsLimitOf, IsWithin, LeavesAnEpoch};
+ghost use Rattle.ipc_model.specs.store.Store.{IsLimitOf, IsWithin, LeavesAnEpoch};
 ghost use Rattle.journal.specs.Readers.{place_of};
 ghost use Rattle.journal.specs.Windows.{IsOver};
-ghost use Rattle.recover.specs.Replayed.{Replays, ReplaysAll};
+ghost use Rattle.recover.specs.Replayed.{ReplaysAll, ReplaysFrom, ReplaysNone};
 ghost use Rattle.recover.specs.Outcomes.{CountsDevice, OnlyReadingFaults};
 ghost use Rattle.slot_steps.specs.Steps.{segment_slot as slot_of_segment};
 
@@ -18,7 +17,7 @@ use crate::headers::read_version;
 use crate::value_after::both;
 use codes::StoreVersion;
 use disk::{Disk, Slot};
-use ipc_model::{Call, Record};
+use ipc_model::{Call, PlainCall, Record};
 use journal::{PIECE, RecordReader};
 use kernel::{Kernel, ReplayFault};
 use slot_steps::{SEGMENT_HEADER, segment_slot};
@@ -40,21 +39,22 @@ fn is_within(version: StoreVersion, call: &Call) -> bool
     ensures { IsTrue result ↔ IsWithin version call.now }
 {
     match call {
-        Call::SetQlimit { limit, .. } => is_limit(version, *limit),
+        Call::Plain(PlainCall::SetQlimit { limit, .. }) => is_limit(version, *limit),
+        Call::Numbered(_) => version != StoreVersion::One,
         _ => true,
     }
 }
 
 /// The state after a record of a segment of a version.
 ///
-/// `Damaged`: the record is no step of the machine, or sets a limit that the version hasn't. `NoMemory`: out of memory.
+/// `Damaged`: the record is no step of the machine, or sets a limit or numbers a call where the version has none such.
+/// `NoMemory`: out of memory.
 fn replay_one(version: StoreVersion, kernel: Kernel, entry: Record) -> Result<Kernel, StoreFault>
-    ensures step { IfOk result (λ state. Step kernel entry.space entry.call entry.reply state) }
-    ensures only { IfOk result (λ state. (other : State) → Step kernel entry.space entry.call entry.reply other
-        → other ≡ state) }
+    ensures step { IfOk result (λ state. Replays kernel entry state) }
+    ensures only { IfOk result (λ state. (other : State) → Replays kernel entry other → other ≡ state) }
     ensures within { IfOk result (λ state. IsWithin version entry.call) }
     ensures damaged { IsErrOf result StoreFault.Damaged → IsWithin version entry.call → (state : State)
-        → Step kernel entry.space entry.call entry.reply state → ⊥ }
+        → Replays kernel entry state → ⊥ }
     ensures faults { OnErr result ((result ≡ Err StoreFault.Damaged) ⊎ (result ≡ Err StoreFault.NoMemory)) }
 {
     if !is_within(version, &entry.call) {
@@ -82,10 +82,10 @@ fn replay_all<D: Disk>(
 ) -> Result<Kernel, StoreFault>
     requires slot { reader.old.window.slot ≡ slot }
     requires over { D.honest → IsOver (slot_of (D.view disk.old).seen slot) reader.old.window }
-    ensures state { D.honest → IfOk result (λ state. Replays version (slot_of (D.view disk.old).seen slot)
+    ensures state { D.honest → IfOk result (λ state. ReplaysFrom version (slot_of (D.view disk.old).seen slot)
         (place_of reader.old) kernel state reader.new.number reader.new.window.at) }
     ensures damaged { D.honest → IsErrOf result StoreFault.Damaged → (state : State) → (count end : ℕ)
-        → Replays version (slot_of (D.view disk.old).seen slot) (place_of reader.old) kernel state count end → ⊥ }
+        → ReplaysFrom version (slot_of (D.view disk.old).seen slot) (place_of reader.old) kernel state count end → ⊥ }
     ensures reads_only { D.honest → ReadsOnly (D.view disk.old) (D.view disk.new) }
     ensures failures { CountsDevice (D.failed_calls disk.old) (D.failed_calls disk.new) result }
     ensures faults { OnlyReadingFaults result }
@@ -123,8 +123,8 @@ fn segment_version<D: Disk>(disk: &mut D, epoch: u64) -> Result<StoreVersion, St
     Ok(version)
 }
 
-/// The state after the records of an epoch's segment, which is of a version, how many they are, and where the last batch
-/// ends.
+/// The state after the records of an epoch's segment, which is of a version, how many they are, and where the last
+/// batch ends.
 fn replay_segment_in<D: Disk>(
     alloc: Global,
     kernel: Kernel,
@@ -138,9 +138,8 @@ fn replay_segment_in<D: Disk>(
     requires next { LeavesAnEpoch version epoch }
     ensures state { D.honest → IfOk result
         (λ r. ReplaysAll epoch (slot_of (D.view disk.old).seen (slot_of_segment epoch)) kernel r.0 r.1 r.2) }
-    ensures damaged { D.honest → IsErrOf result StoreFault.Damaged → (records : List Record) → (state : State)
-        → EncodesSegment epoch (slot_of (D.view disk.old).seen (slot_of_segment epoch)) records
-        → Run kernel records state → ⊥ }
+    ensures damaged { D.honest → IsErrOf result StoreFault.Damaged
+        → ReplaysNone epoch (slot_of (D.view disk.old).seen (slot_of_segment epoch)) kernel }
     ensures reads_only { D.honest → ReadsOnly (D.view disk.old) (D.view disk.new) }
     ensures failures { CountsDevice (D.failed_calls disk.old) (D.failed_calls disk.new) result }
     ensures faults { OnlyReadingFaults result }
@@ -166,9 +165,8 @@ pub(crate) fn replay_segment<D: Disk>(
     ensures says { D.honest → IfOk result
         (λ r. version_of (slot_of (D.view disk.old).seen (slot_of_segment epoch)) ≡ version_number r.3) }
     ensures next { IfOk result (λ r. LeavesAnEpoch r.3 epoch) }
-    ensures damaged { D.honest → IsErrOf result StoreFault.Damaged → (records : List Record) → (state : State)
-        → EncodesSegment epoch (slot_of (D.view disk.old).seen (slot_of_segment epoch)) records
-        → Run kernel records state → ⊥ }
+    ensures damaged { D.honest → IsErrOf result StoreFault.Damaged
+        → ReplaysNone epoch (slot_of (D.view disk.old).seen (slot_of_segment epoch)) kernel }
     ensures reads_only { D.honest → ReadsOnly (D.view disk.old) (D.view disk.new) }
     ensures failures { CountsDevice (D.failed_calls disk.old) (D.failed_calls disk.new) result }
     ensures faults { OnlyReadingFaults result }

@@ -8,7 +8,7 @@ use Rattle.ipc_model.specs.declared.message.PortInMessage.TheVariants as in_mess
 use Rattle.ipc_model.specs.declared.message.RightKind.{RightKind}
 use Rattle.ipc_model.specs.rights.CopyOut.{names_after}
 use Rattle.ipc_laws.specs.MapSums.{insert-same}
-use Rattle.ipc_model.specs.state.State.{State, Names, with_names}
+use Rattle.ipc_model.specs.state.Ipc.{Ipc, Names, with_names}
 
 no_names_after : (names : Names) (kind : RightKind) (port : PortInMessage) (name : ℕ)
     → ((serial : ℕ) → port ≡ in_message.Live serial → ⊥) → names_after names kind port name ≡ names
@@ -16,7 +16,7 @@ no_names_after names kind in_message.Null name none = refl
 no_names_after names kind in_message.Dead name none = refl
 no_names_after names kind (in_message.Live serial) name none = absurd (none serial refl)
 
-pub unmoved : (state : State) (space : ℕ) (names : Names) (kind : RightKind) (port : PortInMessage) (name : ℕ)
+pub unmoved : (state : Ipc) (space : ℕ) (names : Names) (kind : RightKind) (port : PortInMessage) (name : ℕ)
     → ((serial : ℕ) → port ≡ in_message.Live serial → ⊥)
     → finmap.get state.spaces space ≡ Some names → state ≡ with_names state space (names_after names kind port name)
 unmoved state space names kind port name none there =

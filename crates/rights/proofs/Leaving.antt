@@ -5,7 +5,7 @@ use Rattle.ipc_model.specs.declared.entry.Entry.{Entry}
 use Rattle.ipc_model.specs.declared.port.PortState.{PortState}
 use Rattle.ipc_model.specs.effects.Effects.{Effect, port_deleted}
 use Rattle.ipc_model.specs.rights.CopyIn.{moved_port, notices_of_left}
-use Rattle.ipc_model.specs.state.State.{State, is_empty_entry, request_of, with_port}
+use Rattle.ipc_model.specs.state.Ipc.{Ipc, is_empty_entry, request_of, with_port}
 use Rattle.ipc_state.specs.Passed.{PortNumbers, numbers_of, with_numbers}
 use Rattle.ipc_state.specs.Running.{Running}
 
@@ -21,14 +21,14 @@ left_notified (Ok v) name entry request old new empty is notified =
 abbrev reset : PortNumbers → PortNumbers
 reset numbers = record numbers { set = None; sequence_number = 0; make_send_count = 0 }
 
-moved_is : (state : State) (serial : ℕ) (numbers : PortNumbers)
+moved_is : (state : Ipc) (serial : ℕ) (numbers : PortNumbers)
     → Some numbers ≡ option_map numbers_of (get state.ports serial)
     → with_port state serial (with_numbers (reset numbers)) ≡ moved_port state serial
 moved_is state serial numbers there = by_case (get state.ports serial) refl there
   where
-    changed_in : (PortState → PortState) → Option PortState → State
+    changed_in : (PortState → PortState) → Option PortState → Ipc
     changed_in change o =
-        elim o as (λ _. State) [
+        elim o as (λ _. Ipc) [
           | None ↦ state
           | Some port ↦
               record state { ports = insert state.ports serial (change port) }

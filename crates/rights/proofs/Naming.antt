@@ -10,7 +10,7 @@ use Rattle.ipc_model.specs.declared.message.PortInMessage.TheVariants as in_mess
 use Rattle.ipc_model.specs.declared.message.RightKind.{RightKind}
 use Rattle.ipc_model.specs.declared.message.RightKind.TheVariants as kind
 use Rattle.ipc_model.specs.rights.CopyOut.{named_with, names_needed, wants_name}
-use Rattle.ipc_model.specs.state.State.{Names}
+use Rattle.ipc_model.specs.state.Ipc.{Names}
 use Rattle.rights.specs.Wanting.{named_after, names_port}
 
 after_more : (named : List ℕ) (xs ys : List CarriedRight)

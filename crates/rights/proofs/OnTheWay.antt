@@ -9,7 +9,7 @@ use Rattle.ipc_model.specs.calls.PortCalls.{names_in}
 use Rattle.ipc_model.specs.declared.message.CarriedRight.{CarriedRight}
 use Rattle.ipc_model.specs.declared.message.PortInMessage.TheVariants as in_message
 use Rattle.ipc_model.specs.rights.CopyOut.{Arrives, MayArrive, names_after, names_needed}
-use Rattle.ipc_model.specs.state.State.{State, Names, with_names}
+use Rattle.ipc_model.specs.state.Ipc.{Ipc, Names, with_names}
 use Rattle.ipc_laws.specs.ListLaws.{same_head, same_tail}
 use Rattle.ipc_laws.specs.MapLaws.{get-here}
 use Rattle.ipc_laws.specs.MapSums.{insert-insert, insert-same}
@@ -110,7 +110,7 @@ abbrev or_none : Option Names → Names
 or_none None = finmap.empty
 or_none (Some names) = names
 
-pub there_is : (state : State) (space : ℕ) → is_some (finmap.get state.spaces space) ≡ true
+pub there_is : (state : Ipc) (space : ℕ) → is_some (finmap.get state.spaces space) ≡ true
     → finmap.get state.spaces space ≡ Some (names_in state space)
 there_is state space there = by_case (finmap.get state.spaces space) refl there
   where
@@ -120,7 +120,7 @@ there_is state space there = by_case (finmap.get state.spaces space) refl there
     by_case (Some names) is some = is ∙ ap (λ k. Some k) (sym (ap or_none is))
 
 -- MACH_PORT_NULL and MACH_PORT_DEAD change nothing
-pub unchanged : (state : State) (space : ℕ) (right : CarriedRight) (name : ℕ)
+pub unchanged : (state : Ipc) (space : ℕ) (right : CarriedRight) (name : ℕ)
     → is_some (finmap.get state.spaces space) ≡ true
     → names_after (names_in state space) right.kind right.port name ≡ names_in state space
     → state ≡ with_names state space (names_after (names_in state space) right.kind right.port name)
@@ -130,30 +130,30 @@ unchanged state space right name there same =
     (λ (n : Names). finmap.insert state.spaces space n) (sym same))
 
 -- the names of a space that got these rights
-pub names_got : (state new : State) (space : ℕ) (names : Names) → new ≡ with_names state space names
+pub names_got : (state new : Ipc) (space : ℕ) (names : Names) → new ≡ with_names state space names
     → names_in new space ≡ names
 names_got state new space names is =
-    ap (λ (s : State). names_in s space) is ∙ ap or_none (get-here state.spaces space names)
+    ap (λ (s : Ipc). names_in s space) is ∙ ap or_none (get-here state.spaces space names)
 
-pub there_too : (state new : State) (space : ℕ) (names : Names) → new ≡ with_names state space names
+pub there_too : (state new : Ipc) (space : ℕ) (names : Names) → new ≡ with_names state space names
     → is_some (finmap.get new.spaces space) ≡ true
 there_too state new space names is =
-    ap (λ (s : State). is_some (finmap.get s.spaces space)) is ∙ ap is_some (get-here state.spaces space names)
+    ap (λ (s : Ipc). is_some (finmap.get s.spaces space)) is ∙ ap is_some (get-here state.spaces space names)
 
 -- at first no name has changed
-pub got_first : (state : State) (space : ℕ) → is_some (finmap.get state.spaces space) ≡ true
+pub got_first : (state : Ipc) (space : ℕ) → is_some (finmap.get state.spaces space) ≡ true
     → state ≡ with_names state space (names_in state space)
 got_first state space there =
     ap (λ (spaces : FinMap nat_cmp Names). record state { spaces = spaces })
     (sym (insert-same state.spaces space (names_in state space) (there_is state space there)))
 
 -- names that changed twice
-pub got_later : (state now after : State) (space : ℕ) (names : Names)
+pub got_later : (state now after : Ipc) (space : ℕ) (names : Names)
     → now ≡ with_names state space (names_in now space) → after ≡ with_names now space names
     → after ≡ with_names state space (names_in after space)
 got_later state now after space names before is =
     is
-    ∙ ap (λ (s : State). with_names s space names) before
+    ∙ ap (λ (s : Ipc). with_names s space names) before
     ∙ ap (λ (spaces : FinMap nat_cmp Names). record state { spaces = spaces })
     (insert-insert state.spaces space (names_in now space) names)
     ∙ ap (with_names state space) (sym (names_got now after space names is))

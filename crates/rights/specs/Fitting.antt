@@ -15,7 +15,7 @@ use Rattle.ipc_model.specs.declared.message.PortInMessage.TheVariants as in_mess
 use Rattle.ipc_model.specs.declared.message.RightKind.{RightKind}
 use Rattle.ipc_model.specs.declared.message.RightKind.TheVariants as kind
 use Rattle.ipc_model.specs.rights.CopyOut.{MayArrive, names_after, merged_entry, merged_rights, new_entry, names_needed, named_with, wants_name}
-use Rattle.ipc_model.specs.state.State.{Names, IsUnused, name_of_port, port_held}
+use Rattle.ipc_model.specs.state.Ipc.{Names, IsUnused, name_of_port, port_held}
 use Rattle.ipc_laws.specs.Arrivals.{HasName, named_there, not_unnamed, same_live}
 use Rattle.ipc_laws.specs.ListLaws.{some_same}
 use Rattle.ipc_laws.specs.MapLaws.{get-here, get-there}

@@ -10,7 +10,7 @@ use Rattle.ipc_model.specs.declared.message.RightKind.{RightKind}
 use Rattle.ipc_model.specs.declared.message.RightKind.TheVariants as kind
 use Rattle.ipc_laws.specs.Arrivals.{named_there}
 use Rattle.ipc_model.specs.rights.CopyOut.{MayArrive, MayBeNamed, names_needed, wants_name}
-use Rattle.ipc_model.specs.state.State.{Names, IsUnused, name_of_port}
+use Rattle.ipc_model.specs.state.Ipc.{Names, IsUnused, name_of_port}
 
 -- how many names one right needs
 abbrev count_of : Bool → ℕ

@@ -5,7 +5,7 @@ ghost use Rattle.codes.specs.declared.limits.TheConstants.{MAX_NAMES};
 ghost use Rattle.ipc_model.specs.calls.PortCalls.{names_in};
 ghost use Rattle.ipc_model.specs.declared.message.PortInMessage.TheVariants as in_message;
 ghost use Rattle.ipc_model.specs.rights.CopyOut.{Arrives, MayArrive, names_after, names_needed};
-ghost use Rattle.ipc_model.specs.state.State.{Names, with_names};
+ghost use Rattle.ipc_model.specs.state.Ipc.{Names, with_names};
 
 use crate::copy_out::{arrival_name, may_arrive, put_right};
 use ipc_model::{CarriedRight, PortInMessage};

@@ -1,6 +1,6 @@
 ghost use Rattle.std.specs.Prelude.{◌≡◌, Some, true, false, IfOk, OnOk, IfSome, IfNone, IsSome};
 ghost use Rattle.ipc_model.specs.rights.CopyIn.{copy_in, taken_of_port, taken_of_send_once, taken_of_dead, moved_port};
-ghost use Rattle.ipc_model.specs.state.State.{entry_at, with_port, next_count};
+ghost use Rattle.ipc_model.specs.state.Ipc.{entry_at, with_port, next_count};
 ghost use Rattle.ipc_state.specs.Passed.{AreFewReferences};
 ghost use Rattle.rights.specs.Taking.{Takes};
 

@@ -2,7 +2,7 @@ ghost use Rattle.std.specs.Prelude.{◌≡◌, ◌<◌, ◌↔◌, ◌≤◌, No
 ghost use Rattle.std.specs.FinMap as map;
 ghost use Rattle.ipc_model.specs.rights.CopyOut.{MayArrive, MayBeNamed, merged_entry, merged_rights, names_after, new_entry};
 ghost use Rattle.ipc_model.specs.calls.PortCalls.{names_in};
-ghost use Rattle.ipc_model.specs.state.State.{Names, entry_at, with_names};
+ghost use Rattle.ipc_model.specs.state.Ipc.{Names, entry_at, with_names};
 ghost use Rattle.ipc_state.specs.Passed.{AreFewReferences};
 
 use codes::{MACH_PORT_DEAD, MACH_PORT_NULL, MAX_NAMES, MAX_SEND_REFERENCES};

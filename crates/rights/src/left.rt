@@ -1,6 +1,6 @@
 ghost use Rattle.std.specs.Prelude.{◌≡◌, ◌++◌, OnOk, OnErr, IsSome};
 ghost use Rattle.ipc_model.specs.rights.CopyIn.{with_left, notices_of_left};
-ghost use Rattle.ipc_model.specs.state.State.{entry_at, is_empty_entry};
+ghost use Rattle.ipc_model.specs.state.Ipc.{entry_at, is_empty_entry};
 ghost use Rattle.ipc_state.specs.Passed.{AreFewReferences};
 
 use effects::Effects;

@@ -1,22 +1,24 @@
 -- Calls are read back as they are printed.
-use Rattle.std.proofs.Common.{◌≡◌, ℕ, ◌^◌, ◌<◌, Bool, List, ◌∷◌, ◌++◌, refl, ap, ◌∙◌, Some, Ok, append_assoc}
+use Rattle.std.proofs.Common.{◌≡◌, ℕ, None, ◌^◌, ◌<◌, Bool, List, ◌∷◌, ◌++◌, refl, ap, ◌∙◌, Some, Ok, append_assoc}
 use Rattle.std.specs.Prelude.{codes, find}
 use Rattle.std.specs.Str.{bytes_eq}
 use Rattle.ipc_model.specs.declared.call.Call.{Call}
-use Rattle.ipc_model.specs.declared.call.Call.TheVariants as call
+use Rattle.ipc_model.specs.declared.call.Call.TheVariants.{Plain, Numbered, Unnumberable}
+use Rattle.ipc_model.specs.declared.plain_call.PlainCall.{PlainCall}
+use Rattle.ipc_model.specs.declared.plain_call.PlainCall.TheVariants as call
 use Rattle.script_words.specs.declared.kind.Kind.{Kind}
 use Rattle.script_words.specs.declared.kind.Kind.TheVariants.{Hexadecimal, Decimal, Signed, Right, Disposition, Notification, Absent}
 use Rattle.script_words.specs.declared.verb.Verb.{Verb}
 use Rattle.script_words.specs.declared.verb.Verb.TheVariants as verb
 use Rattle.script_words.specs.Kinds.{value_word}
 use Rattle.script_words.specs.Verbs.{verb_word, all_verbs}
-use Rattle.script_printing.specs.Calls.{verb_of, argument_words, call_words}
+use Rattle.script_printing.specs.Calls.{verb_of, argument_words, call_words, plain_call_words}
 use Rattle.script_printing.specs.Messages.{flag_words}
 use Rattle.script.specs.declared.plain.Arguments.{Arguments}
-use Rattle.script.specs.Calls.{HasLine, receive_at, send_at, after_at, call_at}
+use Rattle.script.specs.Calls.{HasLine, HasPlainLine, after_at, call_at, numbered_at, own_call_at, plain_call_at, receive_at, send_at}
 use Rattle.script.specs.Messages.{message_at}
 use Rattle.script.specs.Plain.{three_kinds, kinds_of, plain_call, arguments_at, plain_at}
-use Rattle.script.specs.Reading.{number_at, value_at, labelled_at, flag_at}
+use Rattle.script.specs.Reading.{number_at, value_at, label_at, labelled_at, flag_at}
 use Rattle.script.proofs.MessagesAgain.{message_again}
 use Rattle.script.proofs.ReadingAgain.{value_again, labelled_again, flag_again, past_flag, NoLabel}
 
@@ -28,7 +30,7 @@ absent : (ws : List (List ℕ)) → value_at Absent ws ≡ Ok (0, ws)
 unfolding value_at number_at
 absent ws = refl
 
-plain_parts : (v : Verb) (c : Call) (w0 w1 w2 w3 w4 w5 : List (List ℕ)) (a : Arguments)
+plain_parts : (v : Verb) (c : PlainCall) (w0 w1 w2 w3 w4 w5 : List (List ℕ)) (a : Arguments)
     → value_at (kinds_of v).first w0 ≡ Ok (a.first, w1) → value_at (kinds_of v).second w1 ≡ Ok (a.second, w2)
     → value_at (kinds_of v).third w2 ≡ Ok (a.third, w3) → value_at (kinds_of v).fourth w3 ≡ Ok (a.fourth, w4)
     → value_at (kinds_of v).fifth w4 ≡ Ok (a.fifth, w5) → plain_call v a ≡ Some c → plain_at v w0 ≡ Ok (c, w5)
@@ -36,20 +38,20 @@ unfolding plain_at arguments_at
 plain_parts v c w0 w1 w2 w3 w4 w5 a e1 e2 e3 e4 e5 made = rw (e1, e2, e3, e4, e5) (rw made refl)
 
 -- calls of no argument, of one, of two and of three
-none : (v : Verb) (c : Call) (ws : List (List ℕ)) → kinds_of v ≡ three_kinds Absent Absent Absent
+none : (v : Verb) (c : PlainCall) (ws : List (List ℕ)) → kinds_of v ≡ three_kinds Absent Absent Absent
     → plain_call v (record { first = 0; second = 0; third = 0; fourth = 0; fifth = 0 }) ≡ Some c
     → plain_at v ws ≡ Ok (c, ws)
 unfolding plain_at arguments_at value_at number_at
 none v c ws kinds made = rw kinds (rw made refl)
 
-one : (v : Verb) (k : Kind) (c : Call) (a : ℕ) (ws : List (List ℕ)) → kinds_of v ≡ three_kinds k Absent Absent
+one : (v : Verb) (k : Kind) (c : PlainCall) (a : ℕ) (ws : List (List ℕ)) → kinds_of v ≡ three_kinds k Absent Absent
     → value_at k (value_word k a ∷ ws) ≡ Ok (a, ws)
     → plain_call v (record { first = a; second = 0; third = 0; fourth = 0; fifth = 0 }) ≡ Some c
     → plain_at v (value_word k a ∷ ws) ≡ Ok (c, ws)
 unfolding plain_at arguments_at
 one v k c a ws kinds first made = rw kinds (rw (first, absent ws, absent ws, absent ws, absent ws) (rw made refl))
 
-two : (v : Verb) (k l : Kind) (c : Call) (a b : ℕ) (ws : List (List ℕ)) → kinds_of v ≡ three_kinds k l Absent
+two : (v : Verb) (k l : Kind) (c : PlainCall) (a b : ℕ) (ws : List (List ℕ)) → kinds_of v ≡ three_kinds k l Absent
     → value_at k (value_word k a ∷ value_word l b ∷ ws) ≡ Ok (a, value_word l b ∷ ws)
     → value_at l (value_word l b ∷ ws) ≡ Ok (b, ws)
     → plain_call v (record { first = a; second = b; third = 0; fourth = 0; fifth = 0 }) ≡ Some c
@@ -58,7 +60,7 @@ unfolding plain_at arguments_at
 two v k l c a b ws kinds first second made =
     rw kinds (rw (first, second, absent ws, absent ws, absent ws) (rw made refl))
 
-three : (v : Verb) (k l m : Kind) (c : Call) (n o p : ℕ) (ws : List (List ℕ)) → kinds_of v ≡ three_kinds k l m
+three : (v : Verb) (k l m : Kind) (c : PlainCall) (n o p : ℕ) (ws : List (List ℕ)) → kinds_of v ≡ three_kinds k l m
     → value_at k (value_word k n ∷ value_word l o ∷ value_word m p ∷ ws) ≡ Ok (n, value_word l o ∷ value_word m p ∷ ws)
     → value_at l (value_word l o ∷ value_word m p ∷ ws) ≡ Ok (o, value_word m p ∷ ws)
     → value_at m (value_word m p ∷ ws) ≡ Ok (p, ws)
@@ -111,7 +113,7 @@ send_parts : (m : List ℕ) (words ws : List (List ℕ)) → message_at words �
 unfolding send_at
 send_parts m words ws e = rw e refl
 
-after_again : (c : Call) (ws : List (List ℕ)) → HasLine c → NoLabel ws
+after_again : (c : PlainCall) (ws : List (List ℕ)) → HasPlainLine c → NoLabel ws
     → after_at (verb_of c) (argument_words c ++ ws) ≡ Ok (c, ws)
 unfolding after_at
 after_again (call.Attach a) ws f apart = one verb.Attach Decimal _ a ws refl (count a ws f) refl
@@ -154,7 +156,44 @@ after_again (call.SpaceCreate a b) ws f apart =
     two verb.SpaceCreate Hexadecimal Disposition _ a b ws refl (hex a _ f.0) (disposition b ws f.1) refl
 after_again call.SpaceDestroy ws f apart = none verb.SpaceDestroy _ ws refl refl
 
+-- the words of a call that isn't numbered, followed by others, are read as the call
+plain_call_again : (c : PlainCall) (ws : List (List ℕ)) → HasPlainLine c → NoLabel ws
+    → plain_call_at (plain_call_words c ++ ws) ≡ Ok (c, ws)
+unfolding plain_call_at plain_call_words
+plain_call_again c ws f apart = rw (verb_again (verb_of c)) (after_again c ws f apart)
+
+-- no such call begins with the word for one that is numbered
+no_verb : (v : Verb) (ws : List (List ℕ)) → label_at (codes "numbered") (verb_word v ∷ ws) ≡ None
+unfolding label_at
+no_verb verb.Attach ws = refl
+no_verb v ws = refl
+
+own_again : (c : PlainCall) (ws : List (List ℕ)) → HasPlainLine c → NoLabel ws
+    → own_call_at (plain_call_words c ++ ws) ≡ Ok (Plain c, ws)
+unfolding own_call_at
+own_again c ws f apart = rw (plain_call_again c ws f apart) refl
+
+numbered_again : (n : ℕ) (c : PlainCall) (ws : List (List ℕ)) → n < 2 ^ 32 → HasPlainLine c → NoLabel ws
+    → numbered_at (value_word Decimal n ∷ (plain_call_words c ++ ws))
+    ≡ Ok (Numbered (record { request = n; call = c }), ws)
+unfolding numbered_at
+numbered_again n c ws fits f apart =
+    rw (value_again Decimal n (plain_call_words c ++ ws) tt fits) (rw (plain_call_again c ws f apart) refl)
+
+own_front : (c : PlainCall) (ws : List (List ℕ))
+    → call_at (plain_call_words c ++ ws) ≡ own_call_at (plain_call_words c ++ ws)
+unfolding call_at plain_call_words
+own_front c ws = rw (no_verb (verb_of c) (argument_words c ++ ws), call_at) refl
+
+numbered_front : (words : List (List ℕ)) → call_at (codes "numbered" ∷ words) ≡ numbered_at words
+unfolding call_at label_at
+numbered_front words = refl
+
 -- the words of a call, followed by others, are read as the call
 pub call_again : (c : Call) (ws : List (List ℕ)) → HasLine c → NoLabel ws → call_at (call_words c ++ ws) ≡ Ok (c, ws)
-unfolding call_at call_words
-call_again c ws f apart = rw (verb_again (verb_of c)) (after_again c ws f apart)
+unfolding call_words plain_call_words
+call_again (Plain c) ws f apart = own_front c ws ∙ own_again c ws f apart
+call_again (Numbered numbered) ws f apart =
+    numbered_front (value_word Decimal numbered.request ∷ (plain_call_words numbered.call ++ ws))
+    ∙ numbered_again numbered.request numbered.call ws f.0 f.1 apart
+call_again Unnumberable ws f apart = absurd f

@@ -1,12 +1,10 @@
 -- Lines are read back as they are printed.
 use Rattle.std.proofs.Common.{◌≡◌, ℕ, List, [], refl, sym, ap, ◌∙◌, Option, ◌∷◌, ◌++◌, Some, None, Result, Ok, Err, append-nil}
 use Rattle.ipc_model.specs.declared.call.Call.{Call}
-use Rattle.ipc_model.specs.calls.Step.{number_of_call}
 use Rattle.script_words.specs.Spaced.{words_of}
-use Rattle.script_words.specs.Verbs.{verb_word}
 use Rattle.script_words.proofs.WordsOf.{line_again}
 use Rattle.script_printing.specs.declared.line.Exchange.{Exchange}
-use Rattle.script_printing.specs.Calls.{verb_of, argument_words, call_words, call_line}
+use Rattle.script_printing.specs.Calls.{call_line, call_words, first_word, further_words}
 use Rattle.script_printing.specs.Lines.{exchange_words, exchange_line}
 use Rattle.script_printing.specs.Replies.{reply_words}
 use Rattle.script.specs.declared.fault.Fault.{Fault}
@@ -27,7 +25,7 @@ unfolding request_at
 request_again c fits = rw (sym (append-nil (call_words c))) (rw (call_again c [] fits no_label_end) refl)
 
 exchange_parts : (words rest : List (List ℕ)) (x : Exchange) → call_at words ≡ Ok (x.call, rest)
-    → reply_at (number_of_call x.call) rest ≡ Ok x.reply → exchange_at words ≡ Ok x
+    → reply_at x.call rest ≡ Ok x.reply → exchange_at words ≡ Ok x
 unfolding exchange_at
 exchange_parts words rest x first second = rw (first, second) refl
 
@@ -35,7 +33,7 @@ pub exchange_again : (x : Exchange) → IsExchange x → exchange_at (exchange_w
 exchange_again x is =
     exchange_parts (exchange_words x) (reply_words x.reply) x
     (call_again x.call (reply_words x.reply) is.call (reply_no_label x.reply))
-    (ap (λ (n : ℕ). reply_at n (reply_words x.reply)) (sym is.of_one_call) ∙ reply_again x.reply is.reply is.own)
+    (reply_again x.call x.reply is.of_one_call is.reply is.own)
 
 pub words_of_call : (c : Call) → HasLine c → words_of (call_line c) ≡ call_words c
 unfolding call_line
@@ -80,7 +78,7 @@ pub line_read_again : (line : List ℕ) (x : Exchange) → words_of line ≡ exc
     → line_read line ≡ Ok (Some x)
 unfolding call_words
 line_read_again line x is fits =
-    line_ok line (verb_word (verb_of x.call)) (argument_words x.call ++ reply_words x.reply) x is
+    line_ok line (first_word x.call) (further_words x.call ++ reply_words x.reply) x is
     (ap exchange_at is ∙ exchange_again x fits)
 
 -- if a line can be read, the only fault is that memory runs out

@@ -12,15 +12,20 @@ use Rattle.hex.specs.Hex.{encode_with, encode_lower, lower_digits}
 use Rattle.words.specs.Words.{AreBytes}
 use Rattle.codes.specs.declared.kern_return.KernReturn.{KernReturn}
 use Rattle.codes.specs.declared.kern_return.KernReturn.TheVariants as code
+use Rattle.ipc_model.specs.declared.plain_call.PlainCall.{PlainCall}
+use Rattle.ipc_model.specs.declared.plain_call.PlainCall.TheVariants as call
+use Rattle.ipc_model.specs.declared.plain_reply.NamedType.{NamedType}
+use Rattle.ipc_model.specs.declared.plain_reply.ReceiveStatus.{ReceiveStatus}
+use Rattle.ipc_model.specs.declared.plain_reply.PlainReply.{PlainReply}
+use Rattle.ipc_model.specs.declared.plain_reply.PlainReply.TheVariants as reply
 use Rattle.ipc_model.specs.declared.call.Call.{Call}
-use Rattle.ipc_model.specs.declared.call.Call.TheVariants as call
-use Rattle.ipc_model.specs.declared.call.NamedType.{NamedType}
-use Rattle.ipc_model.specs.declared.call.ReceiveStatus.{ReceiveStatus}
-use Rattle.ipc_model.specs.declared.call.Reply.{Reply}
-use Rattle.ipc_model.specs.declared.call.Reply.TheVariants as reply
+use Rattle.ipc_model.specs.declared.call.Call.TheVariants.{Plain, Numbered, Unnumberable}
+use Rattle.ipc_model.specs.declared.reply.Reply.{Reply}
+use Rattle.ipc_model.specs.declared.reply.Reply.TheVariants as variants
+use Rattle.ipc_model.specs.encodings.Encodings as upper
 use Rattle.ipc_model.specs.declared.message.RightKind.{RightKind}
 use Rattle.ipc_model.specs.declared.message.RightKind.TheVariants as kind_of
-use Rattle.ipc_model.specs.encodings.Encodings.{FitsReply}
+use Rattle.ipc_model.specs.encodings.PlainCalls.{FitsReply}
 use Rattle.script_words.specs.declared.kind.Kind.{Kind}
 use Rattle.script_words.specs.declared.kind.Kind.TheVariants as kind
 use Rattle.script_words.specs.declared.kind.Kind.TheVariants.{Hexadecimal, Decimal, Signed, Right, Disposition, Notification}
@@ -35,10 +40,10 @@ use Rattle.script_words.specs.Verbs.{verb_word}
 use Rattle.script_words.proofs.WordsOf.{are_word_bytes, is_word, are_words}
 use Rattle.script_printing.specs.Bytes.{bytes_word, optional_bytes}
 use Rattle.script_printing.specs.Items.{element_kind, words_item_words, bytes_item_words, numbers_in, body_within, body_words}
-use Rattle.script_printing.specs.Calls.{verb_of, argument_words, call_words}
+use Rattle.script_printing.specs.Calls.{verb_of, argument_words, call_words, plain_call_words}
 use Rattle.script_printing.specs.Messages.{optional_words, flag_words, local_words, header_of, header_words, message_words}
-use Rattle.script_printing.specs.Replies.{yes_or_no, kind_word, count_words, status_words, names_words, members_words, outcome_words, received_words, message_reply_words, reply_words}
-use Rattle.script.specs.Calls.{HasLine}
+use Rattle.script_printing.specs.Replies.{yes_or_no, kind_word, count_words, status_words, names_words, members_words, outcome_words, received_words, message_reply_words, plain_reply_words, reply_words}
+use Rattle.script.specs.Calls.{HasLine, HasPlainLine}
 use Rattle.script.proofs.ItemsAgain.{bytes_after, item_cases, words_after_item, AreNumbers, WordsFront, BytesFront}
 use Rattle.script.proofs.MessagesAgain.{FitsHeader, fits_header}
 use Rattle.script.proofs.NumbersAgain.{decimal_fits}
@@ -284,7 +289,7 @@ receive_printed limit name large waited fits fits_name =
 number : (k : Kind) (n : ℕ) → n < 2 ^ 32 → AreWords (value_word k n ∷ [])
 number k n fits = record { is = one (value_word k n) (value_printed k n fits) }
 
-arguments_printed : (c : Call) → HasLine c → are_words (argument_words c) ≡ true
+arguments_printed : (c : PlainCall) → HasPlainLine c → are_words (argument_words c) ≡ true
 arguments_printed (call.Attach a) f = (number Decimal a f).is
 arguments_printed call.Names f = refl
 arguments_printed (call.Type a) f = (number Hexadecimal a f).is
@@ -314,9 +319,9 @@ arguments_printed (call.Receive limit large name waited) f = receive_printed lim
 arguments_printed (call.SpaceCreate a b) f = (join (number Hexadecimal a f.0) (number Disposition b f.1)).is
 arguments_printed call.SpaceDestroy f = refl
 
-pub call_printed : (c : Call) → HasLine c → are_words (call_words c) ≡ true
-unfolding call_words
-call_printed c fits = both _ _ (verb_printed (verb_of c)) (arguments_printed c fits)
+plain_call_printed : (c : PlainCall) → HasPlainLine c → are_words (plain_call_words c) ≡ true
+unfolding plain_call_words
+plain_call_printed c fits = both _ _ (verb_printed (verb_of c)) (arguments_printed c fits)
 
 -- the words of a reply
 code_printed : (c : KernReturn) → is_word (code_word c) ≡ true
@@ -408,20 +413,39 @@ equals = record { is = refl }
 rows : (ws : List (List ℕ)) → are_words ws ≡ true → AreWords ws
 rows ws are = record { is = are }
 
-pub reply_printed : (r : Reply) → FitsReply r → are_words (reply_words r) ≡ true
-reply_printed (reply.Refused n c) f = two (codes "!") (code_word c) refl (code_printed c)
-reply_printed (reply.Done n) f = refl
-reply_printed (reply.Names names) f = (join equals (rows (names_words names) (names_printed names f.1))).is
-reply_printed (reply.Type bits) f = (join equals (number Hexadecimal bits f)).is
-reply_printed (reply.Allocate name) f = (join equals (number Hexadecimal name f)).is
-reply_printed (reply.References n) f = (join equals (number Decimal n f)).is
-reply_printed (reply.ReceiveStatus s) f = (join equals (rows (status_words s) (status_printed s f))).is
-reply_printed (reply.SetStatus members) f =
+plain_reply_printed : (r : PlainReply) → FitsReply r → are_words (plain_reply_words r) ≡ true
+plain_reply_printed (reply.Refused n c) f = two (codes "!") (code_word c) refl (code_printed c)
+plain_reply_printed (reply.Done n) f = refl
+plain_reply_printed (reply.Names names) f = (join equals (rows (names_words names) (names_printed names f.1))).is
+plain_reply_printed (reply.Type bits) f = (join equals (number Hexadecimal bits f)).is
+plain_reply_printed (reply.Allocate name) f = (join equals (number Hexadecimal name f)).is
+plain_reply_printed (reply.References n) f = (join equals (number Decimal n f)).is
+plain_reply_printed (reply.ReceiveStatus s) f = (join equals (rows (status_words s) (status_printed s f))).is
+plain_reply_printed (reply.SetStatus members) f =
     (join equals (rows (members_words members) (members_printed members f.1))).is
-reply_printed (reply.PreviousTarget name) f = (join equals (number Hexadecimal name f)).is
-reply_printed (reply.Extracted name k) f =
+plain_reply_printed (reply.PreviousTarget name) f = (join equals (number Hexadecimal name f)).is
+plain_reply_printed (reply.Extracted name k) f =
     (join equals (join (number Hexadecimal name f) (rows (kind_word k ∷ []) (one (kind_word k) (kind_printed k))))).is
-reply_printed (reply.Message c size member message) f = message_reply_printed c size member message f.0 f.1 f.2
-reply_printed (reply.SpaceCreated space name) f =
+plain_reply_printed (reply.Message c size member message) f = message_reply_printed c size member message f.0 f.1 f.2
+plain_reply_printed (reply.SpaceCreated space name) f =
     (join equals (join (pair (codes "space") kind.Decimal space refl f.0)
     (pair (codes "name") kind.Hexadecimal name refl f.1))).is
+
+pub call_printed : (c : Call) → HasLine c → are_words (call_words c) ≡ true
+unfolding call_words plain_call_words
+call_printed (Plain c) fits = plain_call_printed c fits
+call_printed (Numbered numbered) fits =
+    (join (pair (codes "numbered") kind.Decimal numbered.request refl fits.0)
+    (rows (plain_call_words numbered.call) (plain_call_printed numbered.call fits.1))).is
+call_printed Unnumberable fits = absurd fits
+
+made_printed : (request : ℕ) (r : PlainReply) → request < 2 ^ 32 → FitsReply r
+    → are_words (codes ":" ∷ value_word kind.Decimal request ∷ plain_reply_words r) ≡ true
+made_printed request r small fits =
+    (join (pair (codes ":") kind.Decimal request refl small)
+    (rows (plain_reply_words r) (plain_reply_printed r fits))).is
+
+pub reply_printed : (r : Reply) → upper.FitsReply r → are_words (reply_words r) ≡ true
+reply_printed (variants.Plain r) fits = plain_reply_printed r fits
+reply_printed (variants.Numbered a) fits = made_printed a.request a.reply fits.0 fits.1
+reply_printed (variants.Repeated a) fits = made_printed a.request a.reply fits.0 fits.1

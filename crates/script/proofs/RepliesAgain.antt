@@ -5,27 +5,33 @@ use Rattle.std.specs.Str.{bytes_eq}
 use Rattle.std.proofs.lemmas.Bool.{eqb-true, and_parts}
 use Rattle.std.proofs.lemmas.Bool.Decides.{nat_tests}
 use Rattle.std.proofs.lemmas.List.Elements.{All-head, All-tail}
-use Rattle.codes.specs.declared.call_number.TheConstants.{MACH_MSG}
+use Rattle.codes.specs.declared.call_number.TheConstants.{MACH_MSG, NUMBERED}
 use Rattle.codes.specs.declared.kern_return.KernReturn.{KernReturn}
 use Rattle.codes.specs.declared.kern_return.KernReturn.TheVariants as code
 use Rattle.codes.specs.KernReturn.{all_codes}
-use Rattle.ipc_model.specs.declared.call.NamedType.{NamedType}
-use Rattle.ipc_model.specs.declared.call.ReceiveStatus.{ReceiveStatus}
-use Rattle.ipc_model.specs.declared.call.Reply.{Reply}
-use Rattle.ipc_model.specs.declared.call.Reply.TheVariants as reply
+use Rattle.ipc_model.specs.declared.plain_reply.NamedType.{NamedType}
+use Rattle.ipc_model.specs.declared.plain_reply.ReceiveStatus.{ReceiveStatus}
+use Rattle.ipc_model.specs.declared.plain_reply.PlainReply.{PlainReply}
+use Rattle.ipc_model.specs.declared.plain_reply.PlainReply.TheVariants as reply
+use Rattle.ipc_model.specs.calls.PlainStep.{number_of_call}
+use Rattle.ipc_model.specs.declared.call.Call.{Call}
+use Rattle.ipc_model.specs.declared.call.Call.TheVariants.{Plain, Numbered, Unnumberable}
+use Rattle.ipc_model.specs.declared.reply.Reply.{Reply}
+use Rattle.ipc_model.specs.declared.reply.Reply.TheVariants as variants
+use Rattle.ipc_model.specs.encodings.Encodings as upper
 use Rattle.ipc_model.specs.declared.message.RightKind.{RightKind}
 use Rattle.ipc_model.specs.declared.message.RightKind.TheVariants as kind_of
-use Rattle.ipc_model.specs.encodings.Encodings.{number_of_reply, FitsReply}
+use Rattle.ipc_model.specs.encodings.PlainCalls.{number_of_reply, FitsReply}
 use Rattle.words.specs.Words.{AreBytes}
 use Rattle.script_words.specs.declared.kind.Kind.{Kind}
 use Rattle.script_words.specs.declared.kind.Kind.TheVariants.{Hexadecimal, Decimal}
 use Rattle.script_words.specs.Codes.{code_word}
-use Rattle.script_words.specs.Kinds.{value_word}
+use Rattle.script_words.specs.Kinds.{read_word, value_word}
 use Rattle.script_printing.specs.Messages.{message_words, optional_words}
-use Rattle.script_printing.specs.Replies.{yes_or_no, kind_word, count_words, status_words, names_words, members_words, outcome_words, received_words, message_reply_words, result_words, reply_words}
+use Rattle.script_printing.specs.Replies.{yes_or_no, kind_word, count_words, status_words, names_words, members_words, outcome_words, received_words, message_reply_words, result_words, plain_reply_words, reply_words}
 use Rattle.script.specs.declared.fault.Expected.TheVariants.{Results}
 use Rattle.script.specs.Reading.{Reading, stop, label_at, optional_at, last}
-use Rattle.script.specs.Replies.{yes_or_no_at, answer_at, kind_at, counts_at, status_at, in_front_of, names_at, members_at, received_at, message_reply_at, last_value, extracted_at, space_created_at, last_status_at, results_at, has_results, silence, refusal_at, reply_at, IsOwn}
+use Rattle.script.specs.Replies.{yes_or_no_at, answer_at, kind_at, counts_at, status_at, in_front_of, names_at, members_at, received_at, message_reply_at, last_value, extracted_at, space_created_at, last_status_at, results_at, has_results, silence, refusal_at, plain_reply_at, own_reply_at, made_at, numbered_reply_at, reply_at, IsOfCall, IsOwn, IsPlainOwn}
 use Rattle.script.proofs.MessagesAgain.{message_again}
 use Rattle.script.proofs.ReadingAgain.{IsNumber, value_again, label_again, labelled_again, optional_again, past_optional, NoLabel, no_label_end, no_label_sign, no_number_sign}
 
@@ -134,9 +140,9 @@ results_again c size member message fits fits_member bytes =
     (received_again message bytes)
 
 silent : (size member : ℕ) (message : List ℕ) → (size == 0 && member == 0 && length message == 0) ≡ true
-    → reply_at 19 ((optional_words (codes "size") Decimal size ++ optional_words (codes "member") Hexadecimal member)
+    → plain_reply_at 19 ((optional_words (codes "size") Decimal size ++ optional_words (codes "member") Hexadecimal member)
     ++ received_words message) ≡ Ok (reply.Message code.Success size member message)
-unfolding reply_at silence optional_words received_words
+unfolding plain_reply_at silence optional_words received_words
 silent size member [] is =
     let parts = and_parts (size == 0 && member == 0) true is in
     let numbers = and_parts (size == 0) (member == 0) parts.0 in
@@ -158,12 +164,12 @@ silent_no_label size member (b ∷ message) is = absurd (grind (arith, nat_tests
 -- what a mach_msg answered
 mach_msg_again : (c : KernReturn) (size member : ℕ) (message : List ℕ) → size < 2 ^ 32 → member < 2 ^ 32
     → AreBytes message
-    → reply_at 19 (message_reply_words c size member message) ≡ Ok (reply.Message c size member message)
-unfolding message_reply_words outcome_words reply_at results_at refusal_at
+    → plain_reply_at 19 (message_reply_words c size member message) ≡ Ok (reply.Message c size member message)
+unfolding message_reply_words outcome_words plain_reply_at results_at refusal_at
 mach_msg_again code.Success size member message fits fits_member bytes =
     elim (size == 0 && member == 0 && length message == 0)
     as (λ (b : Bool). (size == 0 && member == 0 && length message == 0) ≡ b
-    → reply_at 19 (((cond b [] (codes "=" ∷ []) ++ optional_words (codes "size") Decimal size)
+    → plain_reply_at 19 (((cond b [] (codes "=" ∷ []) ++ optional_words (codes "size") Decimal size)
     ++ optional_words (codes "member") Hexadecimal member) ++ received_words message)
     ≡ Ok (reply.Message code.Success size member message)) [
       | true ↦ λ (is : _). silent size member message is
@@ -199,55 +205,116 @@ last_status_again : (s : ReceiveStatus) → FitsStatus s → last_status_at (sta
 unfolding last_status_at last
 last_status_again s fits = rw (status_again s fits) refl
 
-refused_again : (n : ℕ) (c : KernReturn) → (n ≡ MACH_MSG → ⊥) → reply_at n (codes "!" ∷ code_word c ∷ [])
+refused_again : (n : ℕ) (c : KernReturn) → (n ≡ MACH_MSG → ⊥) → plain_reply_at n (codes "!" ∷ code_word c ∷ [])
     ≡ Ok (reply.Refused n c)
-unfolding reply_at refusal_at last
+unfolding plain_reply_at refusal_at last
 refused_again n c other =
     let not_message : (n == MACH_MSG) ≡ false = grind (arith, nat_tests) in rw (code_again c) (rw not_message refl)
 
-done_again : (n : ℕ) → IsTrue (not (has_results n || n == MACH_MSG)) → reply_at n [] ≡ Ok (reply.Done n)
-unfolding reply_at silence
+done_again : (n : ℕ) → IsTrue (not (has_results n || n == MACH_MSG)) → plain_reply_at n [] ≡ Ok (reply.Done n)
+unfolding plain_reply_at silence
 done_again n plain =
     elim (has_results n) as (λ (b : Bool). IsTrue (not (b || n == MACH_MSG))
-    → cond {A = Reading Reply} b (stop Results [])
+    → cond {A = Reading PlainReply} b (stop Results [])
     (cond (n == MACH_MSG) (Ok (reply.Message code.Success 0 0 [])) (Ok (reply.Done n))) ≡ Ok (reply.Done n)) [
       | true ↦ λ (wrong : _). absurd (cc)
       | false ↦ λ (known : _). elim (n == MACH_MSG)
           as (λ (b : Bool). IsTrue (not b)
-          → cond {A = Reading Reply} b (Ok (reply.Message code.Success 0 0 [])) (Ok (reply.Done n))
+          → cond {A = Reading PlainReply} b (Ok (reply.Message code.Success 0 0 [])) (Ok (reply.Done n))
           ≡ Ok (reply.Done n)) [
             | true ↦ λ (wrong : _). absurd (cc)
             | false ↦ λ (_ : _). refl
           ] known
     ] plain
 
--- the words of a reply are read as the reply
-pub reply_again : (r : Reply) → FitsReply r → IsOwn r → reply_at (number_of_reply r) (reply_words r) ≡ Ok r
-unfolding reply_at results_at
-reply_again (reply.Refused n c) fits own = refused_again n c own
-reply_again (reply.Done n) fits own = done_again n own
-reply_again (reply.Names names) fits own = rw (names_again names fits.1) refl
-reply_again (reply.Type bits) fits own = rw (one_value Hexadecimal bits tt fits) refl
-reply_again (reply.Allocate name) fits own = rw (one_value Hexadecimal name tt fits) refl
-reply_again (reply.References count) fits own = rw (one_value Decimal count tt fits) refl
-reply_again (reply.ReceiveStatus s) fits own = last_status_again s fits
-reply_again (reply.SetStatus members) fits own = rw (members_again members fits.1) refl
-reply_again (reply.PreviousTarget name) fits own = rw (one_value Hexadecimal name tt fits) refl
-reply_again (reply.Extracted name k) fits own = extracted_again name k fits
-reply_again (reply.Message c size member message) fits own = mach_msg_again c size member message fits.0 fits.1 fits.2
-reply_again (reply.SpaceCreated space name) fits own = space_created_again space name fits.0 fits.1
+-- the words of a reply to a call that isn't numbered are read as the reply
+plain_reply_again : (r : PlainReply) → FitsReply r → IsPlainOwn r
+    → plain_reply_at (number_of_reply r) (plain_reply_words r) ≡ Ok r
+unfolding plain_reply_at results_at
+plain_reply_again (reply.Refused n c) fits own = refused_again n c own
+plain_reply_again (reply.Done n) fits own = done_again n own
+plain_reply_again (reply.Names names) fits own = rw (names_again names fits.1) refl
+plain_reply_again (reply.Type bits) fits own = rw (one_value Hexadecimal bits tt fits) refl
+plain_reply_again (reply.Allocate name) fits own = rw (one_value Hexadecimal name tt fits) refl
+plain_reply_again (reply.References count) fits own = rw (one_value Decimal count tt fits) refl
+plain_reply_again (reply.ReceiveStatus s) fits own = last_status_again s fits
+plain_reply_again (reply.SetStatus members) fits own = rw (members_again members fits.1) refl
+plain_reply_again (reply.PreviousTarget name) fits own = rw (one_value Hexadecimal name tt fits) refl
+plain_reply_again (reply.Extracted name k) fits own = extracted_again name k fits
+plain_reply_again (reply.Message c size member message) fits own =
+    mach_msg_again c size member message fits.0 fits.1 fits.2
+plain_reply_again (reply.SpaceCreated space name) fits own = space_created_again space name fits.0 fits.1
 
 -- nothing after a call begins with a label
-pub reply_no_label : (r : Reply) → NoLabel (reply_words r)
+plain_reply_no_label : (r : PlainReply) → NoLabel (plain_reply_words r)
 unfolding message_reply_words outcome_words
-reply_no_label (reply.Refused n c) = no_label_sign 33 [] (code_word c ∷ []) (omega arith) no_number_sign.0
-reply_no_label (reply.Done n) = no_label_end
-reply_no_label (reply.Message code.Success size member message) = elim (size == 0 && member == 0 && length message == 0)
+plain_reply_no_label (reply.Refused n c) = no_label_sign 33 [] (code_word c ∷ []) (omega arith) no_number_sign.0
+plain_reply_no_label (reply.Done n) = no_label_end
+plain_reply_no_label (reply.Message code.Success size member message) =
+    elim (size == 0 && member == 0 && length message == 0)
     as (λ (b : Bool). (size == 0 && member == 0 && length message == 0) ≡ b
     → NoLabel (((cond b [] (codes "=" ∷ []) ++ optional_words (codes "size") Decimal size)
     ++ optional_words (codes "member") Hexadecimal member) ++ received_words message)) [
       | true ↦ λ (is : _). silent_no_label size member message is
       | false ↦ λ (_ : _). no_label_sign 61 [] _ (omega arith) no_number_sign.1
     ] refl
-reply_no_label (reply.Message c size member message) = no_label_sign 33 [] _ (omega arith) no_number_sign.0
-reply_no_label r = no_label_sign 61 [] (result_words r) (omega arith) no_number_sign.1
+plain_reply_no_label (reply.Message c size member message) = no_label_sign 33 [] _ (omega arith) no_number_sign.0
+plain_reply_no_label r = no_label_sign 61 [] (result_words r) (omega arith) no_number_sign.1
+
+no_number_colon : read_word Hexadecimal (58 ∷ []) ≡ None
+unfolding read_word
+no_number_colon = refl
+
+pub reply_no_label : (r : Reply) → NoLabel (reply_words r)
+reply_no_label (variants.Plain r) = plain_reply_no_label r
+reply_no_label (variants.Numbered a) = no_label_sign 58 [] _ (omega arith) no_number_colon
+reply_no_label (variants.Repeated a) = no_label_sign 58 [] _ (omega arith) no_number_colon
+
+own_reply_again : (n : ℕ) (r : PlainReply) → number_of_reply r ≡ n → FitsReply r → IsPlainOwn r
+    → own_reply_at n (plain_reply_words r) ≡ Ok (variants.Plain r)
+unfolding own_reply_at
+own_reply_again n r is fits own =
+    let read : plain_reply_at n (plain_reply_words r) ≡ Ok r =
+    ap (λ (m : ℕ). plain_reply_at m (plain_reply_words r)) (sym is) ∙ plain_reply_again r fits own in
+    rw read refl
+
+made_again : (n request : ℕ) (r : PlainReply) → number_of_reply r ≡ n → request < 2 ^ 32 → FitsReply r → IsPlainOwn r
+    → made_at n (value_word Decimal request ∷ plain_reply_words r)
+    ≡ Ok (variants.Numbered (record { request = request; reply = r }))
+unfolding made_at
+made_again n request r is small fits own =
+    let read : plain_reply_at n (plain_reply_words r) ≡ Ok r =
+    ap (λ (m : ℕ). plain_reply_at m (plain_reply_words r)) (sym is) ∙ plain_reply_again r fits own in
+    rw (value_again Decimal request (plain_reply_words r) tt small) (rw read refl)
+
+-- a refusal by number 22 has no colon
+no_colon : (r : PlainReply) → number_of_reply r ≡ NUMBERED → label_at (codes ":") (plain_reply_words r) ≡ None
+unfolding label_at
+no_colon (reply.Refused n c) is = refl
+no_colon (reply.Done n) is = refl
+no_colon r is = absurd (omega (arith, is))
+
+refused_front : (n : ℕ) (words : List (List ℕ)) → label_at (codes ":") words ≡ None
+    → numbered_reply_at n words ≡ own_reply_at NUMBERED words
+unfolding numbered_reply_at
+refused_front n words none = rw (none, numbered_reply_at) refl
+
+made_front : (n : ℕ) (words : List (List ℕ)) → numbered_reply_at n (codes ":" ∷ words) ≡ made_at n words
+unfolding numbered_reply_at label_at
+made_front n words = refl
+
+-- the words of a reply are read as the reply
+pub reply_again : (c : Call) (r : Reply) → IsOfCall c r → upper.FitsReply r → IsOwn r
+    → reply_at c (reply_words r) ≡ Ok r
+unfolding reply_at
+reply_again (Plain c) (variants.Plain r) is fits own = own_reply_again (number_of_call c) r is fits own
+reply_again (Numbered numbered) (variants.Plain r) is fits own =
+    refused_front (number_of_call numbered.call) (plain_reply_words r) (no_colon r is)
+    ∙ own_reply_again NUMBERED r is fits own
+reply_again (Numbered numbered) (variants.Numbered a) is fits own =
+    made_front (number_of_call numbered.call) (value_word Decimal a.request ∷ plain_reply_words a.reply)
+    ∙ made_again (number_of_call numbered.call) a.request a.reply is fits.0 fits.1 own
+reply_again (Plain c) (variants.Numbered a) is fits own = absurd is
+reply_again (Plain c) (variants.Repeated a) is fits own = absurd is
+reply_again (Numbered numbered) (variants.Repeated a) is fits own = absurd is
+reply_again Unnumberable r is fits own = absurd is

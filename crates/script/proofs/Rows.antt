@@ -1,6 +1,6 @@
 -- Rows that are read one after another.
 use Rattle.std.proofs.Common.{◌≡◌, ℕ, suc, ◌<◌, List, [], ◌∷◌, ◌++◌, length, refl, sym, ap, ◌∙◌, arith, Option, Some, None, Ok, Err, append_assoc, append-nil}
-use Rattle.ipc_model.specs.declared.call.NamedType.{NamedType}
+use Rattle.ipc_model.specs.declared.plain_reply.NamedType.{NamedType}
 use Rattle.script_words.specs.declared.kind.Kind.TheVariants.{Hexadecimal}
 use Rattle.script_words.specs.Kinds.{read_word}
 use Rattle.script.specs.declared.fault.Fault.{Fault}

@@ -1,5 +1,5 @@
 -- Reading the items of a body.
-use Rattle.std.specs.Prelude.{ℕ, zero, suc, ◌+◌, nat_lt, List, [], ◌∷◌, ◌++◌, length, flat_map, None, Some, Ok, codes, false, if◌then◌else◌}
+use Rattle.std.specs.Prelude.{ℕ, zero, suc, nat_lt, List, [], ◌∷◌, ◌++◌, length, flat_map, None, Some, Ok, codes, false, if◌then◌else◌}
 use Rattle.ipc_model.specs.messages.Items.{Item, item_encoding}
 use Rattle.words.specs.Words.{word}
 use Rattle.script_words.specs.declared.kind.Kind.TheVariants.{Hexadecimal, Element}

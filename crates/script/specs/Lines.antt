@@ -1,7 +1,6 @@
 -- Reading lines.
 use Rattle.std.specs.Prelude.{◌≡◌, ℕ, ◌-◌, List, [], ◌∷◌, length, Option, None, Some, Result, Ok, Err}
-use Rattle.ipc_model.specs.calls.Step.{number_of_call}
-use Rattle.ipc_model.specs.encodings.Encodings.{number_of_reply, FitsReply}
+use Rattle.ipc_model.specs.encodings.Encodings.{FitsReply}
 use Rattle.ipc_model.specs.declared.call.Call.{Call}
 use Rattle.script_words.specs.Spaced.{words_of, column_of}
 use Rattle.script_printing.specs.declared.line.Exchange.{Exchange}
@@ -13,20 +12,20 @@ use Rattle.script.specs.declared.fault.LineFault.TheVariants as line_fault
 use Rattle.script.specs.declared.fault.Stop.{Stop}
 use Rattle.script.specs.Calls.{call_at, HasLine}
 use Rattle.script.specs.Reading.{Reading, ◌>>=◌, stop}
-use Rattle.script.specs.Replies.{reply_at, IsOwn}
+use Rattle.script.specs.Replies.{reply_at, IsOfCall, IsOwn}
 
 -- A call and what it answered have a line.
 pub record IsExchange (x : Exchange) : Type 0 where
   pub call : HasLine x.call
   pub reply : FitsReply x.reply
   pub own : IsOwn x.reply
-  pub of_one_call : number_of_reply x.reply ≡ number_of_call x.call
+  pub of_one_call : IsOfCall x.call x.reply
 
 -- the call of a line and what it answered
 unfoldable pub exchange_at : List (List ℕ) → Reading Exchange
 exchange_at words = do
   c ← call_at words
-  r ← reply_at (number_of_call c.0) c.1
+  r ← reply_at c.0 c.1
   Ok (record { call = c.0; reply = r })
 
 -- the call of a line without an answer

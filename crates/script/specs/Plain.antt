@@ -1,7 +1,7 @@
 -- Reading the calls whose arguments are numbers.
 use Rattle.std.specs.Prelude.{ℕ, List, Option, None, Some, Ok}
-use Rattle.ipc_model.specs.declared.call.Call.{Call}
-use Rattle.ipc_model.specs.declared.call.Call.TheVariants as call
+use Rattle.ipc_model.specs.declared.plain_call.PlainCall.{PlainCall}
+use Rattle.ipc_model.specs.declared.plain_call.PlainCall.TheVariants as call
 use Rattle.script_words.specs.declared.kind.Kind.{Kind}
 use Rattle.script_words.specs.declared.kind.Kind.TheVariants.{Hexadecimal, Decimal, Signed, Right, Disposition, Notification, Absent}
 use Rattle.script_words.specs.declared.verb.Verb.{Verb}
@@ -42,7 +42,7 @@ kinds_of verb.SpaceCreate = three_kinds Hexadecimal Disposition Absent
 kinds_of verb.SpaceDestroy = three_kinds Absent Absent Absent
 
 -- calls of one argument or none, of two, and of more
-abbrev pub short_call : Verb → ℕ → Option Call
+abbrev pub short_call : Verb → ℕ → Option PlainCall
 short_call verb.Attach space = Some (call.Attach space)
 short_call verb.Names name = Some call.Names
 short_call verb.Type name = Some (call.Type name)
@@ -54,7 +54,7 @@ short_call verb.GetSetStatus name = Some (call.GetSetStatus name)
 short_call verb.SpaceDestroy name = Some call.SpaceDestroy
 short_call v name = None
 
-abbrev pub pair_call : Verb → ℕ → ℕ → Option Call
+abbrev pub pair_call : Verb → ℕ → ℕ → Option PlainCall
 pair_call verb.Rename from to = Some (call.Rename from to)
 pair_call verb.AllocateName right name = Some (call.AllocateName right name)
 pair_call verb.GetRefs name right = Some (call.GetRefs name right)
@@ -66,14 +66,14 @@ pair_call verb.ExtractRight name disposition = Some (call.ExtractRight name disp
 pair_call verb.SpaceCreate name disposition = Some (call.SpaceCreate name disposition)
 pair_call v first second = None
 
-abbrev pub long_call : Verb → Arguments → Option Call
+abbrev pub long_call : Verb → Arguments → Option PlainCall
 long_call verb.ModRefs a = Some (call.ModRefs a.first a.second a.third)
 long_call verb.RequestNotification a = Some (call.RequestNotification a.first a.second a.third a.fourth a.fifth)
 long_call verb.InsertRight a = Some (call.InsertRight a.first a.second a.third)
 long_call v a = None
 
 -- the call of a verb with its arguments, for each verb except those of mach_msg
-abbrev pub plain_call : Verb → Arguments → Option Call
+abbrev pub plain_call : Verb → Arguments → Option PlainCall
 plain_call v a =
     elim (short_call v a.first) [
       | Some made ↦ Some made
@@ -92,7 +92,7 @@ arguments_at kinds words = do
   Ok (record { first = a.0; second = b.0; third = c.0; fourth = d.0; fifth = e.0 }, e.1)
 
 -- the call that they make
-unfoldable pub plain_at : Verb → List (List ℕ) → Reading (Call × List (List ℕ))
+unfoldable pub plain_at : Verb → List (List ℕ) → Reading (PlainCall × List (List ℕ))
 plain_at v words = do
   a ← arguments_at (kinds_of v) words
   made ← wanted CallName words (plain_call v a.0)

@@ -1,14 +1,20 @@
 -- Reading replies.
-use Rattle.std.specs.Prelude.{◌≢◌, ℕ, Bool, true, false, ◌==◌, ◌||◌, not, IsTrue, List, [], ◌∷◌, find, Option, None, Some, Ok, codes, if◌then◌else◌}
+use Rattle.std.specs.Prelude.{◌≡◌, ◌≢◌, ℕ, Bool, true, false, ◌==◌, ◌||◌, not, IsTrue, List, [], ◌∷◌, find, Option, None, Some, Ok, codes, if◌then◌else◌}
 use Rattle.std.specs.Str.{bytes_eq}
-use Rattle.codes.specs.declared.call_number.TheConstants.{MACH_PORT_NAMES, MACH_PORT_TYPE, MACH_PORT_ALLOCATE, MACH_PORT_GET_REFS, MACH_PORT_GET_RECEIVE_STATUS, MACH_PORT_GET_SET_STATUS, MACH_PORT_REQUEST_NOTIFICATION, MACH_PORT_EXTRACT_RIGHT, MACH_MSG, SPACE_CREATE}
+use Rattle.codes.specs.declared.call_number.TheConstants.{MACH_PORT_NAMES, MACH_PORT_TYPE, MACH_PORT_ALLOCATE, MACH_PORT_GET_REFS, MACH_PORT_GET_RECEIVE_STATUS, MACH_PORT_GET_SET_STATUS, MACH_PORT_REQUEST_NOTIFICATION, MACH_PORT_EXTRACT_RIGHT, MACH_MSG, SPACE_CREATE, NUMBERED}
 use Rattle.codes.specs.declared.kern_return.KernReturn.{KernReturn}
 use Rattle.codes.specs.declared.kern_return.KernReturn.TheVariants.{Success}
 use Rattle.codes.specs.KernReturn.{all_codes}
-use Rattle.ipc_model.specs.declared.call.NamedType.{NamedType}
-use Rattle.ipc_model.specs.declared.call.ReceiveStatus.{ReceiveStatus}
-use Rattle.ipc_model.specs.declared.call.Reply.{Reply}
-use Rattle.ipc_model.specs.declared.call.Reply.TheVariants as reply
+use Rattle.ipc_model.specs.declared.plain_reply.NamedType.{NamedType}
+use Rattle.ipc_model.specs.declared.plain_reply.ReceiveStatus.{ReceiveStatus}
+use Rattle.ipc_model.specs.declared.plain_reply.PlainReply.{PlainReply}
+use Rattle.ipc_model.specs.declared.plain_reply.PlainReply.TheVariants as reply
+use Rattle.ipc_model.specs.declared.call.Call.{Call}
+use Rattle.ipc_model.specs.declared.call.Call.TheVariants.{Plain, Numbered, Unnumberable}
+use Rattle.ipc_model.specs.declared.reply.Reply.{Reply}
+use Rattle.ipc_model.specs.declared.reply.Reply.TheVariants as variants
+use Rattle.ipc_model.specs.calls.PlainStep.{number_of_call}
+use Rattle.ipc_model.specs.encodings.PlainCalls.{number_of_reply}
 use Rattle.ipc_model.specs.declared.message.RightKind.{RightKind}
 use Rattle.ipc_model.specs.declared.message.RightKind.TheVariants as right
 use Rattle.script_words.specs.declared.kind.Kind.{Kind}
@@ -103,7 +109,7 @@ members_at (word ∷ words) = value_at Hexadecimal (word ∷ words) >>= λ n. in
 unfoldable pub received_at : List (List ℕ) → Reading (List ℕ × List (List ℕ))
 received_at words = elim (label_at (codes "message") words) [ None ↦ Ok ([], words) | Some rest ↦ message_at rest ]
 
-unfoldable pub message_reply_at : KernReturn → List (List ℕ) → Reading Reply
+unfoldable pub message_reply_at : KernReturn → List (List ℕ) → Reading PlainReply
 message_reply_at code words = do
   size ← optional_at (codes "size") Decimal words
   member ← optional_at (codes "member") Hexadecimal size.1
@@ -113,23 +119,23 @@ message_reply_at code words = do
 unfoldable pub last_value : Kind → List (List ℕ) → Reading ℕ
 last_value k words = value_at k words >>= λ n. last n
 
-unfoldable pub extracted_at : List (List ℕ) → Reading Reply
+unfoldable pub extracted_at : List (List ℕ) → Reading PlainReply
 extracted_at words = do
   name ← value_at Hexadecimal words
   kind ← kind_at name.1
   last (reply.Extracted name.0 kind.0, kind.1)
 
-unfoldable pub space_created_at : List (List ℕ) → Reading Reply
+unfoldable pub space_created_at : List (List ℕ) → Reading PlainReply
 space_created_at words = do
   space ← labelled_at (codes "space") Decimal words
   name ← labelled_at (codes "name") Hexadecimal space.1
   last (reply.SpaceCreated space.0 name.0, name.1)
 
-unfoldable pub last_status_at : List (List ℕ) → Reading Reply
+unfoldable pub last_status_at : List (List ℕ) → Reading PlainReply
 last_status_at words = status_at words >>= λ status. last (reply.ReceiveStatus status.0, status.1)
 
 -- the results of a call of this number
-unfoldable pub results_at : ℕ → List (List ℕ) → Reading Reply
+unfoldable pub results_at : ℕ → List (List ℕ) → Reading PlainReply
 results_at n words =
     if n == MACH_PORT_NAMES then (names_at words >>= λ names. Ok (reply.Names names))
     else if n == MACH_PORT_TYPE then (last_value Hexadecimal words >>= λ bits. Ok (reply.Type bits))
@@ -149,31 +155,67 @@ abbrev pub has_results : ℕ → Bool
 has_results n =
     n == MACH_PORT_NAMES || n == MACH_PORT_TYPE || n == MACH_PORT_ALLOCATE || n == MACH_PORT_GET_REFS ||
     n == MACH_PORT_GET_RECEIVE_STATUS || n == MACH_PORT_GET_SET_STATUS || n == MACH_PORT_REQUEST_NOTIFICATION ||
-    n == MACH_PORT_EXTRACT_RIGHT || n == SPACE_CREATE
+    n == MACH_PORT_EXTRACT_RIGHT || n == SPACE_CREATE || n == NUMBERED
 
 -- the reply of a line that gives none
-unfoldable pub silence : ℕ → List (List ℕ) → Reading Reply
+unfoldable pub silence : ℕ → List (List ℕ) → Reading PlainReply
 silence n words =
     if has_results n then stop expected.Results words else if n == MACH_MSG then Ok (reply.Message Success 0 0 [])
     else Ok (reply.Done n)
 
-unfoldable pub refusal_at : ℕ → List (List ℕ) → Reading Reply
+unfoldable pub refusal_at : ℕ → List (List ℕ) → Reading PlainReply
 refusal_at n [] = stop expected.Code []
 refusal_at n (word ∷ words) =
     wanted expected.Code (word ∷ words) (find (λ code. bytes_eq (code_word code) word) all_codes) >>= λ code.
     if n == MACH_MSG then message_reply_at code words else last (reply.Refused n code, words)
 
--- what a call of this number answered: a call without results has no `=` after it
-unfoldable pub reply_at : ℕ → List (List ℕ) → Reading Reply
-reply_at n [] = silence n []
-reply_at n (word ∷ words) =
+-- what a call of this number answered, if it isn't numbered: a call without results has no `=` after it
+unfoldable pub plain_reply_at : ℕ → List (List ℕ) → Reading PlainReply
+plain_reply_at n [] = silence n []
+plain_reply_at n (word ∷ words) =
     if bytes_eq word (codes "=")
     then (if has_results n || n == MACH_MSG then results_at n words else stop expected.End (word ∷ words))
     else if bytes_eq word (codes "!") then refusal_at n words
     else stop expected.Results (word ∷ words)
 
 -- the reply is one of a call of its own number
+abbrev pub IsPlainOwn : PlainReply → Type 0
+IsPlainOwn (reply.Refused number code) = number ≢ MACH_MSG
+IsPlainOwn (reply.Done number) = IsTrue (not (has_results number || number == MACH_MSG))
+IsPlainOwn answer = Unit {0}
+
+unfoldable pub own_reply_at : ℕ → List (List ℕ) → Reading Reply
+own_reply_at n words = plain_reply_at n words >>= λ r. Ok (variants.Plain r)
+
+-- the request, and what a call of this number answered, which is numbered
+unfoldable pub made_at : ℕ → List (List ℕ) → Reading Reply
+made_at n words = do
+  request ← value_at Decimal words
+  r ← plain_reply_at n request.1
+  Ok (variants.Numbered (record { request = request.0; reply = r }))
+
+-- what number 22 answered, by which a call of this number is numbered: it was made, or refused
+unfoldable pub numbered_reply_at : ℕ → List (List ℕ) → Reading Reply
+numbered_reply_at n words =
+    elim (label_at (codes ":") words) [ None ↦ own_reply_at NUMBERED words | Some rest ↦ made_at n rest ]
+
+-- what a call answered
+unfoldable pub reply_at : Call → List (List ℕ) → Reading Reply
+reply_at (Plain c) words = own_reply_at (number_of_call c) words
+reply_at (Numbered numbered) words = numbered_reply_at (number_of_call numbered.call) words
+reply_at Unnumberable words = own_reply_at NUMBERED words
+
+-- The reply is one of a call of its own number, and a reply of number 22 to a call that was made has one of the call
+-- that is numbered. That it was made before isn't seen.
 abbrev pub IsOwn : Reply → Type 0
-IsOwn (reply.Refused number code) = number ≢ MACH_MSG
-IsOwn (reply.Done number) = IsTrue (not (has_results number || number == MACH_MSG))
-IsOwn answer = Unit {0}
+IsOwn (variants.Plain answer) = IsPlainOwn answer
+IsOwn (variants.Numbered answer) = IsPlainOwn answer.reply
+IsOwn (variants.Repeated answer) = ⊥
+
+-- The reply is one to this call.
+abbrev pub IsOfCall : Call → Reply → Type 0
+IsOfCall (Plain c) (variants.Plain answer) = number_of_reply answer ≡ number_of_call c
+IsOfCall (Numbered numbered) (variants.Plain answer) = number_of_reply answer ≡ NUMBERED
+IsOfCall (Numbered numbered) (variants.Numbered answer) =
+    number_of_reply answer.reply ≡ number_of_call numbered.call
+IsOfCall c answer = ⊥

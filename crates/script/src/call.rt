@@ -1,25 +1,25 @@
 ghost use Rattle.script_words.specs.Spaced.{words_of};
-ghost use Rattle.script.specs.Calls.{receive_at, send_at, after_at, call_at};
+ghost use Rattle.script.specs.Calls.{after_at, call_at, numbered_at, own_call_at, plain_call_at, receive_at, send_at};
 ghost use Rattle.script.specs.Reading.{Gives};
 
 use crate::fault::{Expected, Fault};
 use crate::message::read_message;
 use crate::plain::read_plain;
-use crate::values::{read_flag, read_labelled, read_value};
-use ipc_model::{Call, Sequence};
+use crate::values::{after_label, read_flag, read_labelled, read_value};
+use ipc_model::{Call, NumberedCall, PlainCall, Sequence};
 use script_words::{Kind, Verb, large_word, take_word};
 use std::alloc::Global;
 
 /// The receive whose arguments are in front.
 #[tactic(auto, unfolding(crate::specs::Calls::receive_at))]
-fn read_receive(text: &[u8]) -> Result<(Call, &[u8]), Fault>
+fn read_receive(text: &[u8]) -> Result<(PlainCall, &[u8]), Fault>
     ensures { Gives (λ r. (r.0, words_of r.1.now)) result (receive_at (words_of text.now)) }
 {
     let (name, rest) = read_value(Kind::Hexadecimal, text)?;
     let (limit, rest) = read_labelled(b"limit", Kind::Decimal, rest)?;
     let (large, rest) = read_flag(large_word(), rest);
     let (waited, rest) = read_flag(b"waited", rest);
-    let call = Call::Receive {
+    let call = PlainCall::Receive {
         limit,
         large,
         name,
@@ -30,17 +30,17 @@ fn read_receive(text: &[u8]) -> Result<(Call, &[u8]), Fault>
 
 /// The send whose message is in front.
 #[tactic(auto, unfolding(crate::specs::Calls::send_at))]
-fn read_send(alloc: Global, text: &[u8]) -> Result<(Call, &[u8]), Fault>
+fn read_send(alloc: Global, text: &[u8]) -> Result<(PlainCall, &[u8]), Fault>
     ensures { Gives (λ r. (r.0, words_of r.1.now)) result (send_at (words_of text.now)) }
 {
     let (message, rest) = read_message(alloc, text)?;
     let message = Sequence::new(message);
-    Ok((Call::Send { message }, rest))
+    Ok((PlainCall::Send { message }, rest))
 }
 
 /// The call of a verb whose arguments are in front.
 #[tactic(auto, unfolding(crate::specs::Calls::after_at))]
-fn read_after(alloc: Global, verb: Verb, text: &[u8]) -> Result<(Call, &[u8]), Fault>
+fn read_after(alloc: Global, verb: Verb, text: &[u8]) -> Result<(PlainCall, &[u8]), Fault>
     ensures { Gives (λ r. (r.0, words_of r.1.now)) result (after_at verb (words_of text.now)) }
 {
     match verb {
@@ -50,10 +50,10 @@ fn read_after(alloc: Global, verb: Verb, text: &[u8]) -> Result<(Call, &[u8]), F
     }
 }
 
-/// The call in front, and the text after it.
-#[tactic(auto, unfolding(crate::specs::Calls::call_at))]
-pub(crate) fn read_call(alloc: Global, text: &[u8]) -> Result<(Call, &[u8]), Fault>
-    ensures { Gives (λ r. (r.0, words_of r.1.now)) result (call_at (words_of text.now)) }
+/// The call in front, which isn't numbered, and the text after it.
+#[tactic(auto, unfolding(crate::specs::Calls::plain_call_at))]
+fn read_plain_call(alloc: Global, text: &[u8]) -> Result<(PlainCall, &[u8]), Fault>
+    ensures { Gives (λ r. (r.0, words_of r.1.now)) result (plain_call_at (words_of text.now)) }
 {
     let Some((word, rest)) = take_word(text) else {
         return Err(Fault::expected(Expected::CallName, text));
@@ -61,5 +61,36 @@ pub(crate) fn read_call(alloc: Global, text: &[u8]) -> Result<(Call, &[u8]), Fau
     match Verb::of_word(word) {
         Some(verb) => read_after(alloc, verb, rest),
         None => Err(Fault::expected(Expected::CallName, text)),
+    }
+}
+
+/// The same, as a call that isn't numbered.
+#[tactic(auto, unfolding(crate::specs::Calls::own_call_at))]
+fn read_own_call(alloc: Global, text: &[u8]) -> Result<(Call, &[u8]), Fault>
+    ensures { Gives (λ r. (r.0, words_of r.1.now)) result (own_call_at (words_of text.now)) }
+{
+    let (call, rest) = read_plain_call(alloc, text)?;
+    Ok((Call::Plain(call), rest))
+}
+
+/// The request in front and the call that is numbered, and the text after them.
+#[tactic(auto, unfolding(crate::specs::Calls::numbered_at))]
+fn read_numbered(alloc: Global, text: &[u8]) -> Result<(Call, &[u8]), Fault>
+    ensures { Gives (λ r. (r.0, words_of r.1.now)) result (numbered_at (words_of text.now)) }
+{
+    let (request, rest) = read_value(Kind::Decimal, text)?;
+    let (call, rest) = read_plain_call(alloc, rest)?;
+    let numbered = NumberedCall { request, call };
+    Ok((Call::Numbered(numbered), rest))
+}
+
+/// The call in front, and the text after it.
+#[tactic(auto, unfolding(crate::specs::Calls::call_at))]
+pub(crate) fn read_call(alloc: Global, text: &[u8]) -> Result<(Call, &[u8]), Fault>
+    ensures { Gives (λ r. (r.0, words_of r.1.now)) result (call_at (words_of text.now)) }
+{
+    match after_label(b"numbered", text) {
+        Some(rest) => read_numbered(alloc, rest),
+        None => read_own_call(alloc, text),
     }
 }

@@ -35,7 +35,7 @@ fn read_words(alloc: Global, line: &[u8]) -> Result<Exchange, Fault>
     ensures { Gives (λ x. x) result (exchange_at (words_of line.now)) }
 {
     let (call, rest) = read_call(alloc, line)?;
-    let reply = read_reply(alloc, call.number(), rest)?;
+    let reply = read_reply(alloc, &call, rest)?;
     Ok(Exchange { call, reply })
 }
 

@@ -5,7 +5,7 @@ ghost use Rattle.script.specs.Reading.{Gives};
 
 use crate::fault::{Expected, Fault};
 use crate::values::read_value;
-use ipc_model::Call;
+use ipc_model::PlainCall;
 use script_words::{Kind, Verb};
 
 /// How the arguments of a call are written, with `Absent` after the last.
@@ -103,82 +103,82 @@ fn read_arguments(kinds: Kinds, text: &[u8]) -> Result<(Arguments, &[u8]), Fault
 }
 
 /// The call that has at most one argument.
-fn short_call(verb: Verb, first: u32) -> Option<Call>
+fn short_call(verb: Verb, first: u32) -> Option<PlainCall>
     ensures { result ≡ short_call verb first }
 {
     Some(match verb {
-        Verb::Attach => Call::Attach { space: first },
-        Verb::Names => Call::Names,
-        Verb::Type => Call::Type { name: first },
-        Verb::Allocate => Call::Allocate { right: first },
-        Verb::Destroy => Call::Destroy { name: first },
-        Verb::Deallocate => Call::Deallocate { name: first },
-        Verb::GetReceiveStatus => Call::GetReceiveStatus { name: first },
-        Verb::GetSetStatus => Call::GetSetStatus { name: first },
-        Verb::SpaceDestroy => Call::SpaceDestroy,
+        Verb::Attach => PlainCall::Attach { space: first },
+        Verb::Names => PlainCall::Names,
+        Verb::Type => PlainCall::Type { name: first },
+        Verb::Allocate => PlainCall::Allocate { right: first },
+        Verb::Destroy => PlainCall::Destroy { name: first },
+        Verb::Deallocate => PlainCall::Deallocate { name: first },
+        Verb::GetReceiveStatus => PlainCall::GetReceiveStatus { name: first },
+        Verb::GetSetStatus => PlainCall::GetSetStatus { name: first },
+        Verb::SpaceDestroy => PlainCall::SpaceDestroy,
         _ => return None,
     })
 }
 
 /// The call that has two arguments, the first of which is a name in all but one.
-fn pair_call(verb: Verb, name: u32, second: u32) -> Option<Call>
+fn pair_call(verb: Verb, name: u32, second: u32) -> Option<PlainCall>
     ensures { result ≡ pair_call verb name second }
 {
     let disposition = second;
     Some(match verb {
-        Verb::Rename => Call::Rename {
+        Verb::Rename => PlainCall::Rename {
             from: name,
             to: second,
         },
-        Verb::AllocateName => Call::AllocateName {
+        Verb::AllocateName => PlainCall::AllocateName {
             right: name,
             name: second,
         },
-        Verb::GetRefs => Call::GetRefs {
+        Verb::GetRefs => PlainCall::GetRefs {
             name,
             right: second,
         },
-        Verb::SetQlimit => Call::SetQlimit {
+        Verb::SetQlimit => PlainCall::SetQlimit {
             name,
             limit: second,
         },
-        Verb::SetMscount => Call::SetMscount {
+        Verb::SetMscount => PlainCall::SetMscount {
             name,
             count: second,
         },
-        Verb::SetSeqno => Call::SetSeqno {
+        Verb::SetSeqno => PlainCall::SetSeqno {
             name,
             seqno: second,
         },
-        Verb::MoveMember => Call::MoveMember {
+        Verb::MoveMember => PlainCall::MoveMember {
             member: name,
             after: second,
         },
-        Verb::ExtractRight => Call::ExtractRight { name, disposition },
-        Verb::SpaceCreate => Call::SpaceCreate { name, disposition },
+        Verb::ExtractRight => PlainCall::ExtractRight { name, disposition },
+        Verb::SpaceCreate => PlainCall::SpaceCreate { name, disposition },
         _ => return None,
     })
 }
 
 /// The call that has more arguments.
-fn long_call(verb: Verb, arguments: Arguments) -> Option<Call>
+fn long_call(verb: Verb, arguments: Arguments) -> Option<PlainCall>
     ensures { result ≡ long_call verb arguments }
 {
     let name = arguments.first;
     Some(match verb {
-        Verb::ModRefs => Call::ModRefs {
+        Verb::ModRefs => PlainCall::ModRefs {
             name,
             right: arguments.second,
             delta: arguments.third,
         },
-        Verb::RequestNotification => Call::RequestNotification {
+        Verb::RequestNotification => PlainCall::RequestNotification {
             name,
             variant: arguments.second,
             sync: arguments.third,
             notify: arguments.fourth,
             disposition: arguments.fifth,
         },
-        Verb::InsertRight => Call::InsertRight {
+        Verb::InsertRight => PlainCall::InsertRight {
             name,
             right_name: arguments.second,
             disposition: arguments.third,
@@ -188,7 +188,7 @@ fn long_call(verb: Verb, arguments: Arguments) -> Option<Call>
 }
 
 /// The call of a verb with these arguments, for every call but `mach_msg`.
-fn plain_call(verb: Verb, arguments: Arguments) -> Option<Call>
+fn plain_call(verb: Verb, arguments: Arguments) -> Option<PlainCall>
     ensures { result ≡ plain_call verb arguments }
 {
     if let Some(call) = short_call(verb, arguments.first) {
@@ -202,7 +202,7 @@ fn plain_call(verb: Verb, arguments: Arguments) -> Option<Call>
 
 /// The call of a verb with the arguments in front of a text, for every call but `mach_msg`.
 #[tactic(auto, unfolding(crate::specs::Plain::plain_at))]
-pub(crate) fn read_plain(verb: Verb, text: &[u8]) -> Result<(Call, &[u8]), Fault>
+pub(crate) fn read_plain(verb: Verb, text: &[u8]) -> Result<(PlainCall, &[u8]), Fault>
     ensures { Gives (λ r. (r.0, words_of r.1.now)) result (plain_at verb (words_of text.now)) }
 {
     let (arguments, rest) = read_arguments(kinds_of(verb), text)?;

@@ -2,7 +2,7 @@ ghost use Rattle.std.specs.Prelude.{◌≡◌, ◌||◌, ◌==◌};
 ghost use Rattle.std.specs.Option.{option_map};
 ghost use Rattle.script_words.specs.Spaced.{words_of};
 ghost use Rattle.script.specs.Reading.{Gives, last};
-ghost use Rattle.script.specs.Replies.{yes_or_no_at, answer_at, kind_at, counts_at, status_at, named_at, member_at, names_at, members_at, received_at, message_reply_at, extracted_at, space_created_at, last_value, last_status_at, results_at, has_results, silence, refusal_at, reply_at};
+ghost use Rattle.script.specs.Replies.{yes_or_no_at, answer_at, kind_at, counts_at, status_at, named_at, member_at, names_at, members_at, received_at, message_reply_at, extracted_at, space_created_at, last_value, last_status_at, results_at, has_results, silence, refusal_at, plain_reply_at, own_reply_at, made_at, numbered_reply_at, reply_at};
 
 use crate::fault::{Expected, Fault};
 use crate::message::read_message;
@@ -10,9 +10,11 @@ use crate::values::{after_label, read_labelled, read_optional, read_value};
 use codes::{
     KernReturn, MACH_MSG, MACH_PORT_ALLOCATE, MACH_PORT_EXTRACT_RIGHT,
     MACH_PORT_GET_RECEIVE_STATUS, MACH_PORT_GET_REFS, MACH_PORT_GET_SET_STATUS, MACH_PORT_NAMES,
-    MACH_PORT_REQUEST_NOTIFICATION, MACH_PORT_TYPE, SPACE_CREATE,
+    MACH_PORT_REQUEST_NOTIFICATION, MACH_PORT_TYPE, NUMBERED, SPACE_CREATE,
 };
-use ipc_model::{NamedType, ReceiveStatus, Reply, RightKind, Sequence};
+use ipc_model::{
+    Call, NamedType, NumberedReply, PlainReply, ReceiveStatus, Reply, RightKind, Sequence,
+};
 use script_words::{Kind, code_of_word, take_word};
 use std::alloc::Global;
 
@@ -182,14 +184,14 @@ fn read_received(alloc: Global, text: &[u8]) -> Result<(Vec<u8>, &[u8]), Fault>
 
 /// The answer of a `mach_msg` with this code.
 #[tactic(auto, unfolding(crate::specs::Replies::message_reply_at))]
-fn read_message_reply(alloc: Global, code: KernReturn, text: &[u8]) -> Result<Reply, Fault>
+fn read_message_reply(alloc: Global, code: KernReturn, text: &[u8]) -> Result<PlainReply, Fault>
     ensures { Gives (λ r. r) result (message_reply_at code (words_of text.now)) }
 {
     let (size, rest) = read_optional(b"size", Kind::Decimal, text)?;
     let (member, rest) = read_optional(b"member", Kind::Hexadecimal, rest)?;
     let (message, rest) = read_received(alloc, rest)?;
     let message = Sequence::new(message);
-    let reply = Reply::Message {
+    let reply = PlainReply::Message {
         code,
         size,
         member,
@@ -199,21 +201,21 @@ fn read_message_reply(alloc: Global, code: KernReturn, text: &[u8]) -> Result<Re
 }
 
 #[tactic(auto, unfolding(crate::specs::Replies::extracted_at))]
-fn read_extracted(text: &[u8]) -> Result<Reply, Fault>
+fn read_extracted(text: &[u8]) -> Result<PlainReply, Fault>
     ensures { Gives (λ r. r) result (extracted_at (words_of text.now)) }
 {
     let (name, rest) = read_value(Kind::Hexadecimal, text)?;
     let (kind, rest) = read_kind(rest)?;
-    last(Reply::Extracted { name, kind }, rest)
+    last(PlainReply::Extracted { name, kind }, rest)
 }
 
 #[tactic(auto, unfolding(crate::specs::Replies::space_created_at))]
-fn read_space_created(text: &[u8]) -> Result<Reply, Fault>
+fn read_space_created(text: &[u8]) -> Result<PlainReply, Fault>
     ensures { Gives (λ r. r) result (space_created_at (words_of text.now)) }
 {
     let (space, rest) = read_labelled(b"space", Kind::Decimal, text)?;
     let (name, rest) = read_labelled(b"name", Kind::Hexadecimal, rest)?;
-    last(Reply::SpaceCreated { space, name }, rest)
+    last(PlainReply::SpaceCreated { space, name }, rest)
 }
 
 /// The one number that is left.
@@ -226,43 +228,43 @@ fn read_last(kind: Kind, text: &[u8]) -> Result<u32, Fault>
 }
 
 #[tactic(auto, unfolding(crate::specs::Replies::last_status_at))]
-fn read_last_status(text: &[u8]) -> Result<Reply, Fault>
+fn read_last_status(text: &[u8]) -> Result<PlainReply, Fault>
     ensures { Gives (λ r. r) result (last_status_at (words_of text.now)) }
 {
     let (status, rest) = read_status(text)?;
-    last(Reply::ReceiveStatus { status }, rest)
+    last(PlainReply::ReceiveStatus { status }, rest)
 }
 
 /// The results of a call with this number.
 #[tactic(auto, unfolding(crate::specs::Replies::results_at))]
-fn read_results(alloc: Global, number: u32, text: &[u8]) -> Result<Reply, Fault>
+fn read_results(alloc: Global, number: u32, text: &[u8]) -> Result<PlainReply, Fault>
     ensures { Gives (λ r. r) result (results_at number (words_of text.now)) }
 {
     match number {
         MACH_PORT_NAMES => {
             let names = read_names(alloc, text)?;
-            Ok(Reply::Names { names })
+            Ok(PlainReply::Names { names })
         }
         MACH_PORT_TYPE => {
             let bits = read_last(Kind::Hexadecimal, text)?;
-            Ok(Reply::Type { bits })
+            Ok(PlainReply::Type { bits })
         }
         MACH_PORT_ALLOCATE => {
             let name = read_last(Kind::Hexadecimal, text)?;
-            Ok(Reply::Allocate { name })
+            Ok(PlainReply::Allocate { name })
         }
         MACH_PORT_GET_REFS => {
             let count = read_last(Kind::Decimal, text)?;
-            Ok(Reply::References { count })
+            Ok(PlainReply::References { count })
         }
         MACH_PORT_GET_RECEIVE_STATUS => read_last_status(text),
         MACH_PORT_GET_SET_STATUS => {
             let members = read_members(alloc, text)?;
-            Ok(Reply::SetStatus { members })
+            Ok(PlainReply::SetStatus { members })
         }
         MACH_PORT_REQUEST_NOTIFICATION => {
             let name = read_last(Kind::Hexadecimal, text)?;
-            Ok(Reply::PreviousTarget { name })
+            Ok(PlainReply::PreviousTarget { name })
         }
         MACH_PORT_EXTRACT_RIGHT => read_extracted(text),
         MACH_MSG => read_message_reply(alloc, KernReturn::Success, text),
@@ -286,13 +288,14 @@ fn may_tell(number: u32) -> bool
             | MACH_PORT_REQUEST_NOTIFICATION
             | MACH_PORT_EXTRACT_RIGHT
             | SPACE_CREATE
+            | NUMBERED
             | MACH_MSG
     )
 }
 
 /// The answer to the call with this number if the line gives none.
 #[tactic(auto, unfolding(crate::specs::Replies::silence))]
-fn read_silence(alloc: Global, number: u32, text: &[u8]) -> Result<Reply, Fault>
+fn read_silence(alloc: Global, number: u32, text: &[u8]) -> Result<PlainReply, Fault>
     ensures { Gives (λ r. r) result (silence number (words_of text.now)) }
 {
     match number {
@@ -304,15 +307,16 @@ fn read_silence(alloc: Global, number: u32, text: &[u8]) -> Result<Reply, Fault>
         | MACH_PORT_GET_SET_STATUS
         | MACH_PORT_REQUEST_NOTIFICATION
         | MACH_PORT_EXTRACT_RIGHT
-        | SPACE_CREATE => Err(Fault::expected(Expected::Results, text)),
-        MACH_MSG => Ok(Reply::without_message(alloc, KernReturn::Success, 0, 0)),
-        _ => Ok(Reply::Done { number }),
+        | SPACE_CREATE
+        | NUMBERED => Err(Fault::expected(Expected::Results, text)),
+        MACH_MSG => Ok(PlainReply::without_message(alloc, KernReturn::Success, 0, 0)),
+        _ => Ok(PlainReply::Done { number }),
     }
 }
 
 /// How a call with this number was refused.
 #[tactic(auto, unfolding(crate::specs::Replies::refusal_at))]
-fn read_refusal(alloc: Global, number: u32, text: &[u8]) -> Result<Reply, Fault>
+fn read_refusal(alloc: Global, number: u32, text: &[u8]) -> Result<PlainReply, Fault>
     ensures { Gives (λ r. r) result (refusal_at number (words_of text.now)) }
 {
     let Some((word, rest)) = take_word(text) else {
@@ -324,13 +328,13 @@ fn read_refusal(alloc: Global, number: u32, text: &[u8]) -> Result<Reply, Fault>
     if number == MACH_MSG {
         return read_message_reply(alloc, code, rest);
     }
-    last(Reply::Refused { number, code }, rest)
+    last(PlainReply::Refused { number, code }, rest)
 }
 
-/// The answer to the call with this number. The text is all that is left of the line.
-#[tactic(auto, unfolding(crate::specs::Replies::reply_at))]
-pub(crate) fn read_reply(alloc: Global, number: u32, text: &[u8]) -> Result<Reply, Fault>
-    ensures { Gives (λ r. r) result (reply_at number (words_of text.now)) }
+/// The answer to the call with this number, which isn't numbered. The text is all that is left of the line.
+#[tactic(auto, unfolding(crate::specs::Replies::plain_reply_at))]
+fn read_plain_reply(alloc: Global, number: u32, text: &[u8]) -> Result<PlainReply, Fault>
+    ensures { Gives (λ r. r) result (plain_reply_at number (words_of text.now)) }
 {
     let Some((word, rest)) = take_word(text) else {
         return read_silence(alloc, number, text);
@@ -345,4 +349,46 @@ pub(crate) fn read_reply(alloc: Global, number: u32, text: &[u8]) -> Result<Repl
         return read_refusal(alloc, number, rest);
     }
     Err(Fault::expected(Expected::Results, text))
+}
+
+/// The same, as a reply to a call that isn't numbered, or to one that was refused.
+#[tactic(auto, unfolding(crate::specs::Replies::own_reply_at))]
+fn read_own_reply(alloc: Global, number: u32, text: &[u8]) -> Result<Reply, Fault>
+    ensures { Gives (λ r. r) result (own_reply_at number (words_of text.now)) }
+{
+    let reply = read_plain_reply(alloc, number, text)?;
+    Ok(Reply::Plain(reply))
+}
+
+/// The request in front, and the answer to the call with this number, which was numbered by it.
+#[tactic(auto, unfolding(crate::specs::Replies::made_at))]
+fn read_made(alloc: Global, number: u32, text: &[u8]) -> Result<Reply, Fault>
+    ensures { Gives (λ r. r) result (made_at number (words_of text.now)) }
+{
+    let (request, rest) = read_value(Kind::Decimal, text)?;
+    let reply = read_plain_reply(alloc, number, rest)?;
+    Ok(Reply::Numbered(NumberedReply { request, reply }))
+}
+
+/// The answer of number 22, by which a call with this number is numbered.
+#[tactic(auto, unfolding(crate::specs::Replies::numbered_reply_at))]
+fn read_numbered_reply(alloc: Global, number: u32, text: &[u8]) -> Result<Reply, Fault>
+    ensures { Gives (λ r. r) result (numbered_reply_at number (words_of text.now)) }
+{
+    match after_label(b":", text) {
+        Some(rest) => read_made(alloc, number, rest),
+        None => read_own_reply(alloc, NUMBERED, text),
+    }
+}
+
+/// The answer to a call. The text is all that is left of the line.
+#[tactic(auto, unfolding(crate::specs::Replies::reply_at))]
+pub(crate) fn read_reply(alloc: Global, call: &Call, text: &[u8]) -> Result<Reply, Fault>
+    ensures { Gives (λ r. r) result (reply_at call.now (words_of text.now)) }
+{
+    match call {
+        Call::Plain(call) => read_own_reply(alloc, call.number(), text),
+        Call::Numbered(numbered) => read_numbered_reply(alloc, numbered.call.number(), text),
+        Call::Unnumberable => read_own_reply(alloc, NUMBERED, text),
+    }
 }

@@ -1,6 +1,6 @@
 -- Rows that are printed one after another.
 use Rattle.std.proofs.Common.{◌≡◌, ℕ, List, [], ◌∷◌, length, refl, arith}
-use Rattle.ipc_model.specs.declared.call.NamedType.{NamedType}
+use Rattle.ipc_model.specs.declared.plain_reply.NamedType.{NamedType}
 use Rattle.script_printing.specs.Replies.{names_words, members_words}
 
 -- no rows have no words

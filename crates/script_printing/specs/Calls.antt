@@ -1,7 +1,9 @@
 -- The words of calls.
 use Rattle.std.specs.Prelude.{ℕ, Bool, List, [], ◌∷◌, ◌++◌, codes}
 use Rattle.ipc_model.specs.declared.call.Call.{Call}
-use Rattle.ipc_model.specs.declared.call.Call.TheVariants as call
+use Rattle.ipc_model.specs.declared.call.Call.TheVariants.{Plain, Numbered, Unnumberable}
+use Rattle.ipc_model.specs.declared.plain_call.PlainCall.{PlainCall}
+use Rattle.ipc_model.specs.declared.plain_call.PlainCall.TheVariants as call
 use Rattle.script_words.specs.declared.kind.Kind.TheVariants.{Hexadecimal, Decimal, Signed, Right, Disposition, Notification}
 use Rattle.script_words.specs.declared.verb.Verb.{Verb}
 use Rattle.script_words.specs.declared.verb.Verb.TheVariants as verb
@@ -10,7 +12,7 @@ use Rattle.script_words.specs.Spaced.{line_of}
 use Rattle.script_words.specs.Verbs.{verb_word}
 use Rattle.script_printing.specs.Messages.{message_words, flag_words}
 
-abbrev pub verb_of : Call → Verb
+abbrev pub verb_of : PlainCall → Verb
 verb_of (call.Attach space) = verb.Attach
 verb_of call.Names = verb.Names
 verb_of (call.Type name) = verb.Type
@@ -54,7 +56,7 @@ receive_words limit large name waited =
     ++ flag_words (codes "waited") waited
 
 -- the arguments of the calls that have two, the first of which is a name
-abbrev pub pair_words : Call → List (List ℕ)
+abbrev pub pair_words : PlainCall → List (List ℕ)
 pair_words (call.Rename from to) = name_word from ∷ name_word to ∷ []
 pair_words (call.GetRefs name right) = name_word name ∷ right_word right ∷ []
 pair_words (call.SetQlimit name limit) = name_word name ∷ count_word limit ∷ []
@@ -66,7 +68,7 @@ pair_words (call.SpaceCreate name disposition) = name_word name ∷ disposition_
 pair_words c = []
 
 -- the arguments of a call
-abbrev pub argument_words : Call → List (List ℕ)
+abbrev pub argument_words : PlainCall → List (List ℕ)
 argument_words (call.Attach space) = count_word space ∷ []
 argument_words call.Names = []
 argument_words (call.Type name) = name_word name ∷ []
@@ -87,9 +89,25 @@ argument_words (call.Receive limit large name waited) = receive_words limit larg
 argument_words call.SpaceDestroy = []
 argument_words c = pair_words c
 
--- the words of a call: its name and its arguments
+-- the words of a call that isn't numbered: its name and its arguments
+unfoldable pub plain_call_words : PlainCall → List (List ℕ)
+plain_call_words c = verb_word (verb_of c) ∷ argument_words c
+
+-- A call that is numbered has its request in front.
+abbrev pub first_word : Call → List ℕ
+first_word (Plain c) = verb_word (verb_of c)
+first_word (Numbered numbered) = codes "numbered"
+first_word Unnumberable = codes "numbered"
+
+abbrev pub further_words : Call → List (List ℕ)
+further_words (Plain c) = argument_words c
+further_words (Numbered numbered) =
+    count_word numbered.request ∷ verb_word (verb_of numbered.call) ∷ argument_words numbered.call
+further_words Unnumberable = []
+
+-- the words of a call
 unfoldable pub call_words : Call → List (List ℕ)
-call_words c = verb_word (verb_of c) ∷ argument_words c
+call_words c = first_word c ∷ further_words c
 
 -- the line of a call
 unfoldable pub call_line : Call → List ℕ

@@ -1,6 +1,6 @@
 -- The words of a body's items. Two kinds of items have a form, both short and inline: items of words of four bytes
 -- each, by their type, and items of bytes, followed by zeros up to a multiple of four.
-use Rattle.std.specs.Prelude.{◌≡◌, ℕ, zero, suc, ◌+◌, ◌*◌, ◌/◌, ◌%◌, nat_lt, ◌==◌, List, [], ◌∷◌, ◌++◌, length, take, drop, map, Option, None, Some, codes, if◌then◌else◌}
+use Rattle.std.specs.Prelude.{◌≡◌, ℕ, zero, suc, ◌*◌, ◌/◌, ◌%◌, nat_lt, ◌==◌, List, [], ◌∷◌, ◌++◌, length, take, drop, map, Option, None, Some, codes, if◌then◌else◌}
 use Rattle.std.specs.Str.{bytes_eq}
 use Rattle.byteorder.specs.Endian.{little_number}
 use Rattle.ipc_model.specs.messages.Items.{is_port_type}

@@ -1,6 +1,6 @@
 -- The lines of calls and replies.
 use Rattle.std.specs.Prelude.{ℕ, List, ◌++◌}
-use Rattle.ipc_model.specs.declared.call.Reply.{Reply}
+use Rattle.ipc_model.specs.declared.reply.Reply.{Reply}
 use Rattle.script_words.specs.Spaced.{line_of, spaced}
 use Rattle.script_printing.specs.declared.line.Exchange.{Exchange}
 use Rattle.script_printing.specs.Calls.{call_words}

@@ -2,10 +2,12 @@
 use Rattle.std.specs.Prelude.{ℕ, Bool, ◌==◌, ◌&&◌, List, [], ◌∷◌, ◌++◌, length, flat_map, map, codes, if◌then◌else◌}
 use Rattle.codes.specs.declared.kern_return.KernReturn.{KernReturn}
 use Rattle.codes.specs.declared.kern_return.KernReturn.TheVariants.{Success}
-use Rattle.ipc_model.specs.declared.call.NamedType.{NamedType}
-use Rattle.ipc_model.specs.declared.call.ReceiveStatus.{ReceiveStatus}
-use Rattle.ipc_model.specs.declared.call.Reply.{Reply}
-use Rattle.ipc_model.specs.declared.call.Reply.TheVariants as reply
+use Rattle.ipc_model.specs.declared.plain_reply.NamedType.{NamedType}
+use Rattle.ipc_model.specs.declared.plain_reply.ReceiveStatus.{ReceiveStatus}
+use Rattle.ipc_model.specs.declared.plain_reply.PlainReply.{PlainReply}
+use Rattle.ipc_model.specs.declared.plain_reply.PlainReply.TheVariants as reply
+use Rattle.ipc_model.specs.declared.reply.Reply.{Reply}
+use Rattle.ipc_model.specs.declared.reply.Reply.TheVariants as variants
 use Rattle.ipc_model.specs.declared.message.RightKind.{RightKind}
 use Rattle.ipc_model.specs.declared.message.RightKind.TheVariants as right
 use Rattle.script_words.specs.declared.kind.Kind.TheVariants.{Hexadecimal, Decimal}
@@ -61,7 +63,7 @@ message_reply_words code size member message =
     ++ optional_words (codes "member") Hexadecimal member ++ received_words message
 
 -- the results of a call that was done and has some
-abbrev pub result_words : Reply → List (List ℕ)
+abbrev pub result_words : PlainReply → List (List ℕ)
 result_words (reply.Names names) = names_words names
 result_words (reply.Type bits) = name_word bits ∷ []
 result_words (reply.Allocate name) = name_word name ∷ []
@@ -73,9 +75,16 @@ result_words (reply.Extracted name kind) = name_word name ∷ kind_word kind ∷
 result_words (reply.SpaceCreated space name) = codes "space" ∷ count_word space ∷ codes "name" ∷ name_word name ∷ []
 result_words answer = []
 
--- what follows a call
+-- what follows a call that isn't numbered
+abbrev pub plain_reply_words : PlainReply → List (List ℕ)
+plain_reply_words (reply.Refused number code) = codes "!" ∷ code_word code ∷ []
+plain_reply_words (reply.Done number) = []
+plain_reply_words (reply.Message code size member message) = message_reply_words code size member message
+plain_reply_words answer = codes "=" ∷ result_words answer
+
+-- What follows a call. One that is numbered and was made has its request after a colon, and then what the call that is
+-- numbered answered.
 abbrev pub reply_words : Reply → List (List ℕ)
-reply_words (reply.Refused number code) = codes "!" ∷ code_word code ∷ []
-reply_words (reply.Done number) = []
-reply_words (reply.Message code size member message) = message_reply_words code size member message
-reply_words answer = codes "=" ∷ result_words answer
+reply_words (variants.Plain answer) = plain_reply_words answer
+reply_words (variants.Numbered answer) = codes ":" ∷ count_word answer.request ∷ plain_reply_words answer.reply
+reply_words (variants.Repeated answer) = codes ":" ∷ count_word answer.request ∷ plain_reply_words answer.reply

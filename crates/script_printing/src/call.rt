@@ -1,44 +1,44 @@
-ghost use Rattle.std.specs.Prelude.{◌≡◌, ◌++◌, ◌∷◌, [], OnOk};
-ghost use Rattle.ipc_model.specs.declared.call.Call.TheVariants as call_variants;
+ghost use Rattle.std.specs.Prelude.{◌≡◌, ◌++◌, ◌∷◌, [], OnOk, codes};
+ghost use Rattle.ipc_model.specs.declared.plain_call.PlainCall.TheVariants as call_variants;
 ghost use Rattle.script_words.specs.Kinds.{value_word};
 ghost use Rattle.script_words.specs.Spaced.{spaced};
 ghost use Rattle.script_words.specs.Verbs.{verb_word};
-ghost use Rattle.script_printing.specs.Calls.{verb_of, receive_words, pair_words, argument_words};
+ghost use Rattle.script_printing.specs.Calls.{argument_words, count_word, first_word, further_words, pair_words, receive_words, verb_of};
 
 use crate::message::{push_flag, push_labelled, push_message};
 use crate::values::{push_three, push_two};
-use ipc_model::Call;
-use script_words::{Kind, Verb, large_word, push_value};
+use ipc_model::{Call, PlainCall};
+use script_words::{Kind, Verb, large_word, push_spaced, push_value};
 use std::alloc::AllocError;
 
 /// The verb of a call.
-fn verb_of(call: &Call) -> Verb
+fn verb_of(call: &PlainCall) -> Verb
     ensures { result ≡ verb_of call.now }
 {
     match call {
-        Call::Attach { .. } => Verb::Attach,
-        Call::Names => Verb::Names,
-        Call::Type { .. } => Verb::Type,
-        Call::Rename { .. } => Verb::Rename,
-        Call::AllocateName { .. } => Verb::AllocateName,
-        Call::Allocate { .. } => Verb::Allocate,
-        Call::Destroy { .. } => Verb::Destroy,
-        Call::Deallocate { .. } => Verb::Deallocate,
-        Call::GetRefs { .. } => Verb::GetRefs,
-        Call::ModRefs { .. } => Verb::ModRefs,
-        Call::SetQlimit { .. } => Verb::SetQlimit,
-        Call::SetMscount { .. } => Verb::SetMscount,
-        Call::SetSeqno { .. } => Verb::SetSeqno,
-        Call::GetReceiveStatus { .. } => Verb::GetReceiveStatus,
-        Call::GetSetStatus { .. } => Verb::GetSetStatus,
-        Call::MoveMember { .. } => Verb::MoveMember,
-        Call::RequestNotification { .. } => Verb::RequestNotification,
-        Call::InsertRight { .. } => Verb::InsertRight,
-        Call::ExtractRight { .. } => Verb::ExtractRight,
-        Call::Send { .. } => Verb::Send,
-        Call::Receive { .. } => Verb::Receive,
-        Call::SpaceCreate { .. } => Verb::SpaceCreate,
-        Call::SpaceDestroy => Verb::SpaceDestroy,
+        PlainCall::Attach { .. } => Verb::Attach,
+        PlainCall::Names => Verb::Names,
+        PlainCall::Type { .. } => Verb::Type,
+        PlainCall::Rename { .. } => Verb::Rename,
+        PlainCall::AllocateName { .. } => Verb::AllocateName,
+        PlainCall::Allocate { .. } => Verb::Allocate,
+        PlainCall::Destroy { .. } => Verb::Destroy,
+        PlainCall::Deallocate { .. } => Verb::Deallocate,
+        PlainCall::GetRefs { .. } => Verb::GetRefs,
+        PlainCall::ModRefs { .. } => Verb::ModRefs,
+        PlainCall::SetQlimit { .. } => Verb::SetQlimit,
+        PlainCall::SetMscount { .. } => Verb::SetMscount,
+        PlainCall::SetSeqno { .. } => Verb::SetSeqno,
+        PlainCall::GetReceiveStatus { .. } => Verb::GetReceiveStatus,
+        PlainCall::GetSetStatus { .. } => Verb::GetSetStatus,
+        PlainCall::MoveMember { .. } => Verb::MoveMember,
+        PlainCall::RequestNotification { .. } => Verb::RequestNotification,
+        PlainCall::InsertRight { .. } => Verb::InsertRight,
+        PlainCall::ExtractRight { .. } => Verb::ExtractRight,
+        PlainCall::Send { .. } => Verb::Send,
+        PlainCall::Receive { .. } => Verb::Receive,
+        PlainCall::SpaceCreate { .. } => Verb::SpaceCreate,
+        PlainCall::SpaceDestroy => Verb::SpaceDestroy,
     }
 }
 
@@ -95,19 +95,20 @@ fn push_name_and(line: &mut Vec<u8>, name: u32, kind: Kind, number: u32) -> Resu
 
 /// Adds the words of the arguments of a call that has two, a name first.
 #[tactic(auto, using(script_words::proofs::WordsOf::spaced_laws))]
-fn push_pair(line: &mut Vec<u8>, call: &Call) -> Result<(), AllocError>
+fn push_pair(line: &mut Vec<u8>, call: &PlainCall) -> Result<(), AllocError>
     ensures { OnOk result (line.new.items ≡ line.old.items ++ spaced (pair_words call.now)) }
 {
     match call {
-        Call::Rename { from, to } => push_name_and(line, *from, Kind::Hexadecimal, *to),
-        Call::GetRefs { name, right } => push_name_and(line, *name, Kind::Right, *right),
-        Call::SetQlimit { name, limit } => push_name_and(line, *name, Kind::Decimal, *limit),
-        Call::SetMscount { name, count } => push_name_and(line, *name, Kind::Decimal, *count),
-        Call::SetSeqno { name, seqno } => push_name_and(line, *name, Kind::Decimal, *seqno),
-        Call::MoveMember { member, after } => {
+        PlainCall::Rename { from, to } => push_name_and(line, *from, Kind::Hexadecimal, *to),
+        PlainCall::GetRefs { name, right } => push_name_and(line, *name, Kind::Right, *right),
+        PlainCall::SetQlimit { name, limit } => push_name_and(line, *name, Kind::Decimal, *limit),
+        PlainCall::SetMscount { name, count } => push_name_and(line, *name, Kind::Decimal, *count),
+        PlainCall::SetSeqno { name, seqno } => push_name_and(line, *name, Kind::Decimal, *seqno),
+        PlainCall::MoveMember { member, after } => {
             push_name_and(line, *member, Kind::Hexadecimal, *after)
         }
-        Call::ExtractRight { name, disposition } | Call::SpaceCreate { name, disposition } => {
+        PlainCall::ExtractRight { name, disposition }
+        | PlainCall::SpaceCreate { name, disposition } => {
             push_name_and(line, *name, Kind::Disposition, *disposition)
         }
         _ => Ok(()),
@@ -131,39 +132,39 @@ fn push_insertion(
 
 /// Adds the words of a call's arguments.
 #[tactic(auto, using(script_words::proofs::WordsOf::spaced_laws))]
-fn push_arguments(line: &mut Vec<u8>, call: &Call) -> Result<(), AllocError>
+fn push_arguments(line: &mut Vec<u8>, call: &PlainCall) -> Result<(), AllocError>
     ensures { OnOk result (line.new.items ≡ line.old.items ++ spaced (argument_words call.now)) }
 {
     match call {
-        Call::Names | Call::SpaceDestroy => Ok(()),
-        Call::Attach { space } => push_value(line, Kind::Decimal, *space),
-        Call::Allocate { right } => push_value(line, Kind::Right, *right),
-        Call::Type { name }
-        | Call::Destroy { name }
-        | Call::Deallocate { name }
-        | Call::GetReceiveStatus { name }
-        | Call::GetSetStatus { name } => push_value(line, Kind::Hexadecimal, *name),
-        Call::AllocateName { right, name } => {
+        PlainCall::Names | PlainCall::SpaceDestroy => Ok(()),
+        PlainCall::Attach { space } => push_value(line, Kind::Decimal, *space),
+        PlainCall::Allocate { right } => push_value(line, Kind::Right, *right),
+        PlainCall::Type { name }
+        | PlainCall::Destroy { name }
+        | PlainCall::Deallocate { name }
+        | PlainCall::GetReceiveStatus { name }
+        | PlainCall::GetSetStatus { name } => push_value(line, Kind::Hexadecimal, *name),
+        PlainCall::AllocateName { right, name } => {
             push_two(line, (Kind::Right, *right), (Kind::Hexadecimal, *name))
         }
-        Call::ModRefs { name, right, delta } => {
+        PlainCall::ModRefs { name, right, delta } => {
             push_name_and(line, *name, Kind::Right, *right)?;
             push_value(line, Kind::Signed, *delta)
         }
-        Call::RequestNotification {
+        PlainCall::RequestNotification {
             name,
             variant,
             sync,
             notify,
             disposition,
         } => push_notification(line, *name, *variant, *sync, *notify, *disposition),
-        Call::InsertRight {
+        PlainCall::InsertRight {
             name,
             right_name,
             disposition,
         } => push_insertion(line, *name, *right_name, *disposition),
-        Call::Send { message } => push_message(line, message.as_slice()),
-        Call::Receive {
+        PlainCall::Send { message } => push_message(line, message.as_slice()),
+        PlainCall::Receive {
             limit,
             large,
             name,
@@ -173,12 +174,37 @@ fn push_arguments(line: &mut Vec<u8>, call: &Call) -> Result<(), AllocError>
     }
 }
 
-/// Adds the words of a call, the first without a space in front.
+/// Adds the words of a call that isn't numbered, the first without a space in front.
 #[tactic(auto, using(script_words::proofs::WordsOf::spaced_laws))]
-pub(crate) fn push_call_words(line: &mut Vec<u8>, call: &Call) -> Result<(), AllocError>
+fn push_plain(line: &mut Vec<u8>, call: &PlainCall) -> Result<(), AllocError>
     ensures { OnOk result (line.new.items ≡ (line.old.items ++ verb_word (verb_of call.now))
         ++ spaced (argument_words call.now)) }
 {
     line.extend_from_slice(verb_of(call).word())?;
     push_arguments(line, call)
+}
+
+/// Adds the words of a call that is numbered, the first without a space in front.
+#[tactic(auto, using(script_words::proofs::WordsOf::spaced_laws))]
+fn push_numbered(line: &mut Vec<u8>, request: u32, call: &PlainCall) -> Result<(), AllocError>
+    ensures { OnOk result (line.new.items ≡ (line.old.items ++ codes "numbered")
+        ++ spaced (count_word request ∷ verb_word (verb_of call.now) ∷ argument_words call.now)) }
+{
+    line.extend_from_slice(b"numbered")?;
+    push_value(line, Kind::Decimal, request)?;
+    push_spaced(line, verb_of(call).word())?;
+    push_arguments(line, call)
+}
+
+/// Adds the words of a call, the first without a space in front.
+#[tactic(auto, using(script_words::proofs::WordsOf::spaced_laws))]
+pub(crate) fn push_call_words(line: &mut Vec<u8>, call: &Call) -> Result<(), AllocError>
+    ensures { OnOk result (line.new.items ≡ (line.old.items ++ first_word call.now)
+        ++ spaced (further_words call.now)) }
+{
+    match call {
+        Call::Plain(call) => push_plain(line, call),
+        Call::Numbered(numbered) => push_numbered(line, numbered.request, &numbered.call),
+        Call::Unnumberable => line.extend_from_slice(b"numbered"),
+    }
 }

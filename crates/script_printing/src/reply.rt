@@ -1,11 +1,12 @@
 ghost use Rattle.std.specs.Prelude.{◌≡◌, ◌++◌, [], ◌∷◌, OnOk, codes};
 ghost use Rattle.script_words.specs.Spaced.{spaced};
-ghost use Rattle.script_printing.specs.Replies.{yes_or_no, kind_word, place_words, queue_words, answers_words, status_words, names_words, members_words, outcome_words, message_reply_words, reply_words, result_words};
+ghost use Rattle.script_printing.specs.Calls.{count_word};
+ghost use Rattle.script_printing.specs.Replies.{yes_or_no, kind_word, place_words, queue_words, answers_words, status_words, names_words, members_words, outcome_words, message_reply_words, plain_reply_words, reply_words, result_words};
 
 use crate::message::{push_labelled, push_message, push_optional};
 use crate::values::push_two;
 use codes::KernReturn;
-use ipc_model::{NamedType, ReceiveStatus, Reply, RightKind};
+use ipc_model::{NamedType, NumberedReply, PlainReply, ReceiveStatus, Reply, RightKind};
 use script_words::{Kind, code_word, push_spaced, push_value};
 use std::alloc::AllocError;
 
@@ -144,24 +145,24 @@ fn push_message_reply(
 
 /// Adds the results of a call that was done and has some.
 #[tactic(auto, using(script_words::proofs::WordsOf::spaced_laws))]
-fn push_results(line: &mut Vec<u8>, reply: &Reply) -> Result<(), AllocError>
+fn push_results(line: &mut Vec<u8>, reply: &PlainReply) -> Result<(), AllocError>
     ensures { OnOk result (line.new.items ≡ line.old.items ++ spaced (codes "=" ∷ result_words reply.now)) }
 {
     push_spaced(line, b"=")?;
     match reply {
-        Reply::Names { names } => push_names(line, names.as_slice()),
-        Reply::Type { bits } => push_value(line, Kind::Hexadecimal, *bits),
-        Reply::Allocate { name } | Reply::PreviousTarget { name } => {
+        PlainReply::Names { names } => push_names(line, names.as_slice()),
+        PlainReply::Type { bits } => push_value(line, Kind::Hexadecimal, *bits),
+        PlainReply::Allocate { name } | PlainReply::PreviousTarget { name } => {
             push_value(line, Kind::Hexadecimal, *name)
         }
-        Reply::References { count } => push_value(line, Kind::Decimal, *count),
-        Reply::ReceiveStatus { status } => push_status(line, status),
-        Reply::SetStatus { members } => push_members(line, members.as_slice()),
-        Reply::Extracted { name, kind } => {
+        PlainReply::References { count } => push_value(line, Kind::Decimal, *count),
+        PlainReply::ReceiveStatus { status } => push_status(line, status),
+        PlainReply::SetStatus { members } => push_members(line, members.as_slice()),
+        PlainReply::Extracted { name, kind } => {
             push_value(line, Kind::Hexadecimal, *name)?;
             push_spaced(line, kind_word(*kind))
         }
-        Reply::SpaceCreated { space, name } => {
+        PlainReply::SpaceCreated { space, name } => {
             push_labelled(line, b"space", Kind::Decimal, *space)?;
             push_labelled(line, b"name", Kind::Hexadecimal, *name)
         }
@@ -169,23 +170,43 @@ fn push_results(line: &mut Vec<u8>, reply: &Reply) -> Result<(), AllocError>
     }
 }
 
-/// Adds the words of a reply, each with a space in front.
+/// Adds the words of the reply to a call that isn't numbered, each with a space in front.
 #[tactic(auto, using(script_words::proofs::WordsOf::spaced_laws))]
-pub(crate) fn push_reply_words(line: &mut Vec<u8>, reply: &Reply) -> Result<(), AllocError>
-    ensures { OnOk result (line.new.items ≡ line.old.items ++ spaced (reply_words reply.now)) }
+fn push_plain_reply_words(line: &mut Vec<u8>, reply: &PlainReply) -> Result<(), AllocError>
+    ensures { OnOk result (line.new.items ≡ line.old.items ++ spaced (plain_reply_words reply.now)) }
 {
     match reply {
-        Reply::Refused { code, .. } => {
+        PlainReply::Refused { code, .. } => {
             push_spaced(line, b"!")?;
             push_spaced(line, code_word(*code))
         }
-        Reply::Done { .. } => Ok(()),
-        Reply::Message {
+        PlainReply::Done { .. } => Ok(()),
+        PlainReply::Message {
             code,
             size,
             member,
             message,
         } => push_message_reply(line, *code, *size, *member, message.as_slice()),
         _ => push_results(line, reply),
+    }
+}
+
+/// Adds the words of the reply to a numbered call that was made, each with a space in front.
+#[tactic(auto, using(script_words::proofs::WordsOf::spaced_laws))]
+fn push_made(line: &mut Vec<u8>, answer: &NumberedReply) -> Result<(), AllocError>
+    ensures { OnOk result (line.new.items ≡ line.old.items
+        ++ spaced (codes ":" ∷ count_word answer.now.request ∷ plain_reply_words answer.now.reply)) }
+{
+    push_labelled(line, b":", Kind::Decimal, answer.request)?;
+    push_plain_reply_words(line, &answer.reply)
+}
+
+/// Adds the words of a reply, each with a space in front.
+pub(crate) fn push_reply_words(line: &mut Vec<u8>, reply: &Reply) -> Result<(), AllocError>
+    ensures { OnOk result (line.new.items ≡ line.old.items ++ spaced (reply_words reply.now)) }
+{
+    match reply {
+        Reply::Plain(reply) => push_plain_reply_words(line, reply),
+        Reply::Numbered(answer) | Reply::Repeated(answer) => push_made(line, answer),
     }
 }

@@ -1,7 +1,9 @@
 -- Frames of replies, and what they are expected to be.
 use Rattle.std.specs.Prelude.{◌≡◌, ℕ, List, ◌++◌, length}
-use Rattle.ipc_model.specs.declared.call.Reply.{Reply}
-use Rattle.ipc_model.specs.declared.call.Reply.TheVariants as reply
+use Rattle.ipc_model.specs.declared.plain_reply.PlainReply.{PlainReply}
+use Rattle.ipc_model.specs.declared.plain_reply.PlainReply.TheVariants as plain
+use Rattle.ipc_model.specs.declared.reply.Reply.{Reply}
+use Rattle.ipc_model.specs.declared.reply.Reply.TheVariants as reply
 use Rattle.script_runner.specs.declared.row.Wanted.{Wanted}
 use Rattle.script_runner.specs.declared.row.Wanted.TheVariants as wanted
 use Rattle.words.specs.Words.{word}
@@ -24,8 +26,14 @@ IsSame (wanted.Frame frame) answer = answer ≡ frame.items
 IsSame (wanted.Code code) answer = ⊥
 
 -- how many names, members or bytes of a message a reply has
+abbrev pub plain_item_count : PlainReply → ℕ
+plain_item_count (plain.Names names) = length names
+plain_item_count (plain.SetStatus members) = length members
+plain_item_count (plain.Message code size member message) = length message
+plain_item_count _ = 0
+
+-- the same of any reply; of one to a numbered call, those of the reply in it
 abbrev pub item_count : Reply → ℕ
-item_count (reply.Names names) = length names
-item_count (reply.SetStatus members) = length members
-item_count (reply.Message code size member message) = length message
-item_count _ = 0
+item_count (reply.Plain answer) = plain_item_count answer
+item_count (reply.Numbered answer) = plain_item_count answer.reply
+item_count (reply.Repeated answer) = plain_item_count answer.reply

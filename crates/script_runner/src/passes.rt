@@ -5,8 +5,8 @@ use crate::row::{Ask, Script, ScriptLine, ScriptStep, is_wanted};
 use disk::Torn;
 use std::alloc::Global;
 
-/// How many device calls `open` makes on an existing store: four syncs, four reads of headers, three of the image, two of
-/// the segment, which is one piece here, and two that end it.
+/// How many device calls `open` makes on an existing store: four syncs, four reads of headers, three of the image, two
+/// of the segment, which is one piece here, and two that end it.
 const OPENING_CALLS: u64 = 15;
 
 /// How many device calls an append makes.

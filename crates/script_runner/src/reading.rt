@@ -1,13 +1,14 @@
 ghost use Rattle.std.specs.Prelude.{◌≡◌, ◌<◌, ◌^◌, length, IsTrue};
 ghost use Rattle.ipc_model.specs.encodings.Encodings.{reply_encoding};
-ghost use Rattle.script_runner.specs.Replies.{item_count};
+ghost use Rattle.script_runner.specs.Replies.{item_count, plain_item_count};
 
 use crate::directive::{Directive, directive_of};
 use crate::row::{Ask, Script, ScriptLine, ScriptStep, Wanted};
 use calls::{push_call, push_reply};
 use codes::MAX_FRAME_CONTENT;
-use ipc_model::{Call, Reply};
+use ipc_model::{Call, PlainReply, Reply};
 use script::{Exchange, LineFault, read_line, read_request_line};
+use shell::push_attempt;
 use std::alloc::{AllocError, AllocFailed, Global};
 use std::fmt;
 use words::push_word;
@@ -58,22 +59,35 @@ fn frame_of(alloc: Global, content: &[u8]) -> Result<Vec<u8>, AllocError> {
     Ok(frame)
 }
 
-/// The frame of a call.
+/// The frame of a call. A numbered call is one attempt, and its frame says so.
 fn call_frame(alloc: Global, call: &Call) -> Result<Vec<u8>, AllocError> {
     let mut content = Vec::new(alloc);
-    push_call(&mut content, call)?;
+    match call {
+        Call::Numbered(_) => push_attempt(&mut content, call)?,
+        _ => push_call(&mut content, call)?,
+    }
     frame_of(alloc, &content)
 }
 
 /// How many names, members or bytes of a message a reply has.
+fn count_plain_items(reply: &PlainReply) -> usize
+    ensures { result ≡ plain_item_count reply.now }
+{
+    match reply {
+        PlainReply::Names { names } => names.as_slice().len(),
+        PlainReply::SetStatus { members } => members.as_slice().len(),
+        PlainReply::Message { message, .. } => message.as_slice().len(),
+        _ => 0,
+    }
+}
+
+/// The same of any reply; of one to a numbered call, those of the reply in it.
 fn count_items(reply: &Reply) -> usize
     ensures { result ≡ item_count reply.now }
 {
     match reply {
-        Reply::Names { names } => names.as_slice().len(),
-        Reply::SetStatus { members } => members.as_slice().len(),
-        Reply::Message { message, .. } => message.as_slice().len(),
-        _ => 0,
+        Reply::Plain(answer) => count_plain_items(answer),
+        Reply::Numbered(answer) | Reply::Repeated(answer) => count_plain_items(&answer.reply),
     }
 }
 
@@ -120,7 +134,8 @@ fn exchange_of(alloc: Global, text: &[u8], line: u32) -> Result<Option<Exchange>
 /// The return code of a reply.
 fn code_of(reply: &Reply) -> u32 {
     match reply {
-        Reply::Refused { code, .. } | Reply::Message { code, .. } => code.number(),
+        Reply::Plain(PlainReply::Refused { code, .. })
+        | Reply::Plain(PlainReply::Message { code, .. }) => code.number(),
         _ => 0,
     }
 }

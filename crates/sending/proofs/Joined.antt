@@ -12,7 +12,7 @@ use Rattle.ipc_model.specs.messages.Items.{Item, as_stored, is_port_item, items_
 use Rattle.ipc_model.specs.messages.Messages.{UsedParts}
 use Rattle.ipc_model.specs.messages.Sending.{TakenHeader, TakenRights, Ready, ready_message, is_full, tests_of_queue, take_items}
 use Rattle.ipc_model.specs.state.Placed.{same_kind}
-use Rattle.ipc_model.specs.state.State.{State}
+use Rattle.ipc_model.specs.state.Ipc.{Ipc}
 use Rattle.sending.specs.Agrees.{Agrees}
 use Rattle.sending.specs.Sends.{ReadyIs}
 use Rattle.sending.specs.SoFar.{so_far}
@@ -21,13 +21,13 @@ use Rattle.sending.specs.declared.header.HeaderRights.{HeaderRights}
 use Rattle.sending.proofs.Steps.{agrees_then, agrees_failed}
 
 -- what was taken of a header
-abbrev pub HeaderIs : State → List Effect → List Effect → TakenHeader → HeaderRights → Type 0
+abbrev pub HeaderIs : Ipc → List Effect → List Effect → TakenHeader → HeaderRights → Type 0
 HeaderIs new waiting after header found =
     (found ≡ record { kind = header.kind; port = header.port; reply = header.reply }) × (new ≡ header.state)
     × (after ≡ waiting ++ header.notices)
 
 -- and of a body
-abbrev pub RightsAre : {Y : Type 0} → (Y → List CarriedRight) → State → List Effect → List Effect → TakenRights → Y
+abbrev pub RightsAre : {Y : Type 0} → (Y → List CarriedRight) → Ipc → List Effect → List Effect → TakenRights → Y
     → Type 0
 RightsAre items new waiting after taken rights =
     (items rights ≡ taken.rights) × (new ≡ taken.state) × (after ≡ waiting ++ taken.notices)
@@ -42,7 +42,7 @@ message_of parts items found rights = record {
   body = if parts.complex then items_encoding (map as_stored items) else parts.body;
 }
 
-abbrev pub made : UsedParts → List Item → HeaderRights → State → List CarriedRight → Result Message KernReturn
+abbrev pub made : UsedParts → List Item → HeaderRights → Ipc → List CarriedRight → Result Message KernReturn
 made parts items found state rights =
     unless_failing ((is_full state found.port && not (same_kind found.kind kind.SendOnce), SendTimedOut) ∷ [])
     (Ok (message_of parts items found rights))
@@ -58,7 +58,7 @@ next_rights space parts items header =
 abbrev sent_one : Message → Result Message SendFault
 sent_one message = Ok message
 
-module _ (space : ℕ) (parts : UsedParts) (items : List Item) (found : HeaderRights) (mid new : State)
+module _ (space : ℕ) (parts : UsedParts) (items : List Item) (found : HeaderRights) (mid new : Ipc)
     (waiting between after : List Effect) where
   -- the message that is ready, once this was taken
   ready_is : (header : TakenHeader) (taken : TakenRights) (rights : List CarriedRight)
@@ -110,7 +110,7 @@ module _ (space : ℕ) (parts : UsedParts) (items : List Item) (found : HeaderRi
       (Ok (message, found.port)) first (λ head is.
       agrees_then (or_refused SendInvalidRight (take_items space items (so_far [] head.state []))) _
       (RightsAre list new between after) (ReadyIs new waiting after) rights (Ok (message, found.port))
-      (subst (λ (s : State). Agrees (or_refused SendInvalidRight (take_items space items (so_far [] s [])))
+      (subst (λ (s : Ipc). Agrees (or_refused SendInvalidRight (take_items space items (so_far [] s [])))
       (RightsAre list new between after) (Ok rights)) is.1 second) (λ taken are.
       subst (λ (ready : Ready). Agrees (unless_failing (tests_of_queue ready) (Ok ready)) (ReadyIs new waiting after)
       (Ok (message, found.port)))
@@ -137,7 +137,7 @@ module _ (space : ℕ) (parts : UsedParts) (items : List Item) (found : HeaderRi
       (Err fault) first (λ head is.
       agrees_then (or_refused SendInvalidRight (take_items space items (so_far [] head.state []))) _
       (RightsAre list new between after) (ReadyIs new waiting after) rights (Err fault)
-      (subst (λ (s : State). Agrees (or_refused SendInvalidRight (take_items space items (so_far [] s [])))
+      (subst (λ (s : Ipc). Agrees (or_refused SendInvalidRight (take_items space items (so_far [] s [])))
       (RightsAre list new between after) (Ok rights)) is.1 second) (λ taken are.
       subst (λ (ready : Ready). Agrees (unless_failing (tests_of_queue ready) (Ok ready)) (ReadyIs new waiting after)
       (Err fault))
@@ -162,5 +162,5 @@ module _ (space : ℕ) (parts : UsedParts) (items : List Item) (found : HeaderRi
       (Err fault) first (λ head is.
       agrees_failed (or_refused SendInvalidRight (take_items space items (so_far [] head.state []))) _
       (RightsAre list new between after) (ReadyIs new waiting after) fault
-      (subst (λ (s : State). Agrees (or_refused SendInvalidRight (take_items space items (so_far [] s [])))
+      (subst (λ (s : Ipc). Agrees (or_refused SendInvalidRight (take_items space items (so_far [] s [])))
       (RightsAre list new between after) (Err fault)) is.1 second))

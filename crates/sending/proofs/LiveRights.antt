@@ -12,7 +12,7 @@ use Rattle.ipc_model.specs.declared.message.RightKind.{RightKind}
 use Rattle.ipc_model.specs.messages.Sending.{Ready, ready_to_send}
 use Rattle.ipc_model.specs.state.Circular.{Acyclic}
 use Rattle.ipc_model.specs.state.Lawful.{Lawful}
-use Rattle.ipc_model.specs.state.State.{State, Names, lives}
+use Rattle.ipc_model.specs.state.Ipc.{Ipc, Names, lives}
 use Rattle.ipc_laws.specs.Hands.{mid_of}
 use Rattle.ipc_laws.specs.LawfulLaws.{at_rest}
 use Rattle.ipc_laws.specs.MapSums.{weigh}
@@ -22,7 +22,7 @@ use Rattle.ipc_laws.specs.Weights.{any_of, carried_weigh, place_weigh, reply_wei
 use Rattle.rights.specs.Passed.{carries_live, is_live, is_live_port, is_live_reply}
 use Rattle.words.specs.Words.{AreBytes}
 
-module _ (state : State) where
+module _ (state : Ipc) where
   port_live : (kind : RightKind) (port : PortInMessage)
       → ((q : ℕ) → lives state q ≡ false → place_weigh (any_of q) kind port ≡ 0) → is_live_port state port ≡ true
   port_live kind in_message.Null none = refl
@@ -59,7 +59,7 @@ module _ (state : State) where
       (reply_live message.reply (λ q dead. omega (arith, none q dead)))
       (rights_live message.rights (λ q dead. omega (arith, none q dead)))
 
-pub ready_live : (old : State) (space : ℕ) (bytes : List ℕ) (ready : Ready) → AreBytes bytes → Lawful old → Acyclic old
+pub ready_live : (old : Ipc) (space : ℕ) (bytes : List ℕ) (ready : Ready) → AreBytes bytes → Lawful old → Acyclic old
     → IsSome (finmap.get old.spaces space) → ready_to_send old space bytes ≡ Ok ready
     → carries_live ready.state ready.message ≡ true
 ready_live old space bytes ready fits lawful acyclic there is = by_case (finmap.get old.spaces space) refl there

@@ -5,7 +5,7 @@ use Rattle.ipc_model.specs.messages.Items.{Item, names_of_item}
 use Rattle.ipc_model.specs.messages.Sending.{TakenRights, take_right, take_rights, take_item, take_items, passed}
 use Rattle.ipc_model.specs.rights.CopyIn.{Taken, copy_in}
 use Rattle.ipc_model.specs.rights.Dispositions.{Disposition, disposition_of, received_kind}
-use Rattle.ipc_model.specs.state.State.{is_null_or_dead}
+use Rattle.ipc_model.specs.state.Ipc.{is_null_or_dead}
 
 abbrev pub beyond : List Effect → TakenRights → TakenRights
 beyond waiting taken = record taken { notices = waiting ++ taken.notices }

@@ -8,7 +8,7 @@ use Rattle.ipc_model.specs.effects.Effects.{Effect}
 use Rattle.ipc_model.specs.messages.Items.{Item}
 use Rattle.ipc_model.specs.messages.Sending.{TakenRights, take_item, take_items}
 use Rattle.ipc_model.specs.rights.Dispositions.{disposition_of}
-use Rattle.ipc_model.specs.state.State.{State}
+use Rattle.ipc_model.specs.state.Ipc.{Ipc}
 use Rattle.sending.specs.Agrees.{Agrees, IsNoMemory}
 use Rattle.sending.specs.SoFar.{so_far}
 use Rattle.sending.specs.declared.fault.SendFault.{SendFault}
@@ -58,7 +58,7 @@ mapped_failed : {X Y : Type 0} (code : KernReturn) (o : Option TakenRights) (cha
 mapped_failed code None change Is Then fault is = is
 mapped_failed code (Some taken) change Is Then fault is = is
 
-mapped_given : {X Y : Type 0} (code : KernReturn) (o : Option TakenRights) (waiting after : List Effect) (state : State)
+mapped_given : {X Y : Type 0} (code : KernReturn) (o : Option TakenRights) (waiting after : List Effect) (state : Ipc)
     (x : X) (y : Y) (rights : Y → List CarriedRight)
     → Agrees (or_refused code (option_map (beyond waiting) o))
     (λ taken (_ : X). so_far (rights y) state after ≡ taken) (Ok x)
@@ -71,7 +71,7 @@ mapped_given code (Some taken) waiting after state x y rights is = (
   ap (λ (t : TakenRights). t.notices) is,
 )
 
-start_is : (space : ℕ) (items : List Item) (state : State) (waiting : List Effect) (none : List CarriedRight)
+start_is : (space : ℕ) (items : List Item) (state : Ipc) (waiting : List Effect) (none : List CarriedRight)
     → none ≡ [] → take_items space items (so_far none state waiting)
     ≡ option_map (beyond waiting) (take_items space items (so_far [] state []))
 start_is space items state waiting none is =
@@ -79,7 +79,7 @@ start_is space items state waiting none is =
     ∙ ap (λ (l : List Effect). take_items space items (so_far [] state l)) (sym (append-nil waiting))
     ∙ in_items space items waiting (so_far [] state [])
 
-pub body_failed : {X Y : Type 0} (code : KernReturn) (space : ℕ) (items : List Item) (state : State)
+pub body_failed : {X Y : Type 0} (code : KernReturn) (space : ℕ) (items : List Item) (state : Ipc)
     (waiting : List Effect) (none : List CarriedRight) (Is : TakenRights → X → Type 0) (Then : TakenRights → Y → Type 0)
     (fault : SendFault) → none ≡ []
     → Agrees (or_refused code (take_items space items (so_far none state waiting))) Is (Err fault)
@@ -89,8 +89,8 @@ body_failed code space items state waiting none Is Then fault is failed =
     (subst (λ (o : Option TakenRights). Agrees (or_refused code o) Is (Err fault))
     (start_is space items state waiting none is) failed)
 
-pub body_given : {X Y : Type 0} (code : KernReturn) (space : ℕ) (items : List Item) (state : State)
-    (waiting : List Effect) (none : List CarriedRight) (after : List Effect) (new : State) (x : X) (y : Y)
+pub body_given : {X Y : Type 0} (code : KernReturn) (space : ℕ) (items : List Item) (state : Ipc)
+    (waiting : List Effect) (none : List CarriedRight) (after : List Effect) (new : Ipc) (x : X) (y : Y)
     (rights : Y → List CarriedRight) → none ≡ []
     → Agrees (or_refused code (take_items space items (so_far none state waiting)))
     (λ taken (_ : X). so_far (rights y) new after ≡ taken) (Ok x)

@@ -5,7 +5,7 @@ use Rattle.ipc_model.specs.calls.Tests.{or_refused}
 use Rattle.ipc_model.specs.declared.message.CarriedRight.{CarriedRight}
 use Rattle.ipc_model.specs.effects.Effects.{Effect}
 use Rattle.ipc_model.specs.rights.CopyIn.{Taken}
-use Rattle.ipc_model.specs.state.State.{State}
+use Rattle.ipc_model.specs.state.Ipc.{Ipc}
 use Rattle.ipc_laws.specs.ListLaws.{some_same}
 use Rattle.rights.specs.Taking.{Takes}
 use Rattle.sending.specs.Agrees.{Agrees}
@@ -16,7 +16,7 @@ abbrev pub outcome_of : KernReturn → Option CarriedRight → Result CarriedRig
 outcome_of code None = Err (Refused code)
 outcome_of code (Some right) = Ok right
 
-pub taken_gave : (o : Option Taken) (code : KernReturn) (old new : State) (waiting after : List Effect)
+pub taken_gave : (o : Option Taken) (code : KernReturn) (old new : Ipc) (waiting after : List Effect)
     (found : Option CarriedRight) → Takes o old waiting found new after
     → Agrees (or_refused code o) (λ taken right. (right ≡ taken.right) × (new ≡ taken.state)
     × (after ≡ waiting ++ taken.notices)) (outcome_of code found)

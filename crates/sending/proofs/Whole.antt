@@ -10,7 +10,7 @@ use Rattle.ipc_model.specs.messages.Items.{Item}
 use Rattle.ipc_model.specs.messages.Messages.{UsedParts, used_parts}
 use Rattle.ipc_model.specs.messages.Sending.{Ready, ready_to_send, tests_of_size, header_disposition, reply_disposition, items_if_complex, ready_of_items}
 use Rattle.ipc_model.specs.rights.Dispositions.{Disposition}
-use Rattle.ipc_model.specs.state.State.{State}
+use Rattle.ipc_model.specs.state.Ipc.{Ipc}
 use Rattle.sending.specs.Agrees.{Agrees, ReportsRefusal}
 use Rattle.sending.specs.Sends.{ReadyIs, of_dispositions}
 use Rattle.sending.proofs.Rests.{want_is}
@@ -45,7 +45,7 @@ failed {Y} (test ∷ tests) parts by next Then fault is =
       | false ↦ λ (later : _). failed tests parts by next Then fault later
     ] is
 
-pub ready_passed : {Y W : Type 0} (state : State) (space : ℕ) (bytes : List ℕ) (by : Y → UsedParts)
+pub ready_passed : {Y W : Type 0} (state : Ipc) (space : ℕ) (bytes : List ℕ) (by : Y → UsedParts)
     (Then : Ready → W → Type 0) (found : Y) (result : Result W SendFault)
     → Agrees (unless_failing (tests_of_size (length bytes)) (Ok (used_parts bytes))) (λ p y. p ≡ by y) (Ok found)
     → Agrees (of_dispositions state space (by found)) Then result → Agrees (ready_to_send state space bytes) Then result
@@ -55,7 +55,7 @@ ready_passed state space bytes by Then found result is rest =
     (of_dispositions state space (used_parts bytes)) Then found result is
     (λ parts. subst (λ (p : UsedParts). Agrees (of_dispositions state space p) Then result) (sym parts) rest)
 
-pub ready_failed : {Y W : Type 0} (state : State) (space : ℕ) (bytes : List ℕ) (by : Y → UsedParts)
+pub ready_failed : {Y W : Type 0} (state : Ipc) (space : ℕ) (bytes : List ℕ) (by : Y → UsedParts)
     (Then : Ready → W → Type 0) (fault : SendFault)
     → Agrees (unless_failing (tests_of_size (length bytes)) (Ok (used_parts bytes))) (λ p (y : Y). p ≡ by y) (Err fault)
     → Agrees (ready_to_send state space bytes) Then (Err fault)
@@ -65,7 +65,7 @@ ready_failed state space bytes by Then fault is =
     (of_dispositions state space (used_parts bytes)) Then fault is
 
 -- what was found is what is ready, if no effect waited
-pub ready_found : (r : Result Ready KernReturn) (new : State) (waiting after : List Effect) (found : Message × ℕ)
+pub ready_found : (r : Result Ready KernReturn) (new : Ipc) (waiting after : List Effect) (found : Message × ℕ)
     → waiting ≡ [] → Agrees r (ReadyIs new waiting after) (Ok found)
     → r ≡ Ok (record { message = found.0; port = found.1; state = new; notices = after })
 ready_found (Err code) new waiting after found none is = absurd is
@@ -77,20 +77,20 @@ ready_found (Ok ready) new waiting after found none is = λ i. Ok (record {
 })
 
 -- The same for whatever came of it.
-pub all_found : (r : Result Ready KernReturn) (new : State) (waiting after : List Effect)
+pub all_found : (r : Result Ready KernReturn) (new : Ipc) (waiting after : List Effect)
     (result : Result (Message × ℕ) SendFault) → waiting ≡ [] → Agrees r (ReadyIs new waiting after) result
     → IfOk result (λ found. r ≡ Ok (record { message = found.0; port = found.1; state = new; notices = after }))
 all_found r new waiting after (Ok found) none is = ready_found r new waiting after found none is
 all_found r new waiting after (Err fault) none is = tt
 
-pub all_reported : (r : Result Ready KernReturn) (new : State) (waiting after : List Effect)
+pub all_reported : (r : Result Ready KernReturn) (new : Ipc) (waiting after : List Effect)
     (result : Result (Message × ℕ) SendFault) → Agrees r (ReadyIs new waiting after) result
     → IfErr result (λ fault. ReportsRefusal r fault)
 all_reported r new waiting after (Ok found) is = tt
 all_reported r new waiting after (Err fault) is = reported r (ReadyIs new waiting after) fault is
 
 -- The dispositions and the items of a message.
-module _ (state : State) (space : ℕ) (parts : UsedParts) where
+module _ (state : Ipc) (space : ℕ) (parts : UsedParts) where
   abbrev of_items : Disposition → Option Disposition → Result Ready KernReturn
   of_items destination reply =
       and_then (items_if_complex parts.complex parts.body)

@@ -9,16 +9,16 @@ use Rattle.ipc_model.specs.messages.Items.{Item}
 use Rattle.ipc_model.specs.messages.Messages.{UsedParts}
 use Rattle.ipc_model.specs.messages.Sending.{Ready, header_disposition, reply_disposition, items_if_complex, ready_of_items, sent}
 use Rattle.ipc_model.specs.rights.Dispositions.{Disposition}
-use Rattle.ipc_model.specs.state.State.{State}
+use Rattle.ipc_model.specs.state.Ipc.{Ipc}
 
 -- a message that is ready and its port were found, and this is the state; its notices wait after those that already
 -- waited
-abbrev pub ReadyIs : State → List Effect → List Effect → Ready → Message × ℕ → Type 0
+abbrev pub ReadyIs : Ipc → List Effect → List Effect → Ready → Message × ℕ → Type 0
 ReadyIs new waiting after ready found =
     (found.0 ≡ ready.message) × (found.1 ≡ ready.port) × (new ≡ ready.state) × (after ≡ waiting ++ ready.notices)
 
 -- what becomes of a message whose size is one that messages may have
-abbrev pub of_dispositions : State → ℕ → UsedParts → Result Ready KernReturn
+abbrev pub of_dispositions : Ipc → ℕ → UsedParts → Result Ready KernReturn
 of_dispositions state space parts =
     and_then (or_refused SendInvalidHeader (header_disposition parts.remote_disposition))
     (λ (destination : Disposition).
@@ -27,6 +27,6 @@ of_dispositions state space parts =
     (λ (items : List Item). ready_of_items state space parts destination reply items)))
 
 -- a message that was ready was sent
-abbrev pub WasSent : Result Ready KernReturn → State → List Effect → Type 0
+abbrev pub WasSent : Result Ready KernReturn → Ipc → List Effect → Type 0
 WasSent (Ok ready) new effects = (new ≡ (sent ready).0) × (effects ≡ (sent ready).1)
 WasSent (Err code) new effects = ⊥

@@ -1,7 +1,7 @@
 //! The rights of a message's header: the destination, and the right for the reply.
 ghost use Rattle.std.specs.Prelude.{◌≡◌, ◌++◌, Some, true, false};
 ghost use Rattle.ipc_model.specs.messages.Sending as sending;
-ghost use Rattle.ipc_model.specs.state.State.{is_null_or_dead};
+ghost use Rattle.ipc_model.specs.state.Ipc.{is_null_or_dead};
 ghost use Rattle.sending.specs.Agrees.{Agrees};
 
 use crate::SendFault;

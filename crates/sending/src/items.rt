@@ -4,7 +4,7 @@ ghost use Rattle.ipc_model.specs.calls.Tests.{or_refused};
 ghost use Rattle.ipc_model.specs.messages.Items.{names_of_item};
 ghost use Rattle.ipc_model.specs.messages.Sending as sending;
 ghost use Rattle.ipc_model.specs.rights.Dispositions.{disposition_of};
-ghost use Rattle.ipc_model.specs.state.State.{is_null_or_dead};
+ghost use Rattle.ipc_model.specs.state.Ipc.{is_null_or_dead};
 ghost use Rattle.sending.specs.Agrees.{Agrees};
 ghost use Rattle.sending.specs.SoFar.{so_far};
 ghost use Rattle.type_desc.specs.Values.{item_value};

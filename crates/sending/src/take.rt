@@ -4,7 +4,7 @@ ghost use Rattle.ipc_model.specs.calls.Tests.{or_refused};
 ghost use Rattle.ipc_model.specs.messages.Sending.{live_port, passed};
 ghost use Rattle.ipc_model.specs.rights.CopyIn.{copy_in};
 ghost use Rattle.ipc_model.specs.rights.Dispositions.{received_kind};
-ghost use Rattle.ipc_model.specs.state.State.{is_null_or_dead};
+ghost use Rattle.ipc_model.specs.state.Ipc.{is_null_or_dead};
 ghost use Rattle.sending.specs.Agrees.{Agrees};
 
 use crate::SendFault;

@@ -8,17 +8,20 @@ use Rattle.calls.specs.declared.request.Request.{Request}
 use Rattle.calls.specs.declared.request.Request.TheVariants as request
 use Rattle.disk.specs.Moments.{View, LeftSince, Passes}
 use Rattle.disk.specs.Slots.{Slots}
+use Rattle.ipc_model.specs.calls.PlainStep as plain
 use Rattle.ipc_model.specs.calls.Step.{Run, Step, has_record, succeeded}
 use Rattle.ipc_model.specs.declared.call.Call.{Call}
-use Rattle.ipc_model.specs.declared.call.Call.TheVariants as call
-use Rattle.ipc_model.specs.declared.call.Reply.{Reply}
+use Rattle.ipc_model.specs.declared.call.Call.TheVariants.{Plain, Numbered, Unnumberable}
+use Rattle.ipc_model.specs.declared.plain_call.PlainCall.{PlainCall}
+use Rattle.ipc_model.specs.declared.plain_call.PlainCall.TheVariants as call
+use Rattle.ipc_model.specs.declared.reply.Reply.{Reply}
 use Rattle.ipc_model.specs.declared.record.Record.{Record}
 use Rattle.ipc_model.specs.state.State.{State}
 use Rattle.store_fault.specs.declared.fault.StoreFault.{StoreFault}
 use Rattle.server.proofs.Keeping.{no_time, passes_so}
 use Rattle.server.specs.Keeping.{AloneValue, AnswersKept, BreaksKept, FailsKept, IsHeld, RestsKept}
 use Rattle.store_layout.specs.Gates.{StandForState}
-use Rattle.frame_service.specs.Serving.{Answers, AnswersMessage, AnswersRequest, Exchanges, FailsMessage, FailsRequest, IsAnswered, IsFailed, StepOrShortage, shortage_of}
+use Rattle.frame_service.specs.Serving.{Answers, AnswersMessage, AnswersRequest, Exchanges, FailsMessage, FailsRequest, IsAnswered, IsFailed, StepOrShortage, plain_shortage_of, shortage_of}
 use Rattle.server.specs.Crashing.{IsStoredFrame, IsStoredWhole, Makes, MakesAll, MakesMessage, MakesRequest, StandsWithin, AreOf, calls_of, given}
 use Rattle.ipc_model.specs.world.World.{record_of}
 
@@ -87,11 +90,16 @@ left_within old new state P held time here c left = elim (cases_lt old.moment le
     now_is : (k m : ℕ) → k ≤ m → m ≤ k → k ≡ m
     now_is k m a b = omega (arith, a, b)
 
+plain_unrecorded : (c : PlainCall) → plain.has_record c (plain_shortage_of c) ≡ false
+plain_unrecorded (call.Send message) = refl
+plain_unrecorded (call.Receive limit true name waited) = refl
+plain_unrecorded (call.Receive limit false name waited) = refl
+plain_unrecorded c = refl
+
 unrecorded_shortage : (c : Call) → has_record c (shortage_of c) ≡ false
-unrecorded_shortage (call.Send message) = refl
-unrecorded_shortage (call.Receive limit true name waited) = refl
-unrecorded_shortage (call.Receive limit false name waited) = refl
-unrecorded_shortage c = refl
+unrecorded_shortage (Plain c) = plain_unrecorded c
+unrecorded_shortage (Numbered numbered) = refl
+unrecorded_shortage Unnumberable = refl
 
 -- a call with a record is a step
 recorded_step : (old : State) (space : ℕ) (c : Call) (answer : Reply) (new : State)
@@ -135,7 +143,7 @@ module _ {D : Type 0} (honest : Type 0) (view : D → View) where
           → Reach view old (if b then (record { space = old.space; call = c; reply = answer }) ∷ [] else []) new
       by true recorded =
           let run : Run old.kernel ((record { space = old.space; call = c; reply = answer }) ∷ []) new.kernel =
-          (new.kernel, recorded_step old.kernel old.space c answer new.kernel answered.stored.0 recorded, refl) in
+          (new.kernel, inl (recorded_step old.kernel old.space c answer new.kernel answered.stored.0 recorded), refl) in
           record {
             held = answered.held is_honest;
             run = run;
@@ -194,12 +202,12 @@ module _ {D : Type 0} (honest : Type 0) (view : D → View) where
         reach = call_reach old receive answer new is_honest held answered;
       }
   message_made (Some send) (Some receive) old answer new is_honest held (sent, mid, first, second) =
-      by (succeeded send sent) refl second
+      by (succeeded sent) refl second
     where
       reach : Reach view old (record_of old.space send sent) mid
       reach = call_reach old send sent mid is_honest held first
 
-      by : (b : Bool) → succeeded send sent ≡ b
+      by : (b : Bool) → succeeded sent ≡ b
           → MatchBool b (AnswersKept honest view mid receive answer new) ((answer ≡ sent) × (new ≡ mid))
           → Made (λ n. MakesMessage (AnswersKept honest view) old (Some send) (Some receive) answer n) old new
       by true is done = record {
@@ -259,7 +267,7 @@ module _ {D : Type 0} (honest : Type 0) (view : D → View) where
   frame_made content old answer new is_honest held (inr (inl refused)) =
       record { records = []; made = inr (inl refused, refl); reach = same_reach old new held refused.2 }
   frame_made content old answer new is_honest held (inr (inr lacks)) =
-      record { records = []; made = inr (inr lacks, refl); reach = same_reach old new held lacks.2 }
+      record { records = []; made = inr (inr lacks, refl); reach = same_reach old new held lacks.1 }
 
   all_made : (exchanges : Exchanges) (old new : AloneValue D) → honest → IsHeld (view old.store.disk) old.kernel
       → Answers (AnswersKept honest view) (RestsKept honest view) old exchanges new
@@ -327,7 +335,7 @@ module _ {D : Type 0} (honest : Type 0) (view : D → View) where
             first = 1;
             within = omega arith;
             state = new.kernel;
-            run = (new.kernel, after.1, refl);
+            run = (new.kernel, inl after.1, refl);
             stands = after.3;
           },
         )

@@ -3,9 +3,10 @@ use Rattle.std.proofs.Common.{◌≡◌, ◌⊎◌, inl, inr, ℕ, ◌<◌, ◌�
 use Rattle.codes.specs.declared.limits.TheConstants.{MAX_RECORDS}
 use Rattle.disk.specs.Moments.{View, LeftSince, Passes, IsSynced}
 use Rattle.disk.specs.Slots.{Slots}
+use Rattle.ipc_laws.specs.NumberedSteps.{kept_fits}
 use Rattle.ipc_model.specs.calls.Step.{Step, has_record}
 use Rattle.ipc_model.specs.declared.call.Call.{Call}
-use Rattle.ipc_model.specs.declared.call.Reply.{Reply}
+use Rattle.ipc_model.specs.declared.reply.Reply.{Reply}
 use Rattle.ipc_model.specs.state.State.{State}
 use Rattle.ipc_model.specs.encodings.Encodings.{FitsCall, canonical_record, IsRecord}
 use Rattle.journal.specs.Batch.{BatchValue, Holds}
@@ -37,8 +38,8 @@ one_ready : (before after : State) (count space : ℕ) (c : Call) (answer : Repl
     → Holds count (entry_of space c answer ∷ []) batch
     → IsReadyBatch before after count (entry_of space c answer ∷ []) batch
 one_ready before after count space c answer batch in_range step fits room holds = record {
-  run = (after, step, refl);
-  fit = (in_range, tt);
+  run = (after, inl step, refl);
+  fit = ((in_range, kept_fits answer fits.reply.fits), tt);
   are = (fits, tt);
   some = omega arith;
   room = omega (arith, room);

@@ -5,20 +5,18 @@ use Rattle.calls.specs.Requests.{Asks}
 use Rattle.calls.specs.declared.request.Request.{Request}
 use Rattle.calls.specs.declared.request.Request.TheVariants as request
 use Rattle.codes.specs.declared.kern_return.KernReturn.TheVariants.{Success}
-use Rattle.codes.specs.declared.name.TheConstants.{MACH_PORT_NULL}
 use Rattle.disk.specs.Moments.{View, LeftSince}
 use Rattle.disk.specs.Slots.{Slots}
 use Rattle.ipc_model.specs.calls.Step.{Run, succeeded}
 use Rattle.ipc_model.specs.declared.call.Call.{Call}
-use Rattle.ipc_model.specs.declared.call.Reply.{Reply}
+use Rattle.ipc_model.specs.declared.reply.Reply.{Reply}
 use Rattle.ipc_model.specs.declared.record.Record.{Record}
-use Rattle.ipc_model.specs.messages.Receiving.{without_message}
 use Rattle.ipc_model.specs.state.State.{State}
 use Rattle.store_fault.specs.declared.fault.StoreFault.{StoreFault}
 use Rattle.ipc_model.specs.world.World.{record_of}
 use Rattle.store_layout.specs.Gates.{StandForState}
 use Rattle.server.specs.Keeping.{AloneValue, AnswersKept, BreaksKept, FailsKept, IsHeld, RestsKept}
-use Rattle.frame_service.specs.Serving.{Answers, Exchanges, IsAnswered, IsFailed, IsRefused, LacksMemory}
+use Rattle.frame_service.specs.Serving.{Answers, Exchanges, IsAnswered, IsFailed, IsRefused, LacksMemory, only_code}
 
 -- the records that the calls of frames made, in order
 module _ {D : Type 0} (answers : AloneValue D → Call → Reply → AloneValue D → Type 0) where
@@ -28,14 +26,14 @@ module _ {D : Type 0} (answers : AloneValue D → Call → Reply → AloneValue 
   abbrev pub MakesBoth : AloneValue D → Call → Call → Reply → AloneValue D → List Record → Type 0
   MakesBoth old send receive answer new records =
       (sent : Reply) × (mid : AloneValue D) × answers old send sent mid
-      × MatchBool (succeeded send sent)
+      × MatchBool (succeeded sent)
       (answers mid receive answer new
       × (records ≡ record_of old.space send sent ++ record_of mid.space receive answer))
       ((answer ≡ sent) × (new ≡ mid) × (records ≡ record_of old.space send sent))
 
   abbrev pub MakesMessage : AloneValue D → Option Call → Option Call → Reply → AloneValue D → List Record → Type 0
   MakesMessage old None None answer new records =
-      (answer ≡ without_message Success 0 MACH_PORT_NULL) × (new ≡ old) × (records ≡ [])
+      (answer ≡ only_code Success) × (new ≡ old) × (records ≡ [])
   MakesMessage old (Some send) None answer new records = MakesOne old send answer new records
   MakesMessage old None (Some receive) answer new records = MakesOne old receive answer new records
   MakesMessage old (Some send) (Some receive) answer new records = MakesBoth old send receive answer new records
@@ -44,7 +42,7 @@ module _ {D : Type 0} (answers : AloneValue D → Call → Reply → AloneValue 
   MakesRequest old (request.One c) answer new records = MakesOne old c answer new records
   MakesRequest old (request.Message m) answer new records = MakesMessage old m.send m.receive answer new records
   MakesRequest old (request.Answered code) answer new records =
-      (answer ≡ without_message code 0 MACH_PORT_NULL) × (new ≡ old) × (records ≡ [])
+      (answer ≡ only_code code) × (new ≡ old) × (records ≡ [])
 
   abbrev pub Makes : AloneValue D → List ℕ → Reply → AloneValue D → List Record → Type 0
   Makes old content answer new records =

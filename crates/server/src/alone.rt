@@ -11,7 +11,7 @@ ghost use Rattle.frame_service.specs.Serving.{StepOrShortage};
 ghost use Rattle.ipc_model.specs.calls.Step.{has_record, succeeded};
 ghost use Rattle.ipc_model.specs.encodings.Encodings.{reply_encoding};
 ghost use Rattle.ipc_model.specs.declared.call.Call.{Call};
-ghost use Rattle.ipc_model.specs.declared.call.Reply.{Reply};
+ghost use Rattle.ipc_model.specs.declared.reply.Reply.{Reply};
 ghost use Rattle.store_fault.specs.declared.fault.StoreFault.{StoreFault};
 
 use codes::{CHECKPOINT_RECORDS, FIRST_SPACE, MAX_FRAME_CONTENT};
@@ -187,7 +187,7 @@ impl<D: Disk> Caller for Alone<D> {
 
 /// The space that a caller is attached to after a call with this reply.
 fn space_after(space: u32, attached: u32, reply: &Reply) -> u32
-    ensures { (call : Call) → result ≡ (if succeeded call reply.now then attached else space) }
+    ensures { result ≡ (if succeeded reply.now then attached else space) }
 {
     if reply.is_success() { attached } else { space }
 }

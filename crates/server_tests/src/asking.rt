@@ -1,7 +1,7 @@
 //! Events of a core, and their answers as numbers.
 use crate::store::TriedCore;
 use codes::MAX_RECORDS;
-use ipc_model::Call;
+use ipc_model::{Call, PlainCall};
 
 /// No reply is given now.
 pub(crate) const NOT_NOW: u64 = 1 << 40;
@@ -41,8 +41,8 @@ pub(crate) type AskedRow = (Asked, u64);
 /// What an event answers.
 fn answered<C: TriedCore>(core: &mut C, event: Asked) -> u64 {
     match event {
-        Asked::Allocate => core.submit_call(&Call::Allocate { right: 1 }),
-        Asked::Type(name) => core.submit_call(&Call::Type { name }),
+        Asked::Allocate => core.submit_call(&Call::Plain(PlainCall::Allocate { right: 1 })),
+        Asked::Type(name) => core.submit_call(&Call::Plain(PlainCall::Type { name })),
         Asked::Take => u64::from(core.take_waiting()),
         Asked::Append => core.append_taken(),
         Asked::Durable => u64::from(core.hand_in()),
@@ -62,14 +62,14 @@ pub(crate) fn unlike<C: TriedCore>(core: &mut C, rows: &[AskedRow]) -> Option<(u
 }
 
 /// The port of the name 0x100 gets this sequence number.
-const SET_SEQNO: Call = Call::SetSeqno {
+const SET_SEQNO: Call = Call::Plain(PlainCall::SetSeqno {
     name: 0x100,
     seqno: 7,
-};
+});
 
 /// Makes as many calls as an epoch log takes. Returns whether each gets a ticket.
 pub(crate) fn fill<C: TriedCore>(core: &mut C) -> bool {
-    if core.submit_call(&Call::Allocate { right: 1 }) >= NOT_NOW {
+    if core.submit_call(&Call::Plain(PlainCall::Allocate { right: 1 })) >= NOT_NOW {
         return false;
     }
     let call = SET_SEQNO;

@@ -3,7 +3,7 @@
 use crate::expect::{same, same_in_row};
 use crate::store::{Store, failing, new_store, played, stored_records};
 use disk::{Disk, MemDisk, Slot, Torn};
-use ipc_model::{Call, Reply, Sequence};
+use ipc_model::{Call, PlainCall, PlainReply, Reply, Sequence};
 use std::alloc::{AllocError, Global};
 use system::{Event, Outcome};
 
@@ -24,11 +24,11 @@ fn submit(call: Call) -> Event {
 /// other letter, from `0` on, asks for the reply of the ticket with its number.
 fn event_of(alloc: Global, letter: u8) -> Result<Event, AllocError> {
     Ok(match letter {
-        b'a' => submit(Call::Allocate { right: 1 }),
-        b's' => submit(Call::Send {
+        b'a' => submit(Call::Plain(PlainCall::Allocate { right: 1 })),
+        b's' => submit(Call::Plain(PlainCall::Send {
             message: Sequence::new(Vec::from_slice(alloc, &MESSAGE)?),
-        }),
-        b'g' => submit(Call::GetReceiveStatus { name: 0x100 }),
+        })),
+        b'g' => submit(Call::Plain(PlainCall::GetReceiveStatus { name: 0x100 })),
         b'k' => Event::Take,
         b'w' => Event::Append,
         b'd' => Event::Durable,
@@ -65,8 +65,8 @@ fn letter_from(first: u8, number: u32) -> u8 {
 /// from `a` on that has the number of its messages.
 fn letter_of_reply(reply: &Reply) -> u8 {
     match reply {
-        Reply::Allocate { name } => letter_from(b'A', name.wrapping_sub(0x100)),
-        Reply::ReceiveStatus { status } => letter_from(b'a', status.messages),
+        Reply::Plain(PlainReply::Allocate { name }) => letter_from(b'A', name.wrapping_sub(0x100)),
+        Reply::Plain(PlainReply::ReceiveStatus { status }) => letter_from(b'a', status.messages),
         _ => b'=',
     }
 }

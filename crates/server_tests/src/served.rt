@@ -74,8 +74,8 @@ fn on_failing_disk<S: Store + Drop>(
 }
 
 /// Which device call fails, and how many bytes are written. Opening makes fifteen calls: four syncs, four reads of
-/// headers, three of the image, two of the segment, and two that end it. An append makes four, so the nineteenth call is
-/// the first append's last.
+/// headers, three of the image, two of the segment, and two that end it. An append makes four, so the nineteenth call
+/// is the first append's last.
 static FAILING: [(u64, usize); 4] = [(16, 0), (19, 0), (20, 16), (23, 16)];
 
 #[test]

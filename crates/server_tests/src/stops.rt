@@ -3,14 +3,14 @@ use crate::frames::{served, three_calls};
 use crate::lists::KINDS;
 use crate::store::Store;
 use disk::{Disk, MemDisk, Torn};
-use ipc_model::Reply;
+use ipc_model::{PlainReply, Reply};
 use server::{Opened, open};
 use std::alloc::Global;
 
 /// Whether a name has this type.
 fn has_type<D: Disk>(opened: &Opened<D>, name: u32, bits: u32) -> bool {
     match opened.kernel.port_type(1, name) {
-        Reply::Type { bits: acknowledged } => acknowledged == bits,
+        Reply::Plain(PlainReply::Type { bits: acknowledged }) => acknowledged == bits,
         _ => false,
     }
 }

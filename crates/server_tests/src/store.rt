@@ -4,7 +4,7 @@
 
 use crate::asking::{AskedRow, EPOCH_FULL, FAULT, NO_MEMORY, NOT_NOW, fill, unlike};
 use disk::{Disk, MemDisk, Slot, Torn};
-use ipc_model::{Call, Reply};
+use ipc_model::{Call, PlainReply, Reply};
 use std::alloc::Global;
 use system::{Event, Opened, Outcome, SubmitFault, System, open};
 
@@ -29,9 +29,9 @@ pub(crate) trait TriedCore {
 /// What a reply says: the new name, the type bits, or the code.
 fn acknowledged(reply: &Reply) -> u64 {
     match reply {
-        Reply::Allocate { name } => u64::from(*name),
-        Reply::Type { bits } => u64::from(*bits),
-        Reply::Refused { code, .. } => u64::from(code.number()),
+        Reply::Plain(PlainReply::Allocate { name }) => u64::from(*name),
+        Reply::Plain(PlainReply::Type { bits }) => u64::from(*bits),
+        Reply::Plain(PlainReply::Refused { code, .. }) => u64::from(code.number()),
         _ => NOT_NOW,
     }
 }

@@ -1,5 +1,5 @@
-//! The store of version 1 after one allocation: what is listed of it, also when its upgrade was half done, and how it is
-//! served.
+//! The store of version 1 after one allocation: what is listed of it, also when its upgrade was half done, and how it
+//! is served.
 use crate::expect::same;
 use crate::frames::{ALLOCATE, served};
 use crate::inspected::lines_of;
@@ -64,9 +64,9 @@ fn answered<S: Store + Drop>(
     (is_answered, lengths, disk)
 }
 
-/// What is seen of a store with this in segment 1: whether it has its lines; whether it is served, and the lengths of its
-/// slots after no call and after an allocation; whether its first slots are as they were; and whether it has its lines
-/// after no call.
+/// What is seen of a store with this in segment 1: whether it has its lines; whether it is served, and the lengths of
+/// its slots after no call and after an allocation; whether its first slots are as they were; and whether it has its
+/// lines after no call.
 type Upgraded = ([bool; 5], [[u64; 4]; 2]);
 
 fn upgraded<S: Store + Drop>(alloc: Global, segment1: &[u8]) -> Option<Upgraded> {

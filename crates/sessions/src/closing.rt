@@ -5,7 +5,8 @@ ghost use Rattle.history.specs.Entries.{Begins, records_of};
 ghost use Rattle.ipc_model.specs.history.History.{AreAll, AreApart};
 ghost use Rattle.kernel_keeper.specs.Belonging.{tasks_of};
 ghost use Rattle.kernel_keeper.specs.Tokens.{IsHistory};
-ghost use Rattle.sessions.specs.Closing.{AreLegal, IsLeft};
+ghost use Rattle.ipc_model.specs.state.LawfulState.{LawfulState};
+ghost use Rattle.sessions.specs.Closing.{AreLegal, IsLeft, IsMadeOnce};
 ghost use Rattle.store_keeper.specs.Storing.{StandsFor};
 
 use crate::guarded::KernelGuarded;
@@ -43,6 +44,7 @@ pub fn close<L: Founding, D: Disk, G: Drop>(
     admissions: Admissions<L>,
 ) -> Result<Book<L, D>, Unmatched<D>>
     ensures history { IfOk result (λ book. IsHistory L.base book.past.entries) }
+    ensures once { IfOk result (λ book. LawfulState L.base → IsMadeOnce L.base book.past.entries) }
     ensures seen { IfOk result (λ book. All (λ session. Begins session.past.entries book.past.entries) sessions.items) }
     ensures ascend { IfOk result (λ book. AllPairs (λ one other. one.number < other.number) sessions.items) }
     ensures apart { IfOk result (λ book. AreApart (tasks_of sessions.items)) }

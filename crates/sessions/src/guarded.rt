@@ -6,7 +6,7 @@ use crate::seat::Bell;
 use crate::waiters::{Waiter, Waiters};
 use codes::{KernReturn, MAX_RECORDS};
 use history::Founding;
-use ipc_model::Call;
+use ipc_model::{Call, PlainCall};
 use kernel_keeper::{KernelKeeper, Load, Session};
 use std::alloc::Global;
 use store_fault::StoreFault;
@@ -263,7 +263,7 @@ fn finds_nothing(made: &Result<Ticket, SubmitFault>) -> bool {
 
 fn is_send(call: &Call) -> bool {
     match call {
-        Call::Send { .. } => true,
+        Call::Plain(PlainCall::Send { .. }) => true,
         _ => false,
     }
 }

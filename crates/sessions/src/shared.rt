@@ -10,7 +10,7 @@ use crate::guarded::{KernelGuarded, Waited};
 use crate::replies::{Replies, Side};
 use crate::seat::{Bell, Peer, Seat};
 use disk::Disk;
-use ipc_model::{Call, Reply};
+use ipc_model::{Call, PlainCall, Reply};
 use kernel_keeper::{Admission, EntryBlock, Founding, KernelKeeper, Past, Session};
 use std::alloc::Global;
 use std::sync::ledger::Book;
@@ -350,7 +350,7 @@ impl<L: Founding, D: Disk, G: Drop> Shared<L, D, G> {
 
 fn is_receive(call: &Call) -> bool {
     match call {
-        Call::Receive { .. } => true,
+        Call::Plain(PlainCall::Receive { .. }) => true,
         _ => false,
     }
 }

@@ -1,7 +1,7 @@
 //! Calls of a session, and their answers.
 
 use crate::service::Service;
-use ipc_model::{Call, Reply};
+use ipc_model::{Call, PlainCall, PlainReply, Reply};
 use std::sync::Wait;
 use system::Ticket;
 
@@ -32,7 +32,7 @@ pub(crate) fn asked<S: Service, R: Wait>(
 /// The name that a reply gives.
 pub(crate) fn name_in(reply: Option<Reply>) -> Option<u32> {
     match reply {
-        Some(Reply::Allocate { name }) => Some(name),
+        Some(Reply::Plain(PlainReply::Allocate { name })) => Some(name),
         _ => None,
     }
 }
@@ -40,18 +40,23 @@ pub(crate) fn name_in(reply: Option<Reply>) -> Option<u32> {
 /// The type bits that a reply gives.
 pub(crate) fn bits_in(reply: Option<Reply>) -> Option<u32> {
     match reply {
-        Some(Reply::Type { bits }) => Some(bits),
+        Some(Reply::Plain(PlainReply::Type { bits })) => Some(bits),
         _ => None,
     }
 }
 
 /// Allocates a receive right, and asks for the type of its name. Returns whether that is a receive right.
 fn allocates<S: Service, R: Wait>(rt: &R, service: &S, session: S::Session) -> (S::Session, bool) {
-    let (session, reply) = asked(rt, service, session, &Call::Allocate { right: 1 });
+    let (session, reply) = asked(
+        rt,
+        service,
+        session,
+        &Call::Plain(PlainCall::Allocate { right: 1 }),
+    );
     let Some(name) = name_in(reply) else {
         return (session, false);
     };
-    let (session, reply) = asked(rt, service, session, &Call::Type { name });
+    let (session, reply) = asked(rt, service, session, &Call::Plain(PlainCall::Type { name }));
     (session, bits_in(reply) == Some(0x2_0000))
 }
 

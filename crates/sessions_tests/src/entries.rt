@@ -1,7 +1,7 @@
 //! Entries and entry blocks of a history, for tests.
 
 use history::{AddFault, Entry, EntryBlock, FirstBlock, Past};
-use ipc_model::{Call, Record, Reply};
+use ipc_model::{Call, PlainCall, PlainReply, Record, Reply};
 use std::alloc::{AllocError, Global};
 use std::sync::Arc;
 
@@ -9,8 +9,8 @@ use std::sync::Arc;
 fn entry_of(space: u32) -> Entry {
     let record = Record {
         space,
-        call: Call::SpaceDestroy,
-        reply: Reply::Done { number: 21 },
+        call: Call::Plain(PlainCall::SpaceDestroy),
+        reply: Reply::Plain(PlainReply::Done { number: 21 }),
     };
     Entry { session: 1, record }
 }

@@ -10,7 +10,7 @@ use crate::shares::{Start, shared_from, start_on};
 use crate::stop::Stay;
 use codes::MAX_RECORDS;
 use disk::Disk;
-use ipc_model::{Call, Reply};
+use ipc_model::{Call, PlainCall, Reply};
 use plain_disk::PlainDisk;
 use sessions::{Founding, Gate, LoopStep};
 use std::alloc::Global;
@@ -70,10 +70,10 @@ fn make_many<S: Service, R: Wait>(
     session: S::Session,
     count: u64,
 ) -> (S::Session, Option<Ticket>, u64) {
-    let call = Call::SetQlimit {
+    let call = Call::Plain(PlainCall::SetQlimit {
         name: 0x100,
         limit: 5,
-    };
+    });
     let mut session = session;
     let mut last = None;
     let mut done = 0u64;
@@ -95,7 +95,12 @@ fn asked_and_noted<S: Service, R: Wait>(
     session: S::Session,
     has_answered: &Flag,
 ) -> Option<Reply> {
-    let (_, reply) = asked(rt, service, session, &Call::Allocate { right: 1 });
+    let (_, reply) = asked(
+        rt,
+        service,
+        session,
+        &Call::Plain(PlainCall::Allocate { right: 1 }),
+    );
     has_answered.set();
     reply
 }

@@ -8,7 +8,7 @@ use crate::service::{Admitting, Service, run_both_loops};
 use crate::shares::{Start, shared_from, start_on};
 use crate::stop::{Stay, Stop};
 use disk::{Disk, MemDisk};
-use ipc_model::Call;
+use ipc_model::{Call, PlainCall};
 use sessions::{Founding, Gate, LoopStep};
 use std::alloc::Global;
 use std::marker::Brand;
@@ -41,7 +41,12 @@ fn call_alongside_a_checkpoint<S: Service, R: Wait + Clock>(
 ) -> Seen {
     let (session, count) = allocates_many(rt, service, session, RECORDS);
     let has_come = stay.has_come.comes(rt);
-    let (_, reply) = asked(rt, service, session, &Call::Allocate { right: 1 });
+    let (_, reply) = asked(
+        rt,
+        service,
+        session,
+        &Call::Plain(PlainCall::Allocate { right: 1 }),
+    );
     let was_late = stay.was_late.is_set();
     stay.may_go.set();
     Seen {

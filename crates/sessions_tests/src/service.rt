@@ -2,7 +2,7 @@
 //! nothing of a session: what is known of one would be written out at each exit of a function that owns it.
 
 use disk::Disk;
-use ipc_model::{Call, Reply};
+use ipc_model::{Call, PlainReply, Reply};
 use sessions::{Admissions, Founding, Gate, Session, Shared, close, meet};
 use std::sync::{Mutex, Wait};
 use std::thread::{Threads, join};
@@ -90,7 +90,7 @@ impl<L: Founding + Send + Sync, D: Disk + Drop, G: Gate> Service for Admitting<L
     fn name_read(session: &mut Session<L>, at: usize) -> Option<u32> {
         session.read().ok()?;
         match session.record(at)?.reply {
-            Reply::Allocate { name } => Some(name),
+            Reply::Plain(PlainReply::Allocate { name }) => Some(name),
             _ => None,
         }
     }
@@ -136,6 +136,17 @@ impl<L: Founding + Send + Sync, D: Disk + Drop, G: Gate> Service for Admitting<L
                 drop(left);
                 None
             }
+        }
+    }
+}
+
+impl<L: Founding, D: Disk + Drop, G: Gate> Admitting<L, D, G> {
+    /// The disk, once all is closed.
+    pub(crate) fn into_disk(self, sessions: Vec<Session<L>>) -> D {
+        let Admitting { shared, admissions } = self;
+        match close(shared, sessions, admissions.into_inner()) {
+            Ok(book) => book.disk,
+            Err(unmatched) => unmatched.disk,
         }
     }
 }

@@ -9,7 +9,7 @@ use crate::service::{Admitting, Service};
 use crate::shares::{Start, shared_from, start_on};
 use crate::stop::Stay;
 use disk::{Disk, DiskFault, MemDisk, Slot};
-use ipc_model::Call;
+use ipc_model::{Call, PlainCall};
 use sessions::{Founding, OpenGate};
 use std::alloc::Global;
 use std::marker::Brand;
@@ -82,7 +82,7 @@ fn call_twice<S: Service, R: Wait + Clock>(
     is_wanted: &Flag,
     stay: &Stay,
 ) -> Seen {
-    let call = Call::Allocate { right: 1 };
+    let call = Call::Plain(PlainCall::Allocate { right: 1 });
     is_wanted.set();
     let (session, first) = service.make(rt, session, &call);
     let has_begun = stay.has_come.comes(rt);

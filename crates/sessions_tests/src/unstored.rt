@@ -9,7 +9,7 @@ use crate::service::{Admitting, Service};
 use crate::shares::{Start, shared_from, start_on};
 use crate::stop::{Stay, Stop};
 use disk::{Disk, MemDisk};
-use ipc_model::{Call, Reply};
+use ipc_model::{Call, PlainCall, Reply};
 use sessions::{Founding, Gate, LoopStep};
 use std::alloc::Global;
 use std::marker::Brand;
@@ -72,11 +72,16 @@ fn call_in_both<S: Service + Sync, R: Threads + Wait + Clock + Sync>(
     other: S::Session,
     stay: &Stay,
 ) -> Seen {
-    let (one, first) = service.make(rt, one, &Call::Allocate { right: 1 });
-    let (other, second) = service.make(rt, other, &Call::Type { name: 0x100 });
+    let (one, first) = service.make(rt, one, &Call::Plain(PlainCall::Allocate { right: 1 }));
+    let (other, second) = service.make(rt, other, &Call::Plain(PlainCall::Type { name: 0x100 }));
     let (held, (other, second)) = watched(rt, service, other, second, stay);
     let (one, first) = acknowledged(rt, service, one, first);
-    let (other, _) = asked(rt, service, other, &Call::Allocate { right: 1 });
+    let (other, _) = asked(
+        rt,
+        service,
+        other,
+        &Call::Plain(PlainCall::Allocate { right: 1 }),
+    );
     let mut other = other;
     let read = [0, 1, 2].map(|at| S::name_read(&mut other, at));
     Seen {

@@ -2,10 +2,13 @@
 use Rattle.std.proofs.Common.{◌≡◌, ℕ, Bool, true, false, List, [], ◌∷◌, ◌++◌, Option, None, Some, inl, inr, ◌+◌, ◌&&◌, Result, Ok, Err, if◌then◌else◌, refl, sym, ap, subst, ◌∙◌, append_assoc}
 use Rattle.std.specs.Prelude.{IfOk, IfSome, OnErr, OnOk}
 use Rattle.std.specs.Result.{is_ok}
-use Rattle.ipc_model.specs.declared.call.Reply.{Reply}
-use Rattle.ipc_model.specs.declared.call.Reply.TheVariants as reply
+use Rattle.ipc_model.specs.declared.reply.Reply.{Reply}
+use Rattle.ipc_model.specs.declared.reply.Reply.TheVariants as reply
+use Rattle.ipc_model.specs.declared.plain_reply.PlainReply.{PlainReply}
+use Rattle.ipc_model.specs.declared.plain_reply.PlainReply.TheVariants as plain_reply
 use Rattle.calls.specs.Replies.{Answers, IsWellFormed}
-use Rattle.script.specs.Replies.{IsOwn}
+use Rattle.calls.specs.PlainReplies as plain
+use Rattle.script.specs.Replies.{IsOwn, IsPlainOwn}
 use Rattle.std.specs.Io.KnownBytes.{Consumes, IsAtEnd}
 use Rattle.std.proofs.KnownBytes.{Appends-nil}
 use Rattle.relay.specs.Relaying.{Side, TakesAll, as_left}
@@ -38,10 +41,15 @@ not_chosen true x y is = absurd cc
 not_chosen false x y is = refl
 
 -- a reply to a call can be written after it
+plain_own : (answer : PlainReply) → plain.IsWellFormed answer → IsPlainOwn answer
+plain_own (plain_reply.Refused number code) well = well.0
+plain_own (plain_reply.Done number) well = well
+plain_own answer well = tt
+
 own : (answer : Reply) → IsWellFormed answer → IsOwn answer
-own (reply.Refused number code) well = well.0
-own (reply.Done number) well = well
-own answer well = tt
+own (reply.Plain answer) well = plain_own answer well
+own (reply.Numbered answer) well = plain_own answer.reply well
+own (reply.Repeated answer) well = well
 
 pub has_line : {E : Type 0} (r : Result (Option Reply) E) (number : ℕ) (content : List ℕ)
     → IfOk r (λ found. IfSome found (Answers number content))

@@ -1,7 +1,7 @@
 -- Replies, read from the content of their frames.
 use Rattle.std.specs.Prelude.{ℕ, List}
 use Rattle.calls.specs.Replies.{Answers}
-use Rattle.ipc_model.specs.declared.call.Reply.{Reply}
+use Rattle.ipc_model.specs.declared.reply.Reply.{Reply}
 use Rattle.script.specs.Replies.{IsOwn}
 
 -- A frame's content is this reply to a call of this number, and the reply can be written after the call on a line.

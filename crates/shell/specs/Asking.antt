@@ -1,11 +1,13 @@
 -- What a line asks for, and the frame that asks a server.
 use Rattle.std.specs.Prelude.{ℕ, nat_le, ◌&&◌, Bool, true, false, List, [], ◌++◌, Option, None, Some, Result, Ok, Err}
 use Rattle.calls.specs.Requests.{mach_msg_arguments}
-use Rattle.codes.specs.declared.call_number.TheConstants.{MACH_MSG}
+use Rattle.codes.specs.declared.call_number.TheConstants.{MACH_MSG, NUMBERED}
 use Rattle.codes.specs.declared.limits.TheConstants.{MIN_FRAME_CONTENT, MAX_FRAME_CONTENT}
 use Rattle.ipc_model.specs.declared.call.Call.{Call}
-use Rattle.ipc_model.specs.declared.call.Call.TheVariants as call
-use Rattle.ipc_model.specs.encodings.Encodings.{call_encoding}
+use Rattle.ipc_model.specs.declared.call.Call.TheVariants.{Plain, Numbered, Unnumberable}
+use Rattle.ipc_model.specs.declared.plain_call.PlainCall.{PlainCall}
+use Rattle.ipc_model.specs.declared.plain_call.PlainCall.TheVariants as call
+use Rattle.ipc_model.specs.encodings.PlainCalls.{call_encoding}
 use Rattle.script.specs.Lines.{line_read, request_read}
 use Rattle.script.specs.declared.fault.LineFault.{LineFault}
 use Rattle.script_printing.specs.declared.line.Exchange.{Exchange}
@@ -47,10 +49,18 @@ message_encoding option limit name message = word MACH_MSG ++ mach_msg_arguments
 })
 
 -- The content of the frame that asks for a call: a send by MACH_SEND_MSG and MACH_SEND_TIMEOUT, and every timeout 0.
+abbrev pub plain_attempt_text : PlainCall → List ℕ
+plain_attempt_text (call.Send message) = message_encoding 0x11 0 0 message
+plain_attempt_text (call.Receive limit large name waited) =
+    message_encoding (receive_options large waited) limit name []
+plain_attempt_text c = call_encoding c
+
+-- A call that is numbered stands after its request.
 abbrev pub attempt_text : Call → List ℕ
-attempt_text (call.Send message) = message_encoding 0x11 0 0 message
-attempt_text (call.Receive limit large name waited) = message_encoding (receive_options large waited) limit name []
-attempt_text c = call_encoding c
+attempt_text (Plain c) = plain_attempt_text c
+attempt_text (Numbered numbered) =
+    word NUMBERED ++ (word numbered.request ++ plain_attempt_text numbered.call)
+attempt_text Unnumberable = word NUMBERED
 
 -- the call that a line asks for
 abbrev pub call_of : Asked → Option Call

@@ -7,7 +7,7 @@ use Rattle.relay.specs.Relaying.{Side, TakesAll, as_left}
 use Rattle.wire.specs.Writing.{AppendsPart}
 use Rattle.ipc_model.specs.calls.Step.{number_of_call}
 use Rattle.ipc_model.specs.declared.call.Call.{Call}
-use Rattle.ipc_model.specs.declared.call.Reply.{Reply}
+use Rattle.ipc_model.specs.declared.reply.Reply.{Reply}
 use Rattle.script.specs.declared.fault.LineFault.{LineFault}
 use Rattle.script.specs.declared.fault.LineFault.TheVariants as line_fault
 use Rattle.script_printing.specs.declared.line.Exchange.{Exchange}

@@ -1,10 +1,10 @@
 ghost use Rattle.std.specs.Prelude.{◌≡◌, ◌++◌, OnOk};
 ghost use Rattle.words.specs.Words.{word};
-ghost use Rattle.shell.specs.Asking.{attempt_text, receive_options};
+ghost use Rattle.shell.specs.Asking.{attempt_text, plain_attempt_text, receive_options};
 
-use calls::push_call;
-use codes::MACH_MSG;
-use ipc_model::Call;
+use calls::push_plain_call;
+use codes::{MACH_MSG, NUMBERED};
+use ipc_model::{Call, PlainCall};
 use std::alloc::AllocError;
 use words::push_word;
 
@@ -45,20 +45,19 @@ fn push_message(
     out.extend_from_slice(message)
 }
 
-/// Adds the content of the frame that asks for a call: a send and a receive as one attempt, which doesn't wait, and a
-/// receive that has `waited` as one that may. An `Err` may have added some of it.
-pub fn push_attempt(out: &mut Vec<u8>, call: &Call) -> Result<(), AllocError>
-    ensures { OnOk result (out.new.items ≡ out.old.items ++ attempt_text call.now) }
+/// Adds the content of the frame that asks for a call which isn't numbered.
+fn push_plain_attempt(out: &mut Vec<u8>, call: &PlainCall) -> Result<(), AllocError>
+    ensures { OnOk result (out.new.items ≡ out.old.items ++ plain_attempt_text call.now) }
 {
     match call {
-        Call::Send { message } => push_message(
+        PlainCall::Send { message } => push_message(
             out,
             (MACH_MSG, 0x11),
             (0, 0),
             0,
             message.as_slice(),
         ),
-        &Call::Receive {
+        &PlainCall::Receive {
             limit,
             large,
             name,
@@ -70,6 +69,21 @@ pub fn push_attempt(out: &mut Vec<u8>, call: &Call) -> Result<(), AllocError>
             0,
             &[],
         ),
-        _ => push_call(out, call),
+        _ => push_plain_call(out, call),
+    }
+}
+
+/// Adds the content of the frame that asks for a call: a send and a receive as one attempt, which doesn't wait, and a
+/// receive that has `waited` as one that may. An `Err` may have added some of it.
+pub fn push_attempt(out: &mut Vec<u8>, call: &Call) -> Result<(), AllocError>
+    ensures { OnOk result (out.new.items ≡ out.old.items ++ attempt_text call.now) }
+{
+    match call {
+        Call::Plain(call) => push_plain_attempt(out, call),
+        Call::Numbered(numbered) => {
+            push_two(out, NUMBERED, numbered.request)?;
+            push_plain_attempt(out, &numbered.call)
+        }
+        Call::Unnumberable => push_word(out, NUMBERED),
     }
 }

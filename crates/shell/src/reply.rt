@@ -1,5 +1,5 @@
 ghost use Rattle.std.specs.Prelude.{◌≡◌, Some, IfOk, IfSome};
-ghost use Rattle.ipc_model.specs.declared.call.Reply.{Reply};
+ghost use Rattle.ipc_model.specs.declared.reply.Reply.{Reply};
 ghost use Rattle.shell.specs.Answers.{IsReplyTo};
 
 use ipc_model::Reply;

@@ -57,7 +57,7 @@ fn call_of(asked: &Asked) -> Option<&Call>
 
 /// The space that a task of this space is attached to after a call with this reply.
 fn space_after(space: u32, call: &Call, reply: &Reply) -> u32
-    ensures { result ≡ (if succeeded call.now reply.now then attached_by space call.now else space) }
+    ensures { result ≡ (if succeeded reply.now then attached_by space call.now else space) }
 {
     if reply.is_success() {
         call.attached_by(space)
@@ -134,7 +134,7 @@ fn tell_reply(
     ensures text { IfOk result (λ printed. printed.text.items ≡ said_text place.number asked.now reply.now) }
     ensures well { IfOk result (λ printed. printed.is_well ≡ said_well asked.now reply.now) }
     ensures space { IfOk result (λ printed. printed.space
-        ≡ (if succeeded call.now reply.now then attached_by place.space call.now else place.space)) }
+        ≡ (if succeeded reply.now then attached_by place.space call.now else place.space)) }
 {
     let mut text = Vec::new(alloc);
     let is_well = push_said(alloc, &mut text, place.number, asked, reply)?;

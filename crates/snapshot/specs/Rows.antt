@@ -14,12 +14,12 @@ use Rattle.ipc_laws.specs.ListLaws.{some_same}
 use Rattle.ipc_laws.specs.MapSums.{key_is, same_key}
 use Rattle.ipc_model.specs.declared.entry.Entry.{Entry}
 use Rattle.ipc_model.specs.declared.port.PortState.{PortState}
-use Rattle.ipc_model.specs.state.State.{Names, State}
+use Rattle.ipc_model.specs.state.Ipc.{Names, Ipc}
 pub use Rattle.snapshot.specs.Ascending.{AscendsFrom, name_of, number_of, serial_of}
-use Rattle.snapshot.specs.Snapshots.{names_of, snapshot_of}
+use Rattle.snapshot.specs.Snapshots.{names_of, ipc_snapshot_of}
 use Rattle.snapshot.specs.declared.rows.LivePort.{LivePort}
 use Rattle.snapshot.specs.declared.rows.NamedEntry.{NamedEntry}
-use Rattle.snapshot.specs.declared.rows.Snapshot.{Snapshot}
+use Rattle.snapshot.specs.declared.rows.IpcSnapshot.{IpcSnapshot}
 use Rattle.snapshot.specs.declared.rows.Space.{Space}
 
 abbrev pub key_of : {X : Type 0} → ℕ × X → ℕ
@@ -183,7 +183,7 @@ abbrev pub port_in_row : LivePort → ℕ × PortState
 port_in_row row = (row.serial, row.state)
 
 -- The state of a snapshot's rows.
-abbrev pub state_of_rows : Snapshot → State
+abbrev pub state_of_rows : IpcSnapshot → Ipc
 state_of_rows snapshot =
     record {
       spaces = map_of (map space_of snapshot.spaces);
@@ -223,14 +223,14 @@ abbrev pub NamesAscend : Space → Type 0
 NamesAscend row = AscendsFrom 1 (map name_of row.names)
 
 -- A snapshot whose rows ascend.
-pub record Ascends (snapshot : Snapshot) : Type 0 where
+pub record Ascends (snapshot : IpcSnapshot) : Type 0 where
   pub spaces : AscendsFrom 1 (map number_of snapshot.spaces)
   pub names : All NamesAscend snapshot.spaces
   pub ports : AscendsFrom 1 (map serial_of snapshot.ports)
 
 -- Such a snapshot is that of the state of its rows.
-pub is_of_rows : (snapshot : Snapshot) → Ascends snapshot → snapshot ≡ snapshot_of (state_of_rows snapshot)
-unfolding snapshot_of
+pub is_of_rows : (snapshot : IpcSnapshot) → Ascends snapshot → snapshot ≡ ipc_snapshot_of (state_of_rows snapshot)
+unfolding ipc_snapshot_of
 is_of_rows snapshot ascends =
     λ i. record { next_serial = snapshot.next_serial; spaces = sym spaces i; ports = sym ports i }
   where
@@ -253,10 +253,10 @@ is_of_rows snapshot ascends =
         ∙ map_same_id (λ (p : LivePort). p) snapshot.ports (λ k d less. refl)
 
 -- A snapshot is that of one state at most.
-pub one_state : (one other : State) → snapshot_of one ≡ snapshot_of other → one ≡ other
-unfolding snapshot_of
+pub one_state : (one other : Ipc) → ipc_snapshot_of one ≡ ipc_snapshot_of other → one ≡ other
+unfolding ipc_snapshot_of
 one_state one other same =
-    λ i. record { spaces = spaces i; ports = ports i; next = ap (λ (s : Snapshot). s.next_serial) same i }
+    λ i. record { spaces = spaces i; ports = ports i; next = ap (λ (s : IpcSnapshot). s.next_serial) same i }
   where
     back : (names : Names) → from_sorted (map entry_of (names_of names)) ≡ names
     back names =
@@ -278,7 +278,7 @@ one_state one other same =
 
     spaces : one.spaces ≡ other.spaces
     spaces =
-        same_entries_map _ _ (sym (unrowed one.spaces) ∙ ap (λ (s : Snapshot). map unrow s.spaces) same
+        same_entries_map _ _ (sym (unrowed one.spaces) ∙ ap (λ (s : IpcSnapshot). map unrow s.spaces) same
         ∙ unrowed other.spaces)
 
     unported : (m : FinMap {K = ℕ} nat_cmp PortState) → map port_in_row (map port_row (entries m)) ≡ entries m
@@ -287,5 +287,5 @@ one_state one other same =
 
     ports : one.ports ≡ other.ports
     ports =
-        same_entries_map _ _ (sym (unported one.ports) ∙ ap (λ (s : Snapshot). map port_in_row s.ports) same
+        same_entries_map _ _ (sym (unported one.ports) ∙ ap (λ (s : IpcSnapshot). map port_in_row s.ports) same
         ∙ unported other.ports)

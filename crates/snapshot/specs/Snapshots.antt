@@ -1,7 +1,9 @@
 -- A state as rows.
 use Rattle.std.specs.Prelude.{List, map}
 use Rattle.std.specs.FinMap as finmap
-use Rattle.ipc_model.specs.state.State.{Names, State}
+use Rattle.ipc_model.specs.state.Ipc.{Names, Ipc}
+use Rattle.ipc_model.specs.state.State.{State}
+use Rattle.snapshot.specs.declared.rows.IpcSnapshot.{IpcSnapshot}
 use Rattle.snapshot.specs.declared.rows.NamedEntry.{NamedEntry}
 use Rattle.snapshot.specs.declared.rows.Snapshot.{Snapshot}
 
@@ -9,10 +11,17 @@ use Rattle.snapshot.specs.declared.rows.Snapshot.{Snapshot}
 abbrev pub names_of : Names → List NamedEntry
 names_of names = map (λ e. record { name = e.0; entry = e.1 }) (finmap.entries names)
 
--- the snapshot of a state: its spaces, each with its names, and its live ports, each list ascending
-unfoldable pub snapshot_of : State → Snapshot
-snapshot_of state = record {
+-- the snapshot of an IPC state: its spaces, each with its names, and its live ports, each list ascending
+unfoldable pub ipc_snapshot_of : Ipc → IpcSnapshot
+ipc_snapshot_of state = record {
   next_serial = state.next;
   spaces = map (λ e. record { number = e.0; names = names_of e.1 }) (finmap.entries state.spaces);
   ports = map (λ e. record { serial = e.0; state = e.1 }) (finmap.entries state.ports);
+}
+
+-- the snapshot of a state: for each space, in the same order, also what it keeps
+unfoldable pub snapshot_of : State → Snapshot
+snapshot_of state = record {
+  ipc = ipc_snapshot_of state.ipc;
+  kept = map (λ e. finmap.get state.kept e.0) (finmap.entries state.ipc.spaces);
 }

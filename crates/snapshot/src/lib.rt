@@ -5,4 +5,4 @@ mod ascending;
 mod rows;
 
 pub use ascending::{Numbered, ascends};
-pub use rows::{LivePort, NamedEntry, Snapshot, Space};
+pub use rows::{IpcSnapshot, LivePort, NamedEntry, Snapshot, Space};

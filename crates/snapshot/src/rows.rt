@@ -1,4 +1,4 @@
-use ipc_model::{Entry, PortState, Sequence};
+use ipc_model::{Entry, NumberedReply, PortState, Sequence};
 
 /// A name of a space and what it stands for.
 #[derive(Drop)]
@@ -25,13 +25,21 @@ pub struct LivePort {
     pub state: PortState,
 }
 
-/// A state: the spaces by their numbers, the live ports by their serials.
+/// An IPC state: the spaces by their numbers, the live ports by their serials.
 #[derive(Drop)]
-pub struct Snapshot {
+pub struct IpcSnapshot {
     /// The serial that the next port gets.
     pub next_serial: u64,
     /// The spaces, in ascending order of numbers.
     pub spaces: Sequence<Space>,
     /// The live ports, in ascending order of serials.
     pub ports: Sequence<LivePort>,
+}
+
+/// A state.
+#[derive(Drop)]
+pub struct Snapshot {
+    pub ipc: IpcSnapshot,
+    /// For each space, in the same order, the reply that it keeps, if it keeps one.
+    pub kept: Sequence<Option<NumberedReply>>,
 }

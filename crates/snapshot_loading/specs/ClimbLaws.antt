@@ -23,7 +23,7 @@ use Rattle.ipc_model.specs.declared.port.PortState.{PortState}
 use Rattle.ipc_model.specs.state.Circular.{Carries, Acyclic, carrier_of, carries, is_port, is_receive_right}
 use Rattle.ipc_model.specs.state.Lawful.{Lawful}
 use Rattle.ipc_model.specs.state.Placed.{same_kind}
-use Rattle.ipc_model.specs.state.State.{State, lives}
+use Rattle.ipc_model.specs.state.Ipc.{Ipc, lives}
 use Rattle.snapshot_loading.specs.Climbing.{doubled, twice, up_of}
 use Rattle.snapshot_loading.specs.Holding.{lawful_tight}
 use Rattle.snapshot_loading.specs.Linked.{looks_of, is_linked_message, is_linked_port, is_live_place, is_live_target, replies_well, travels_well}
@@ -96,7 +96,7 @@ counts_none r = elim (nat_lt r r) as (λ (b : Bool). nat_lt r r ≡ b → ◌≡
   | false ↦ λ (e : _). refl
 ] refl
 
-fewer_above : (rank : ℕ → ℕ) (state : State) (outer : ℕ) (port : PortState) (r : ℕ) → get state.ports outer ≡ Some port
+fewer_above : (rank : ℕ → ℕ) (state : Ipc) (outer : ℕ) (port : PortState) (r : ℕ) → get state.ports outer ≡ Some port
     → r < rank outer → above rank (rank outer) state + 1 ≤ above rank r state
 unfolding above counts
 fewer_above rank state outer port r at less =
@@ -123,7 +123,7 @@ two : ℕ → ℕ
 two zero = 1
 two (suc k) = two k + two k
 
-module _ (state : State) where
+module _ (state : Ipc) where
   -- the carrier of a port carries it
   carrier_carries : (inner outer : ℕ) → carrier_of state inner ≡ Some outer → Carries state outer inner
   carrier_carries inner outer is =

@@ -3,10 +3,10 @@ use Rattle.std.specs.Prelude.{◌≡◌, ℕ, zero, suc, cond, Option, None, Som
 use Rattle.std.specs.Ordering.{nat_cmp}
 use Rattle.std.specs.FinMap.{FinMap, insert}
 use Rattle.ipc_model.specs.state.Circular.{carrier_of}
-use Rattle.ipc_model.specs.state.State.{State, lives}
+use Rattle.ipc_model.specs.state.Ipc.{Ipc, lives}
 
 -- a hop: from a live port to the one that carries its receive right
-abbrev pub up_of : State → ℕ → Option ℕ
+abbrev pub up_of : Ipc → ℕ → Option ℕ
 up_of state q = cond (lives state q) (carrier_of state q) None
 
 abbrev pub twice : (ℕ → Option ℕ) → ℕ → Option ℕ
@@ -18,7 +18,7 @@ doubled zero f = f
 doubled (suc k) f = twice (doubled k f)
 
 -- doubled often enough, they lead nowhere
-abbrev pub EndsSomewhere : State → Type 0
+abbrev pub EndsSomewhere : Ipc → Type 0
 EndsSomewhere state = (k : ℕ) × ((q : ℕ) → doubled k (up_of state) q ≡ None)
 
 -- hops with one more, if there is one

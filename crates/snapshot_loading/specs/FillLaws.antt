@@ -23,7 +23,7 @@ use Rattle.ipc_model.specs.declared.message.PortInMessage.TheVariants as in_mess
 use Rattle.ipc_model.specs.declared.message.PortInMessage.TheVariants.{Null, Live}
 use Rattle.ipc_model.specs.declared.port.PortState.{PortState}
 use Rattle.ipc_model.specs.effects.Effects.{map_values, queued}
-use Rattle.ipc_model.specs.state.State.{Names, State, lives, new_port, with_entry, with_names, with_port}
+use Rattle.ipc_model.specs.state.Ipc.{Names, Ipc, lives, new_port, with_entry, with_names, with_port}
 use Rattle.ipc_state.specs.Running.{Running}
 use Rattle.ipc_model.specs.state.Lawful.{LawfulEntry}
 use Rattle.ipc_state.specs.Live.{carries_live, is_live, is_live_port, is_live_reply}
@@ -31,7 +31,7 @@ use Rattle.ipc_state.specs.Passed.{numbers_of, with_numbers, PortNumbers, AreFew
 use Rattle.snapshot.specs.Ascending.{AscendsFrom}
 use Rattle.snapshot.specs.declared.rows.LivePort.{LivePort}
 use Rattle.snapshot.specs.declared.rows.NamedEntry.{NamedEntry}
-use Rattle.snapshot.specs.declared.rows.Snapshot.{Snapshot}
+use Rattle.snapshot.specs.declared.rows.IpcSnapshot.{IpcSnapshot}
 use Rattle.snapshot.specs.declared.rows.Space.{Space}
 use Rattle.snapshot_loading.specs.Filling.{emptied, filled_all, named_all, opened, opened_all, queued_all, spaced, spaced_all}
 use Rattle.snapshot_loading.specs.Linked.{Looks, is_linked_message, is_linked_row, is_live_place, is_live_target, looks_of, replies_well, travels_well}
@@ -45,13 +45,13 @@ abbrev pub emptied_in_row : LivePort → ℕ × PortState
 emptied_in_row row = (row.serial, emptied row.state)
 
 -- what has to hold of a state before ports are opened in it
-pub record MayOpen (rows : List LivePort) (state : State) : Type 0 where
+pub record MayOpen (rows : List LivePort) (state : Ipc) : Type 0 where
   pub few : len state.ports + length rows ≤ MAX_PORTS
   pub below : (k : ℕ) (port : PortState) → get state.ports k ≡ Some port → k < state.next
   pub ascend : AscendsFrom state.next (map serial_of rows)
   pub fits : All (λ (row : LivePort). row.serial < 2 ^ 64 - 1) rows
 
-pub none_from : (state : State) (k : ℕ) → ((k : ℕ) (port : PortState) → get state.ports k ≡ Some port → k < state.next)
+pub none_from : (state : Ipc) (k : ℕ) → ((k : ℕ) (port : PortState) → get state.ports k ≡ Some port → k < state.next)
     → state.next ≤ k → get state.ports k ≡ None
 none_from state k below past =
     elim (get state.ports k) as (λ (o : Option PortState). get state.ports k ≡ o → o ≡ None) [
@@ -59,7 +59,7 @@ none_from state k below past =
       | Some port ↦ λ (is : _). absurd (omega (arith, past, below k port is))
     ] refl
 
-pub may_open_next : (row : LivePort) (rows : List LivePort) (state : State) → MayOpen (row ∷ rows) state
+pub may_open_next : (row : LivePort) (rows : List LivePort) (state : Ipc) → MayOpen (row ∷ rows) state
     → MayOpen rows (opened row state)
 may_open_next row rows state may = record {
   few = omega (arith, may.few, more);
@@ -81,16 +81,16 @@ may_open_next row rows state may = record {
     within k port true same is = omega (arith, key_is k row.serial same)
     within k port false apart is = omega (arith, may.below k port is, may.ascend.0)
 
-pub opened_ports : (rows : List LivePort) (state : State)
+pub opened_ports : (rows : List LivePort) (state : Ipc)
     → (opened_all rows state).ports ≡ put_all (map emptied_in_row rows) state.ports
 opened_ports [] state = refl
 opened_ports (row ∷ rows) state = opened_ports rows (opened row state)
 
-pub opened_spaces : (rows : List LivePort) (state : State) → (opened_all rows state).spaces ≡ state.spaces
+pub opened_spaces : (rows : List LivePort) (state : Ipc) → (opened_all rows state).spaces ≡ state.spaces
 opened_spaces [] state = refl
 opened_spaces (row ∷ rows) state = opened_spaces rows (opened row state)
 
-pub opened_next : (next : ℕ) (rows : List LivePort) (state : State) → state.next ≤ next → All (IsShapedPort next) rows
+pub opened_next : (next : ℕ) (rows : List LivePort) (state : Ipc) → state.next ≤ next → All (IsShapedPort next) rows
     → (opened_all rows state).next ≤ next
 opened_next next [] state le all = le
 opened_next next (row ∷ rows) state le all =
@@ -98,11 +98,11 @@ opened_next next (row ∷ rows) state le all =
     (All-tail (IsShapedPort next) row rows all)
 
 -- a new port, which gets its numbers
-pub opened_is : (state : State) (row : LivePort)
+pub opened_is : (state : Ipc) (row : LivePort)
     → with_port (record state { ports = insert state.ports row.serial new_port; next = row.serial + 1 }) row.serial
     (with_numbers (numbers_of row.state)) ≡ opened row state
 opened_is state row =
-    ap (λ (o : Option PortState). elim o as (λ _. State) [
+    ap (λ (o : Option PortState). elim o as (λ _. Ipc) [
       | None ↦ new
       | Some port ↦ record new
           { ports = insert new.ports row.serial (with_numbers (numbers_of row.state) port) }
@@ -111,12 +111,12 @@ opened_is state row =
     ∙ ap (λ (m : FinMap {K = ℕ} nat_cmp PortState). record state { ports = m; next = row.serial + 1 })
     (insert-insert state.ports row.serial new_port (emptied row.state))
   where
-    new : State
+    new : Ipc
     new = record state { ports = insert state.ports row.serial new_port; next = row.serial + 1 }
 
 -- Spaces.
 
-pub named_is : (space : ℕ) (rows : List NamedEntry) (state : State) (names : Names)
+pub named_is : (space : ℕ) (rows : List NamedEntry) (state : Ipc) (names : Names)
     → get state.spaces space ≡ Some names
     → named_all space rows state ≡ with_names state space (put_all (map entry_of rows) names)
 named_is space [] state names there =
@@ -132,16 +132,16 @@ named_is space (row ∷ rows) state names there =
   where
     one : with_entry state space row.name row.entry ≡ with_names state space (insert names row.name row.entry)
     one =
-        ap (λ (o : Option Names). elim o as (λ _. State)
+        ap (λ (o : Option Names). elim o as (λ _. Ipc)
         [ None ↦ state | Some n ↦ with_names state space (insert n row.name row.entry) ]) there
 
-pub spaced_is : (row : Space) (state : State) → spaced row state ≡ with_names state row.number (names_in_rows row.names)
+pub spaced_is : (row : Space) (state : Ipc) → spaced row state ≡ with_names state row.number (names_in_rows row.names)
 spaced_is row state =
     named_is row.number row.names (with_names state row.number empty) empty (get-here state.spaces row.number empty)
     ∙ ap (λ (m : FinMap {K = ℕ} nat_cmp Names). record state { spaces = m })
     (insert-insert state.spaces row.number empty (names_in_rows row.names))
 
-pub spaced_all_is : (rows : List Space) (state : State)
+pub spaced_all_is : (rows : List Space) (state : Ipc)
     → spaced_all rows state ≡ record state { spaces = put_all (map space_of rows) state.spaces }
 spaced_all_is [] state = refl
 spaced_all_is (row ∷ rows) state =
@@ -149,17 +149,17 @@ spaced_all_is (row ∷ rows) state =
     ∙ spaced_all_is rows (with_names state row.number (names_in_rows row.names))
 
 -- what has to hold of a state before names are put into a space
-pub record MayName (space : ℕ) (rows : List NamedEntry) (state : State) : Type 0 where
+pub record MayName (space : ℕ) (rows : List NamedEntry) (state : Ipc) : Type 0 where
   pub names : Names
   pub there : get state.spaces space ≡ Some names
   pub few : len names + length rows ≤ MAX_NAMES
   pub each : All (λ (row : NamedEntry). AreFewReferences row.entry) rows
 
-pub may_name_next : (space : ℕ) (row : NamedEntry) (rows : List NamedEntry) (state : State)
+pub may_name_next : (space : ℕ) (row : NamedEntry) (rows : List NamedEntry) (state : Ipc)
     → MayName space (row ∷ rows) state → MayName space rows (with_entry state space row.name row.entry)
 may_name_next space row rows state may =
     subst (MayName space rows) (sym
-    (ap (λ (o : Option Names). elim o as (λ _. State)
+    (ap (λ (o : Option Names). elim o as (λ _. Ipc)
     [ None ↦ state | Some n ↦ with_names state space (insert n row.name row.entry) ]) may.there)) (record {
       names = insert may.names row.name row.entry;
       there = get-here state.spaces space (insert may.names row.name row.entry);
@@ -178,14 +178,14 @@ may_name_next space row rows state may =
     one_more false n = omega arith
 
 -- what has to hold of a state before spaces are opened in it
-pub record MaySpace (rows : List Space) (state : State) : Type 0 where
+pub record MaySpace (rows : List Space) (state : Ipc) : Type 0 where
   pub from : ℕ
   pub below : (k : ℕ) (names : Names) → get state.spaces k ≡ Some names → k < from
   pub ascend : AscendsFrom from (map number_of rows)
   pub few : len state.spaces + 1 ≤ from
   pub each : All IsShapedSpace rows
 
-pub may_space_unused : (row : Space) (rows : List Space) (state : State) → MaySpace (row ∷ rows) state
+pub may_space_unused : (row : Space) (rows : List Space) (state : Ipc) → MaySpace (row ∷ rows) state
     → get state.spaces row.number ≡ None
 may_space_unused row rows state may =
     elim (get state.spaces row.number) as (λ (o : Option Names). get state.spaces row.number ≡ o → o ≡ None) [
@@ -193,7 +193,7 @@ may_space_unused row rows state may =
       | Some names ↦ λ (is : _). absurd (omega (arith, may.ascend.0, may.below row.number names is))
     ] refl
 
-pub may_space_next : (row : Space) (rows : List Space) (state : State) → MaySpace (row ∷ rows) state
+pub may_space_next : (row : Space) (rows : List Space) (state : Ipc) → MaySpace (row ∷ rows) state
     → MaySpace rows (spaced row state)
 may_space_next row rows state may = subst (MaySpace rows) (sym (spaced_is row state)) (record {
   from = row.number + 1;
@@ -220,17 +220,17 @@ may_space_next row rows state may = subst (MaySpace rows) (sym (spaced_is row st
 
 -- Messages.
 
-queued_one : (serial : ℕ) (message : Message) (state : State) (port : PortState) → get state.ports serial ≡ Some port
+queued_one : (serial : ℕ) (message : Message) (state : Ipc) (port : PortState) → get state.ports serial ≡ Some port
     → queued state serial message ≡ record state
     { ports = insert state.ports serial (record port { messages = port.messages ++ message ∷ [] }) }
 queued_one serial message state port there =
-    ap (λ (o : Option PortState). elim o as (λ _. State) [
+    ap (λ (o : Option PortState). elim o as (λ _. Ipc) [
       | None ↦ state
       | Some p ↦ record state
           { ports = insert state.ports serial (record p { messages = p.messages ++ message ∷ [] }) }
     ]) there
 
-pub queued_is : (serial : ℕ) (messages : List Message) (state : State) (port : PortState)
+pub queued_is : (serial : ℕ) (messages : List Message) (state : Ipc) (port : PortState)
     → get state.ports serial ≡ Some port
     → queued_all serial messages state
     ≡ record state { ports = insert state.ports serial (record port { messages = port.messages ++ messages }) }
@@ -276,7 +276,7 @@ module _ {X : Type 0} where
       ∙ find_there done rest k w under.1
 
 -- The messages of ports, port by port.
-pub filled_is : (rows : List LivePort) (state : State) (done : List (ℕ × PortState)) (at : ℕ)
+pub filled_is : (rows : List LivePort) (state : Ipc) (done : List (ℕ × PortState)) (at : ℕ)
     → entries state.ports ≡ done ++ map emptied_in_row rows → AreUnder at done → AscendsFrom at (map serial_of rows)
     → (ports : FinMap {K = ℕ} nat_cmp PortState) × (filled_all rows state ≡ record state { ports = ports })
     × (entries ports ≡ done ++ map port_in_row rows)
@@ -286,7 +286,7 @@ filled_is (row ∷ rows) state done at is under ascends =
     let there : get state.ports row.serial ≡ Some (emptied row.state) =
     get-entries state.ports row.serial ∙ ap (find nat_cmp row.serial) is
     ∙ find_there done (map emptied_in_row rows) row.serial (emptied row.state) below in
-    let next : State = record state { ports = insert state.ports row.serial row.state } in
+    let next : Ipc = record state { ports = insert state.ports row.serial row.state } in
     let step : queued_all row.serial row.state.messages state ≡ next =
     queued_is row.serial row.state.messages state (emptied row.state) there in
     let put : entries next.ports ≡ (done ++ (row.serial, row.state) ∷ []) ++ map emptied_in_row rows =
@@ -302,7 +302,7 @@ filled_is (row ∷ rows) state done at is under ascends =
     )
 
 -- The state of rows with no messages yet.
-abbrev pub skeleton : Snapshot → State
+abbrev pub skeleton : IpcSnapshot → Ipc
 skeleton snapshot =
     record {
       spaces = map_of (map space_of snapshot.spaces);
@@ -310,10 +310,10 @@ skeleton snapshot =
       next = snapshot.next_serial;
     }
 
-abbrev pub nothing : State
+abbrev pub nothing : Ipc
 nothing = record { spaces = empty; ports = empty; next = 1 }
 
-pub skeleton_is : (snapshot : Snapshot)
+pub skeleton_is : (snapshot : IpcSnapshot)
     → spaced_all snapshot.spaces (record (opened_all snapshot.ports nothing) { next = snapshot.next_serial })
     ≡ skeleton snapshot
 skeleton_is snapshot =
@@ -324,7 +324,7 @@ skeleton_is snapshot =
       next = snapshot.next_serial;
     })
 
-module _ (snapshot : Snapshot) (ascends : AscendsFrom 1 (map serial_of snapshot.ports)) where
+module _ (snapshot : IpcSnapshot) (ascends : AscendsFrom 1 (map serial_of snapshot.ports)) where
   bare : entries (skeleton snapshot).ports ≡ map emptied_in_row snapshot.ports
   bare =
       entries_of (map emptied_in_row snapshot.ports) 1
@@ -375,10 +375,10 @@ module _ (snapshot : Snapshot) (ascends : AscendsFrom 1 (map serial_of snapshot.
 
 -- Messages of linked rows are to live ports.
 
-abbrev pub AreAlike : State → State → Type 0
+abbrev pub AreAlike : Ipc → Ipc → Type 0
 AreAlike state other = (s : ℕ) → lives other s ≡ lives state s
 
-module _ (state other : State) (alike : AreAlike state other) where
+module _ (state other : Ipc) (alike : AreAlike state other) where
   live_place : (port : PortInMessage) → is_live_place (looks_of state) port ≡ true → is_live_port other port ≡ true
   live_place Null live = refl
   live_place in_message.Dead live = refl
@@ -405,10 +405,10 @@ module _ (state other : State) (alike : AreAlike state other) where
       (live_reply message.reply (first_holds (replies_well (looks_of state) message.reply) _ linked))
       (live_rights message.rights (second_holds (replies_well (looks_of state) message.reply) _ linked))
 
-pub queued_alike : (serial : ℕ) (message : Message) (state : State) → AreAlike state (queued state serial message)
+pub queued_alike : (serial : ℕ) (message : Message) (state : Ipc) → AreAlike state (queued state serial message)
 queued_alike serial message state s =
     elim (get state.ports serial) as (λ (o : Option PortState). get state.ports serial ≡ o
-    → is_some (get (elim o as (λ _. State) [
+    → is_some (get (elim o as (λ _. Ipc) [
       | None ↦ state
       | Some p ↦ record state
           { ports = insert state.ports serial (record p { messages = p.messages ++ message ∷ [] }) }
@@ -426,14 +426,14 @@ queued_alike serial message state s =
     by port is true same = sym (ap (lives state) (key_is s serial same) ∙ ap is_some is)
     by port is false apart = refl
 
-pub all_queued_alike : (serial : ℕ) (messages : List Message) (state : State)
+pub all_queued_alike : (serial : ℕ) (messages : List Message) (state : Ipc)
     → AreAlike state (queued_all serial messages state)
 all_queued_alike serial [] state s = refl
 all_queued_alike serial (message ∷ messages) state s =
     all_queued_alike serial messages (queued state serial message) s ∙ queued_alike serial message state s
 
 -- A space of a lawful shape that exists and has no names.
-pub may_name_first : (row : Space) (state : State) → IsShapedSpace row
+pub may_name_first : (row : Space) (state : Ipc) → IsShapedSpace row
     → MayName row.number row.names (with_names state row.number empty)
 may_name_first row state shape = record {
   names = empty;

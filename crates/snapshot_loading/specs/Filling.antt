@@ -5,7 +5,7 @@ use Rattle.std.specs.FinMap as finmap
 use Rattle.ipc_model.specs.declared.message.Message.{Message}
 use Rattle.ipc_model.specs.declared.port.PortState.{PortState}
 use Rattle.ipc_model.specs.effects.Effects.{queued}
-use Rattle.ipc_model.specs.state.State.{State, with_entry, with_names}
+use Rattle.ipc_model.specs.state.Ipc.{Ipc, with_entry, with_names}
 use Rattle.snapshot.specs.declared.rows.LivePort.{LivePort}
 use Rattle.snapshot.specs.declared.rows.NamedEntry.{NamedEntry}
 use Rattle.snapshot.specs.declared.rows.Space.{Space}
@@ -14,34 +14,34 @@ use Rattle.snapshot.specs.declared.rows.Space.{Space}
 abbrev pub emptied : PortState → PortState
 emptied port = record port { messages = [] }
 
-abbrev pub opened : LivePort → State → State
+abbrev pub opened : LivePort → Ipc → Ipc
 opened row state =
     record state { ports = finmap.insert state.ports row.serial (emptied row.state); next = row.serial + 1 }
 
 -- ports with their numbers
-abbrev pub opened_all : List LivePort → State → State
+abbrev pub opened_all : List LivePort → Ipc → Ipc
 opened_all [] state = state
 opened_all (row ∷ rows) state = opened_all rows (opened row state)
 
 -- names of a space
-abbrev pub named_all : ℕ → List NamedEntry → State → State
+abbrev pub named_all : ℕ → List NamedEntry → Ipc → Ipc
 named_all space [] state = state
 named_all space (row ∷ rows) state = named_all space rows (with_entry state space row.name row.entry)
 
-abbrev pub spaced : Space → State → State
+abbrev pub spaced : Space → Ipc → Ipc
 spaced row state = named_all row.number row.names (with_names state row.number finmap.empty)
 
 -- spaces with their names
-abbrev pub spaced_all : List Space → State → State
+abbrev pub spaced_all : List Space → Ipc → Ipc
 spaced_all [] state = state
 spaced_all (row ∷ rows) state = spaced_all rows (spaced row state)
 
 -- messages of a port
-abbrev pub queued_all : ℕ → List Message → State → State
+abbrev pub queued_all : ℕ → List Message → Ipc → Ipc
 queued_all serial [] state = state
 queued_all serial (message ∷ messages) state = queued_all serial messages (queued state serial message)
 
 -- the messages of ports
-abbrev pub filled_all : List LivePort → State → State
+abbrev pub filled_all : List LivePort → Ipc → Ipc
 filled_all [] state = state
 filled_all (row ∷ rows) state = filled_all rows (queued_all row.serial row.state.messages state)

@@ -25,7 +25,7 @@ use Rattle.ipc_model.specs.declared.message.RightKind.TheVariants as kind
 use Rattle.ipc_model.specs.declared.port.PortState.{PortState}
 use Rattle.ipc_model.specs.state.Lawful.{Lawful, LawfulMessage, LawfulReply, IsHeldAlongsideSet}
 use Rattle.ipc_model.specs.state.Placed.{same_kind}
-use Rattle.ipc_model.specs.state.State.{Names, State, is_number, lives, port_held, received_port}
+use Rattle.ipc_model.specs.state.Ipc.{Names, Ipc, is_number, lives, port_held, received_port}
 use Rattle.snapshot_loading.specs.Linked.{Looks, looks_of, has_set, is_in_no_set, is_linked_message, is_linked_port, is_live_place, is_live_target, is_set, replies_well, stands_well, travels_well}
 use Rattle.snapshot_loading.specs.LinkLaws.{AreWell, AreTight, both_hold, first_holds, second_holds, names_there, one_part, two_parts, some_entry, some_of, true_of, isnt, is_not, found_any, parts_true}
 
@@ -161,7 +161,7 @@ set_there (Some (SendOnce port target)) e = absurd (cc e)
 set_there (Some Set) e = refl
 set_there (Some (Dead references)) e = absurd (cc e)
 
-module _ (state : State) where
+module _ (state : Ipc) where
   abbrev seen : Looks
   seen = looks_of state
 

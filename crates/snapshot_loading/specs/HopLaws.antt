@@ -7,7 +7,7 @@ use Rattle.std.proofs.lemmas.Bool.{le-ltb, lt-ltb, ltb-true, ltb-false}
 use Rattle.ipc_laws.specs.MapSums.{key_is, same_key}
 use Rattle.ipc_laws.specs.Others.{number_decided}
 use Rattle.ipc_model.specs.state.Circular.{carrier_of}
-use Rattle.ipc_model.specs.state.State.{State, lives}
+use Rattle.ipc_model.specs.state.Ipc.{Ipc, lives}
 use Rattle.ipc_state.specs.Passed.{IsNextPort}
 use Rattle.snapshot_loading.specs.Climbing.{EndsSomewhere, doubled, twice, up_of, with_hop}
 
@@ -19,7 +19,7 @@ abbrev pub AreBelow : (ℕ → Option ℕ) → ℕ → Hops → Type 0
 AreBelow f at up = (q : ℕ) → get up q ≡ cond (nat_lt q at) (f q) None
 
 -- only live ports hop
-abbrev pub OnlyLive : State → (ℕ → Option ℕ) → Type 0
+abbrev pub OnlyLive : Ipc → (ℕ → Option ℕ) → Type 0
 OnlyLive state f = (q : ℕ) → lives state q ≡ false → f q ≡ None
 
 pub none_below : (f : ℕ → Option ℕ) (up : Hops) → up ≡ empty → AreBelow f 0 up
@@ -27,7 +27,7 @@ none_below f up is q =
     ap (λ (m : Hops). get m q) is ∙ get-empty nat_cmp q
     ∙ sym (ap (λ (b : Bool). cond b (f q) None) (le-ltb q 0 (omega arith)))
 
-module _ (state : State) (f : ℕ → Option ℕ) (only : OnlyLive state f) where
+module _ (state : Ipc) (f : ℕ → Option ℕ) (only : OnlyLive state f) where
   dead_from : (at q : ℕ) → ((s : ℕ) → at ≤ s → get state.ports s ≡ None) → at ≤ q → f q ≡ None
   dead_from at q none from = only q (ap is_some (none q from))
 
@@ -83,13 +83,13 @@ module _ (state : State) (f : ℕ → Option ℕ) (only : OnlyLive state f) wher
         | false ↦ λ (more : _). sym (dead_from at q none (ltb-false q at more))
       ] refl
 
-pub up_only : (state : State) → OnlyLive state (up_of state)
+pub up_only : (state : Ipc) → OnlyLive state (up_of state)
 up_only state q dead = ap (λ (b : Bool). cond b (carrier_of state q) None) dead
 
-pub twice_only : (state : State) (f : ℕ → Option ℕ) → OnlyLive state f → OnlyLive state (twice f)
+pub twice_only : (state : Ipc) (f : ℕ → Option ℕ) → OnlyLive state f → OnlyLive state (twice f)
 twice_only state f only q dead = ap (option_and_then f) (only q dead)
 
-pub doubled_only : (state : State) (k : ℕ) → OnlyLive state (doubled k (up_of state))
+pub doubled_only : (state : Ipc) (k : ℕ) → OnlyLive state (doubled k (up_of state))
 doubled_only state zero = up_only state
 doubled_only state (suc k) = twice_only state (doubled k (up_of state)) (doubled_only state k)
 
@@ -102,6 +102,6 @@ none_nowhere up none =
     ap len (same_map nat_cmp_total nat_cmp-IsAntisymmetric up empty (λ q. none q ∙ sym (get-empty nat_cmp q)))
     ∙ len-empty nat_cmp ℕ
 
-pub ends_here : (state : State) (k : ℕ) (up : Hops) → ((q : ℕ) → get up q ≡ doubled k (up_of state) q) → len up ≡ 0
+pub ends_here : (state : Ipc) (k : ℕ) (up : Hops) → ((q : ℕ) → get up q ≡ doubled k (up_of state) q) → len up ≡ 0
     → EndsSomewhere state
 ends_here state k up is none = (k, λ q. sym (is q) ∙ nowhere_none up none q)

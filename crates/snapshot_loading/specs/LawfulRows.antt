@@ -18,12 +18,12 @@ use Rattle.ipc_model.specs.declared.entry.Entry.{Entry}
 use Rattle.ipc_model.specs.declared.port.PortState.{PortState}
 use Rattle.ipc_model.specs.state.Circular.{Acyclic}
 use Rattle.ipc_model.specs.state.Lawful.{Lawful, LawfulMessage, LawfulNames, ShortQueues}
-use Rattle.ipc_model.specs.state.State.{Names, State, lives}
-use Rattle.snapshot.specs.LawfulSnapshot.{IsLawfulSnapshot}
+use Rattle.ipc_model.specs.state.Ipc.{Names, Ipc, lives}
+use Rattle.snapshot.specs.LawfulSnapshot.{IsLawfulIpc}
 use Rattle.snapshot.specs.Ascending.{AscendsFrom}
-use Rattle.snapshot.specs.Snapshots.{snapshot_of}
+use Rattle.snapshot.specs.Snapshots.{ipc_snapshot_of}
 use Rattle.snapshot.specs.declared.rows.LivePort.{LivePort}
-use Rattle.snapshot.specs.declared.rows.Snapshot.{Snapshot}
+use Rattle.snapshot.specs.declared.rows.IpcSnapshot.{IpcSnapshot}
 use Rattle.snapshot.specs.declared.rows.Space.{Space}
 use Rattle.snapshot_loading.specs.Holding.{lawful_tight, lawful_well, sets_alongside}
 use Rattle.snapshot_loading.specs.Linked.{is_linked, looks_of}
@@ -43,18 +43,18 @@ all_unmapped {A = A} P f (x ∷ xs) all =
     All-cons (λ (y : A). P (f y)) x xs (All-head P (f x) (map f xs) all)
     (all_unmapped P f xs (All-tail P (f x) (map f xs) all))
 
-module _ (state : State) (snapshot : Snapshot) (same : snapshot ≡ snapshot_of state) where
+module _ (state : Ipc) (snapshot : IpcSnapshot) (same : snapshot ≡ ipc_snapshot_of state) where
   spaces_are : snapshot.spaces ≡ map space_row (entries state.spaces)
-  unfolding snapshot_of
-  spaces_are = ap (λ (s : Snapshot). s.spaces) same
+  unfolding ipc_snapshot_of
+  spaces_are = ap (λ (s : IpcSnapshot). s.spaces) same
 
   ports_are : snapshot.ports ≡ map port_row (entries state.ports)
-  unfolding snapshot_of
-  ports_are = ap (λ (s : Snapshot). s.ports) same
+  unfolding ipc_snapshot_of
+  ports_are = ap (λ (s : IpcSnapshot). s.ports) same
 
   next_is : snapshot.next_serial ≡ state.next
-  unfolding snapshot_of
-  next_is = ap (λ (s : Snapshot). s.next_serial) same
+  unfolding ipc_snapshot_of
+  next_is = ap (λ (s : IpcSnapshot). s.next_serial) same
 
   many_ports : length snapshot.ports ≡ len state.ports
   many_ports = ap length ports_are ∙ length_mapped port_row (entries state.ports) ∙ sym (len-entries state.ports)
@@ -291,7 +291,7 @@ module _ (state : State) (snapshot : Snapshot) (same : snapshot ≡ snapshot_of 
         first = first_there snapshot.spaces (entries state.spaces) spaces_are shape.first
 
 -- A lawful snapshot is that of one state, which is lawful and acyclic, with short queues.
-pub lawful_one : (state : State) (snapshot : Snapshot) → snapshot ≡ snapshot_of state → IsLawfulSnapshot snapshot
+pub lawful_one : (state : Ipc) (snapshot : IpcSnapshot) → snapshot ≡ ipc_snapshot_of state → IsLawfulIpc snapshot
     → Lawful state × Acyclic state × ShortQueues state
 lawful_one state snapshot same lawful =
     let one : lawful.state ≡ state = one_state lawful.state state (sym lawful.same ∙ same) in

@@ -25,9 +25,9 @@ use Rattle.ipc_model.specs.declared.message.PortInMessage.TheVariants.{Null, Liv
 use Rattle.ipc_model.specs.declared.message.RightKind.{RightKind}
 use Rattle.ipc_model.specs.declared.message.RightKind.TheVariants as kind
 use Rattle.ipc_model.specs.declared.port.PortState.{PortState}
-use Rattle.ipc_model.specs.state.State.{Names, State, is_number, lives, port_held}
-use Rattle.snapshot.specs.Snapshots.{snapshot_of}
-use Rattle.snapshot.specs.declared.rows.Snapshot.{Snapshot}
+use Rattle.ipc_model.specs.state.Ipc.{Names, Ipc, is_number, lives, port_held}
+use Rattle.snapshot.specs.Snapshots.{ipc_snapshot_of}
+use Rattle.snapshot.specs.declared.rows.IpcSnapshot.{IpcSnapshot}
 use Rattle.snapshot_loading.specs.Linked.{Looks, looks_of, is_linked, is_linked_message, is_linked_name, is_linked_port, is_linked_row, is_linked_space, is_live_place, is_live_target, replies_well, stands_well, travels_well}
 use Rattle.snapshot.specs.Rows.{named_row, port_row, space_row}
 
@@ -223,26 +223,26 @@ parts_true f p bound (x ∷ xs) each within =
 -- the rows of a state
 
 -- what stands under each name, and what each port keeps, is linked
-abbrev pub AreWell : State → Type 0
+abbrev pub AreWell : Ipc → Type 0
 AreWell state =
     (space name : ℕ) (names : Names) (entry : Entry) → get state.spaces space ≡ Some names → get names name ≡ Some entry
     → stands_well (looks_of state) space name entry ≡ true
 
-abbrev pub AreTight : State → Type 0
+abbrev pub AreTight : Ipc → Type 0
 AreTight state =
     (serial : ℕ) (port : PortState) → get state.ports serial ≡ Some port → is_linked_port (looks_of state) port ≡ true
 
-module _ (state : State) (snapshot : Snapshot) (same : snapshot ≡ snapshot_of state) where
+module _ (state : Ipc) (snapshot : IpcSnapshot) (same : snapshot ≡ ipc_snapshot_of state) where
   abbrev looks : Looks
   looks = looks_of state
 
   spaces_are : snapshot.spaces ≡ map space_row (entries state.spaces)
-  unfolding snapshot_of
-  spaces_are = ap (λ (s : Snapshot). s.spaces) same
+  unfolding ipc_snapshot_of
+  spaces_are = ap (λ (s : IpcSnapshot). s.spaces) same
 
   ports_are : snapshot.ports ≡ map port_row (entries state.ports)
-  unfolding snapshot_of
-  ports_are = ap (λ (s : Snapshot). s.ports) same
+  unfolding ipc_snapshot_of
+  ports_are = ap (λ (s : IpcSnapshot). s.ports) same
 
   pub all_well : is_linked (looks_of state) snapshot ≡ true → AreWell state × AreTight state
   all_well linked = (
@@ -277,7 +277,7 @@ module _ (state : State) (snapshot : Snapshot) (same : snapshot ≡ snapshot_of 
 
 -- Linked rows: no right dangles.
 
-module _ (state : State) where
+module _ (state : Ipc) where
   abbrev seen : Looks
   seen = looks_of state
 

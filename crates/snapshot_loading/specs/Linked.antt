@@ -14,10 +14,10 @@ use Rattle.ipc_model.specs.declared.message.RightKind.{RightKind}
 use Rattle.ipc_model.specs.declared.message.RightKind.TheVariants as kind
 use Rattle.ipc_model.specs.declared.port.PortState.{PortState}
 use Rattle.ipc_model.specs.state.Placed.{same_kind}
-use Rattle.ipc_model.specs.state.State.{Names, State, lives}
+use Rattle.ipc_model.specs.state.Ipc.{Names, Ipc, lives}
 use Rattle.snapshot.specs.declared.rows.LivePort.{LivePort}
 use Rattle.snapshot.specs.declared.rows.NamedEntry.{NamedEntry}
-use Rattle.snapshot.specs.declared.rows.Snapshot.{Snapshot}
+use Rattle.snapshot.specs.declared.rows.IpcSnapshot.{IpcSnapshot}
 use Rattle.snapshot.specs.declared.rows.Space.{Space}
 
 -- what rows are compared with: which ports live, their sets, and the names of each space
@@ -26,7 +26,7 @@ pub record Looks : Type 0 where
   pub set_of : ℕ → Option ℕ
   pub names : ℕ → Names
 
-abbrev pub looks_of : State → Looks
+abbrev pub looks_of : Ipc → Looks
 looks_of state =
     record {
       lives = lives state;
@@ -98,6 +98,6 @@ is_linked_space looks space = list_all (is_linked_name looks space.number) space
 abbrev pub is_linked_row : Looks → LivePort → Bool
 is_linked_row looks row = is_linked_port looks row.state
 
-abbrev pub is_linked : Looks → Snapshot → Bool
+abbrev pub is_linked : Looks → IpcSnapshot → Bool
 is_linked looks snapshot =
     list_all (is_linked_space looks) snapshot.spaces && list_all (is_linked_row looks) snapshot.ports

@@ -22,12 +22,12 @@ use Rattle.ipc_model.specs.declared.message.RightKind.{RightKind}
 use Rattle.ipc_model.specs.declared.message.RightKind.TheVariants as kind
 use Rattle.ipc_model.specs.declared.port.PortState.{PortState}
 use Rattle.ipc_model.specs.state.Lawful.{LawfulMessage}
-use Rattle.ipc_model.specs.state.State.{Names, State, lives, received_port}
+use Rattle.ipc_model.specs.state.Ipc.{Names, Ipc, lives, received_port}
 use Rattle.snapshot.specs.Ascending.{AscendsFrom}
-use Rattle.snapshot.specs.Snapshots.{names_of, snapshot_of}
+use Rattle.snapshot.specs.Snapshots.{names_of, ipc_snapshot_of}
 use Rattle.snapshot.specs.declared.rows.LivePort.{LivePort}
 use Rattle.snapshot.specs.declared.rows.NamedEntry.{NamedEntry}
-use Rattle.snapshot.specs.declared.rows.Snapshot.{Snapshot}
+use Rattle.snapshot.specs.declared.rows.IpcSnapshot.{IpcSnapshot}
 use Rattle.snapshot.specs.declared.rows.Space.{Space}
 use Rattle.snapshot_loading.specs.Holding.{no_receive, no_reply, no_target, unless_same}
 use Rattle.snapshot_loading.specs.Receivers.{received_as, received_at, received_by, received_in, received_under, received_with, receivers}
@@ -110,12 +110,12 @@ space_receives s e =
     (λ (x : ℕ × Entry). entry_receives s (named_row x)) (entries e.1)
 
 -- The receive rights in the rows of a state are those of the state.
-pub receivers_weigh : (state : State) (snapshot : Snapshot) → snapshot ≡ snapshot_of state
+pub receivers_weigh : (state : Ipc) (snapshot : IpcSnapshot) → snapshot ≡ ipc_snapshot_of state
     → ((serial : ℕ) (port : PortState) → get state.ports serial ≡ Some port → All LawfulMessage port.messages)
     → (s : ℕ) → weigh (is_one s) (receivers snapshot) ≡ state_weigh (receive_of s) state
-unfolding snapshot_of state_weigh
+unfolding ipc_snapshot_of state_weigh
 receivers_weigh state snapshot same lawful s =
-    ap (λ (r : Snapshot). weigh (is_one s) (receivers r)) same
+    ap (λ (r : IpcSnapshot). weigh (is_one s) (receivers r)) same
     ∙ weigh-append (is_one s) (flat_map received_in (map space_row (entries state.spaces)))
     (flat_map received_at (map port_row (entries state.ports)))
     ∙ (λ i. spaces i + ports i)
@@ -140,7 +140,7 @@ receivers_weigh state snapshot same lawful s =
         (all_entries (λ (e : ℕ × PortState). All LawfulMessage e.1.messages) state.ports lawful)
 
 -- A number is counted once among the keys of a map that has it.
-pub keys_weigh : (state : State) (s : ℕ)
+pub keys_weigh : (state : Ipc) (s : ℕ)
     → weigh (is_one s) (map serial_of (map port_row (entries state.ports))) ≡ cond (lives state s) 1 0
 keys_weigh state s =
     weigh-map (is_one s) serial_of (map port_row (entries state.ports)) ∙ weigh-map

@@ -6,10 +6,10 @@ use Rattle.ipc_model.specs.declared.message.PortInMessage.{PortInMessage}
 use Rattle.ipc_model.specs.declared.message.PortInMessage.TheVariants as in_message
 use Rattle.ipc_model.specs.declared.message.RightKind.{RightKind}
 use Rattle.ipc_model.specs.declared.message.RightKind.TheVariants as kind
-use Rattle.ipc_model.specs.state.State.{received_port}
+use Rattle.ipc_model.specs.state.Ipc.{received_port}
 use Rattle.snapshot.specs.declared.rows.LivePort.{LivePort}
 use Rattle.snapshot.specs.declared.rows.NamedEntry.{NamedEntry}
-use Rattle.snapshot.specs.declared.rows.Snapshot.{Snapshot}
+use Rattle.snapshot.specs.declared.rows.IpcSnapshot.{IpcSnapshot}
 use Rattle.snapshot.specs.declared.rows.Space.{Space}
 
 -- the port whose receive right stands under a name
@@ -39,5 +39,5 @@ received_with message = flat_map received_by message.rights
 abbrev pub received_at : LivePort → List ℕ
 received_at port = flat_map received_with port.state.messages
 
-abbrev pub receivers : Snapshot → List ℕ
+abbrev pub receivers : IpcSnapshot → List ℕ
 receivers snapshot = flat_map received_in snapshot.spaces ++ flat_map received_at snapshot.ports

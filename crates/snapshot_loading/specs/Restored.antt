@@ -11,11 +11,11 @@ use Rattle.ipc_laws.specs.OpeningLaws.{none_in_empty}
 use Rattle.ipc_model.specs.declared.port.PortState.{PortState}
 use Rattle.ipc_model.specs.state.Circular.{Acyclic}
 use Rattle.ipc_model.specs.state.Lawful.{Lawful, ShortQueues}
-use Rattle.ipc_model.specs.state.State.{Names, State}
-use Rattle.snapshot.specs.LawfulSnapshot.{IsLawfulSnapshot}
-use Rattle.snapshot.specs.Snapshots.{snapshot_of}
+use Rattle.ipc_model.specs.state.Ipc.{Names, Ipc}
+use Rattle.snapshot.specs.LawfulSnapshot.{IsLawfulIpc}
+use Rattle.snapshot.specs.Snapshots.{ipc_snapshot_of}
 use Rattle.snapshot.specs.declared.rows.LivePort.{LivePort}
-use Rattle.snapshot.specs.declared.rows.Snapshot.{Snapshot}
+use Rattle.snapshot.specs.declared.rows.IpcSnapshot.{IpcSnapshot}
 use Rattle.snapshot_loading.specs.Climbing.{doubled, up_of}
 use Rattle.snapshot_loading.specs.ClimbLaws.{hops_end}
 use Rattle.snapshot_loading.specs.Filling.{filled_all, opened_all}
@@ -26,10 +26,10 @@ use Rattle.snapshot_loading.specs.Received.{AreOthers, AreSorted}
 use Rattle.snapshot.specs.Rows.{NamesAscend, Ascends, is_of_rows, state_of_rows}
 use Rattle.snapshot_loading.specs.Shaped.{IsShaped, IsShapedPort, IsShapedSpace}
 
-pub shaped_lawful : (snapshot : Snapshot) → IsLawfulSnapshot snapshot → IsShaped snapshot
+pub shaped_lawful : (snapshot : IpcSnapshot) → IsLawfulIpc snapshot → IsShaped snapshot
 shaped_lawful snapshot lawful = shaped lawful.state snapshot lawful.same lawful.lawful lawful.short
 
-module _ (snapshot : Snapshot) (shape : IsShaped snapshot) where
+module _ (snapshot : IpcSnapshot) (shape : IsShaped snapshot) where
   ascends : Ascends snapshot
   ascends =
       record {
@@ -38,10 +38,10 @@ module _ (snapshot : Snapshot) (shape : IsShaped snapshot) where
         ports = shape.ports_ascend;
       }
 
-  pub same_rows : snapshot ≡ snapshot_of (state_of_rows snapshot)
+  pub same_rows : snapshot ≡ ipc_snapshot_of (state_of_rows snapshot)
   same_rows = is_of_rows snapshot ascends
 
-  one : IsLawfulSnapshot snapshot → Lawful (state_of_rows snapshot) × Acyclic (state_of_rows snapshot)
+  one : IsLawfulIpc snapshot → Lawful (state_of_rows snapshot) × Acyclic (state_of_rows snapshot)
       × ShortQueues (state_of_rows snapshot)
   one lawful = lawful_one (state_of_rows snapshot) snapshot same_rows lawful
 
@@ -53,17 +53,17 @@ module _ (snapshot : Snapshot) (shape : IsShaped snapshot) where
 
   -- the rows of a lawful snapshot pass each test
 
-  pub linked_lawful : IsLawfulSnapshot snapshot → is_linked (looks_of (skeleton snapshot)) snapshot ≡ true
+  pub linked_lawful : IsLawfulIpc snapshot → is_linked (looks_of (skeleton snapshot)) snapshot ≡ true
   linked_lawful lawful =
       ap (λ (looks : Looks). is_linked looks snapshot) looks_are
       ∙ linked (state_of_rows snapshot) snapshot same_rows (one lawful).0
 
-  pub received_lawful : IsLawfulSnapshot snapshot → AreOthers snapshot → ⊥
+  pub received_lawful : IsLawfulIpc snapshot → AreOthers snapshot → ⊥
   received_lawful lawful others =
       others.other (received (state_of_rows snapshot) snapshot same_rows
       (one lawful).0 others.sorted others.moved others.ascend)
 
-  pub acyclic_lawful : IsLawfulSnapshot snapshot → (q : ℕ) → doubled 15 (up_of (state_of_rows snapshot)) q ≡ None
+  pub acyclic_lawful : IsLawfulIpc snapshot → (q : ℕ) → doubled 15 (up_of (state_of_rows snapshot)) q ≡ None
   acyclic_lawful lawful = hops_end (state_of_rows snapshot) (one lawful).1 (one lawful).0.few_ports
 
   -- rows that pass the tests are those of a lawful state
@@ -80,7 +80,7 @@ module _ (snapshot : Snapshot) (shape : IsShaped snapshot) where
 
   -- and a state may be filled from them
 
-  pub may_open : (state : State) → state ≡ nothing → snapshot.next_serial < 2 ^ 64 → MayOpen snapshot.ports state
+  pub may_open : (state : Ipc) → state ≡ nothing → snapshot.next_serial < 2 ^ 64 → MayOpen snapshot.ports state
   may_open state is fits = subst (MayOpen snapshot.ports) (sym is) (record {
     few = omega (arith, shape.few_ports, len-empty nat_cmp PortState);
     below = λ k port there. absurd (none_in_empty k port there);
@@ -90,9 +90,9 @@ module _ (snapshot : Snapshot) (shape : IsShaped snapshot) where
         (λ row own. omega (arith, own.below, fits)) snapshot.ports shape.ports;
   })
 
-  pub past_all : (state : State) → state ≡ nothing → (opened_all snapshot.ports state).next ≤ snapshot.next_serial
+  pub past_all : (state : Ipc) → state ≡ nothing → (opened_all snapshot.ports state).next ≤ snapshot.next_serial
   past_all state is =
-      subst (λ (s : State). (opened_all snapshot.ports s).next ≤ snapshot.next_serial) (sym is)
+      subst (λ (s : Ipc). (opened_all snapshot.ports s).next ≤ snapshot.next_serial) (sym is)
       (opened_next snapshot.next_serial snapshot.ports nothing (omega (arith, shape.next)) shape.ports)
 
   pub may_space : MaySpace snapshot.spaces (record (opened_all snapshot.ports nothing) { next = snapshot.next_serial })
@@ -114,9 +114,10 @@ reported (Ok true) outcome L first second is isnt = (λ _. is (first refl), λ _
 reported (Ok false) outcome L first second is isnt = (λ e. absurd (cc e), λ lawful. absurd (isnt (second refl) lawful))
 reported (Err e) outcome L first second is isnt = tt
 
-pub all_reported : (outcome : Result (Unit {0}) SnapshotFault) (snapshot : Snapshot) (state : State)
-    → OnOk outcome ((snapshot ≡ snapshot_of state) × Lawful state × Acyclic state × ShortQueues state) → IsOk outcome
-    → IsLawfulSnapshot snapshot
+pub all_reported : (outcome : Result (Unit {0}) SnapshotFault) (snapshot : IpcSnapshot) (state : Ipc)
+    → OnOk outcome ((snapshot ≡ ipc_snapshot_of state) × Lawful state × Acyclic state × ShortQueues state)
+    → IsOk outcome
+    → IsLawfulIpc snapshot
 all_reported (Ok done) snapshot state filled is =
     record { state = state; same = filled.0; lawful = filled.1; acyclic = filled.2; short = filled.3 }
 all_reported (Err e) snapshot state filled is = absurd (cc is)

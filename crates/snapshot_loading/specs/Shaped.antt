@@ -7,7 +7,7 @@ use Rattle.ipc_model.specs.state.Lawful.{LawfulEntry, LawfulPort}
 use Rattle.snapshot.specs.Ascending.{AscendsFrom}
 use Rattle.snapshot.specs.declared.rows.LivePort.{LivePort}
 use Rattle.snapshot.specs.declared.rows.NamedEntry.{NamedEntry}
-use Rattle.snapshot.specs.declared.rows.Snapshot.{Snapshot}
+use Rattle.snapshot.specs.declared.rows.IpcSnapshot.{IpcSnapshot}
 use Rattle.snapshot.specs.declared.rows.Space.{Space}
 use Rattle.snapshot.specs.Rows.{name_of, number_of, serial_of}
 
@@ -31,7 +31,7 @@ abbrev pub BeginsFirst : List Space → Type 0
 BeginsFirst [] = ⊥
 BeginsFirst (row ∷ rows) = row.number ≡ FIRST_SPACE
 
-pub record IsShaped (snapshot : Snapshot) : Type 0 where
+pub record IsShaped (snapshot : IpcSnapshot) : Type 0 where
   pub first : BeginsFirst snapshot.spaces
   pub spaces_ascend : AscendsFrom 1 (map number_of snapshot.spaces)
   pub spaces : All IsShapedSpace snapshot.spaces

@@ -2,7 +2,7 @@
 //! is left, or more ports were passed than there may be.
 ghost use Rattle.std.specs.Prelude.{◌≡◌, ℕ, false, None, IfOk, OnOk, IsTrue, Option};
 ghost use Rattle.std.specs.FinMap as map;
-ghost use Rattle.ipc_model.specs.state.State.{lives};
+ghost use Rattle.ipc_model.specs.state.Ipc.{lives};
 ghost use Rattle.snapshot_loading.specs.Climbing.{EndsSomewhere, doubled, twice, up_of, with_hop};
 
 use ipc_state::IpcState;

@@ -2,7 +2,7 @@
 ghost use Rattle.std.specs.Prelude.{◌≡◌, ◌∷◌, ◌-◌, ◌^◌, ◌<◌, ◌≤◌, [], true, All, None, IfOk, OnOk};
 ghost use Rattle.std.specs.FinMap as map;
 ghost use Rattle.codes.specs.declared.limits.TheConstants.{MAX_PORTS};
-ghost use Rattle.ipc_model.specs.state.State.{State};
+ghost use Rattle.ipc_model.specs.state.Ipc.{Ipc};
 ghost use Rattle.ipc_state.specs.Passed.{numbers_of};
 ghost use Rattle.snapshot_loading.specs.FillLaws.{AreAlike, MayName, MayOpen, MaySpace};
 ghost use Rattle.snapshot_loading.specs.Filling.{filled_all, named_all, opened, opened_all, queued_all, spaced, spaced_all};
@@ -108,7 +108,7 @@ fn queue_messages(
     serial: u64,
     messages: &[Message],
 ) -> Result<(), AllocError>
-    requires { (first : State) × (AreAlike first state.old.current)
+    requires { (first : Ipc) × (AreAlike first state.old.current)
         × All (λ message. is_linked_message (looks_of first) message ≡ true) messages.now }
     ensures { OnOk result (state.new.current ≡ queued_all serial messages.now state.old.current) }
 {

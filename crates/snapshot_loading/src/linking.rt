@@ -8,10 +8,10 @@ ghost use Rattle.ipc_model.specs.declared.entry.Entry.TheVariants.{Port};
 
 use ipc_model::{CarriedRight, Entry, Message, PortInMessage, PortRights, RightKind};
 use ipc_state::IpcState;
-use snapshot::{LivePort, NamedEntry, Snapshot, Space};
+use snapshot::{IpcSnapshot, LivePort, NamedEntry, Space};
 
 /// Whether the rows are linked.
-pub(crate) fn is_linked(state: &IpcState, snapshot: &Snapshot) -> bool
+pub(crate) fn is_linked(state: &IpcState, snapshot: &IpcSnapshot) -> bool
     ensures { result ≡ is_linked (looks_of state.now.current) snapshot.now }
 {
     are_linked_spaces(state, snapshot.spaces.as_slice())

@@ -5,8 +5,8 @@ ghost use Rattle.ipc_state.specs.Running.{at_rest};
 ghost use Rattle.snapshot_loading.specs.FillLaws.{nothing, skeleton};
 ghost use Rattle.snapshot_loading.specs.Linked.{is_linked, looks_of};
 ghost use Rattle.snapshot_loading.specs.Shaped.{IsShaped};
-ghost use Rattle.snapshot.specs.LawfulSnapshot.{IsLawfulSnapshot};
-ghost use Rattle.snapshot.specs.Snapshots.{snapshot_of};
+ghost use Rattle.snapshot.specs.LawfulSnapshot.{IsLawfulIpc};
+ghost use Rattle.snapshot.specs.Snapshots.{ipc_snapshot_of};
 
 use crate::climbing::is_acyclic;
 use crate::filling::{fill_queues, fill_spaces, open_ports};
@@ -14,7 +14,7 @@ use crate::linking::is_linked;
 use crate::receivers::are_received_once;
 use crate::shape::is_shaped;
 use ipc_state::IpcState;
-use snapshot::Snapshot;
+use snapshot::IpcSnapshot;
 use std::alloc::{AllocError, Global};
 
 /// Why a snapshot yields no state.
@@ -38,8 +38,8 @@ impl From<AllocError> for SnapshotFault {
 }
 
 /// Whether a snapshot is that of a lawful state in which no ports carry one another in a cycle.
-pub fn lawful(alloc: Global, snapshot: &Snapshot) -> Result<bool, AllocError>
-    ensures { IfOk result (λ yes. IsTrue yes ↔ IsLawfulSnapshot snapshot.now) }
+pub fn lawful(alloc: Global, snapshot: &IpcSnapshot) -> Result<bool, AllocError>
+    ensures { IfOk result (λ yes. IsTrue yes ↔ IsLawfulIpc snapshot.now) }
 {
     let mut state = IpcState::new(alloc);
     let filled = fill(alloc, &mut state, snapshot);
@@ -60,12 +60,12 @@ fn verdict(outcome: Result<(), SnapshotFault>) -> Result<bool, AllocError>
 }
 
 /// The running state of a snapshot, at rest.
-pub fn restore(alloc: Global, snapshot: &Snapshot) -> Result<IpcState, SnapshotFault>
-    ensures same { IfOk result (λ state. snapshot.now ≡ snapshot_of state.current) }
+pub fn restore(alloc: Global, snapshot: &IpcSnapshot) -> Result<IpcState, SnapshotFault>
+    ensures same { IfOk result (λ state. snapshot.now ≡ ipc_snapshot_of state.current) }
     ensures rest { IfOk result (λ state. state ≡ at_rest state.current) }
     ensures lawful { IfOk result (λ state. Lawful state.current × Acyclic state.current) }
-    ensures valid { IfOk result (λ state. IsLawfulSnapshot snapshot.now) }
-    ensures unlawful { IsErrOf result SnapshotFault.NotLawful → IsLawfulSnapshot snapshot.now → ⊥ }
+    ensures valid { IfOk result (λ state. IsLawfulIpc snapshot.now) }
+    ensures unlawful { IsErrOf result SnapshotFault.NotLawful → IsLawfulIpc snapshot.now → ⊥ }
 {
     let mut state = IpcState::new(alloc);
     match fill(alloc, &mut state, snapshot) {
@@ -81,11 +81,11 @@ pub fn restore(alloc: Global, snapshot: &Snapshot) -> Result<IpcState, SnapshotF
 }
 
 /// Fills an empty state with the rows of a snapshot. At a fault, the state must be rolled back.
-fn fill(alloc: Global, state: &mut IpcState, snapshot: &Snapshot) -> Result<(), SnapshotFault>
+fn fill(alloc: Global, state: &mut IpcState, snapshot: &IpcSnapshot) -> Result<(), SnapshotFault>
     requires { state.old.current ≡ nothing }
-    ensures filled { OnOk result ((snapshot.now ≡ snapshot_of state.new.current) × Lawful state.new.current
+    ensures filled { OnOk result ((snapshot.now ≡ ipc_snapshot_of state.new.current) × Lawful state.new.current
         × Acyclic state.new.current × ShortQueues state.new.current) }
-    ensures unlawful { IsErrOf result SnapshotFault.NotLawful → IsLawfulSnapshot snapshot.now → ⊥ }
+    ensures unlawful { IsErrOf result SnapshotFault.NotLawful → IsLawfulIpc snapshot.now → ⊥ }
 {
     if !is_shaped(alloc, snapshot)? {
         return Err(SnapshotFault::NotLawful);
@@ -102,14 +102,14 @@ fn fill(alloc: Global, state: &mut IpcState, snapshot: &Snapshot) -> Result<(), 
 fn fill_messages(
     alloc: Global,
     state: &mut IpcState,
-    snapshot: &Snapshot,
+    snapshot: &IpcSnapshot,
 ) -> Result<(), SnapshotFault>
     requires shaped { IsShaped snapshot.now }
     requires opened { state.old.current ≡ skeleton snapshot.now }
     requires linked { is_linked (looks_of state.old.current) snapshot.now ≡ true }
-    ensures filled { OnOk result ((snapshot.now ≡ snapshot_of state.new.current) × Lawful state.new.current
+    ensures filled { OnOk result ((snapshot.now ≡ ipc_snapshot_of state.new.current) × Lawful state.new.current
         × Acyclic state.new.current × ShortQueues state.new.current) }
-    ensures unlawful { IsErrOf result SnapshotFault.NotLawful → IsLawfulSnapshot snapshot.now → ⊥ }
+    ensures unlawful { IsErrOf result SnapshotFault.NotLawful → IsLawfulIpc snapshot.now → ⊥ }
 {
     serial_fits(snapshot);
     if !are_received_once(alloc, snapshot)? {
@@ -123,7 +123,7 @@ fn fill_messages(
 }
 
 /// Opens the ports and spaces of rows of a lawful shape, without their messages.
-fn open_rows(state: &mut IpcState, snapshot: &Snapshot) -> Result<(), AllocError>
+fn open_rows(state: &mut IpcState, snapshot: &IpcSnapshot) -> Result<(), AllocError>
     requires nothing { state.old.current ≡ nothing }
     requires shaped { IsShaped snapshot.now }
     ensures { OnOk result (state.new.current ≡ skeleton snapshot.now) }
@@ -136,7 +136,7 @@ fn open_rows(state: &mut IpcState, snapshot: &Snapshot) -> Result<(), AllocError
 }
 
 /// Shows that the next serial is a long word. It does nothing else.
-fn serial_fits(snapshot: &Snapshot)
+fn serial_fits(snapshot: &IpcSnapshot)
     ensures { snapshot.now.next_serial < 2 ^ 64 }
 {
     let _next_serial = snapshot.next_serial;

@@ -5,11 +5,11 @@ ghost use Rattle.snapshot_loading.specs.Received.{AreSorted, AreOthers};
 ghost use Rattle.snapshot.specs.Rows.{serial_of};
 
 use ipc_model::{CarriedRight, Entry, Message, PortInMessage, RightKind};
-use snapshot::{LivePort, NamedEntry, Snapshot, Space};
+use snapshot::{IpcSnapshot, LivePort, NamedEntry, Space};
 use std::alloc::{AllocError, Global};
 
 /// Whether each live port has one receive right, and no other port has any.
-pub(crate) fn are_received_once(alloc: Global, snapshot: &Snapshot) -> Result<bool, AllocError>
+pub(crate) fn are_received_once(alloc: Global, snapshot: &IpcSnapshot) -> Result<bool, AllocError>
     ensures once { IfOk result (λ once. IsTrue once → AreSorted snapshot.now) }
     ensures others { IfOk result (λ once. once ≡ false → AreOthers snapshot.now) }
 {
@@ -38,7 +38,7 @@ fn are_serials(serials: &[u64], ports: &[LivePort]) -> bool
 }
 
 /// The ports of all receive rights in the rows: those that stand under names, and those in queues.
-fn receivers(alloc: Global, snapshot: &Snapshot) -> Result<Vec<u64>, AllocError>
+fn receivers(alloc: Global, snapshot: &IpcSnapshot) -> Result<Vec<u64>, AllocError>
     ensures { IfOk result (λ found. found.items ≡ receivers snapshot.now) }
 {
     let mut found = Vec::new(alloc);

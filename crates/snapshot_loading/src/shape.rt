@@ -9,11 +9,11 @@ use codes::{
     MAX_SEND_REFERENCES, MAX_SPACES,
 };
 use ipc_model::{Entry, Message, PortState};
-use snapshot::{LivePort, NamedEntry, Snapshot, Space, ascends};
+use snapshot::{IpcSnapshot, LivePort, NamedEntry, Space, ascends};
 use std::alloc::{AllocError, Global};
 
 /// Whether the rows are of a lawful shape.
-pub(crate) fn is_shaped(alloc: Global, snapshot: &Snapshot) -> Result<bool, AllocError>
+pub(crate) fn is_shaped(alloc: Global, snapshot: &IpcSnapshot) -> Result<bool, AllocError>
     ensures { IfOk result (λ yes. IsTrue yes ↔ IsShaped snapshot.now) }
 {
     let spaces = snapshot.spaces.as_slice();

@@ -113,7 +113,7 @@ impl<'a, L: Founding, D: Disk, G: Drop, R: Wait + Clock, P: Peer> Asker
     }
 
     fn is_done(&self, ticket: &Ticket) -> bool
-        ensures { (call : Call) → result ≡ succeeded call ticket.now.answer }
+        ensures { result ≡ succeeded ticket.now.answer }
     {
         ticket.is_success()
     }

@@ -3,7 +3,7 @@ use Rattle.std.proofs.Common.{◌≡◌, ℕ, ◌≤◌, ◌<◌, ◌/◌, ◌%�
 use Rattle.std.proofs.lemmas.Bool.{ltb-false, ltb-true}
 use Rattle.ipc_model.specs.declared.entry.Entry.{Entry}
 use Rattle.ipc_model.specs.declared.entry.Entry.TheVariants.{Port, SendOnce, Set, Dead}
-use Rattle.ipc_model.specs.state.State.{is_number, received_port, request_of}
+use Rattle.ipc_model.specs.state.Ipc.{is_number, received_port, request_of}
 use Rattle.spaces.specs.Burying.{IsNextMention}
 use Rattle.spaces.specs.Indexes.{IsNextAt, lesser}
 use Rattle.spaces.specs.Looking.{entry_in, port_named, port_shared, at_place}

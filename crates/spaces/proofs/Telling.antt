@@ -2,7 +2,7 @@
 use Rattle.std.proofs.Common.{◌≡◌, ℕ, ◌+◌, ◌^◌, ◌<◌, ◌≤◌, ◌/◌, ◌%◌, false, List, [], ◌++◌, Option, None, Some, option_and_then, append_assoc, append-nil, ap, sym, ◌∙◌, arith}
 use Rattle.ipc_model.specs.declared.entry.Entry.{Entry}
 use Rattle.ipc_model.specs.effects.Effects.{Effect, dead_name_of_entry}
-use Rattle.ipc_model.specs.state.State.{is_number}
+use Rattle.ipc_model.specs.state.Ipc.{is_number}
 use Rattle.spaces.specs.Burying.{Buried, StandsApart}
 use Rattle.spaces.specs.Indexes.{AreSmall}
 use Rattle.spaces.specs.Looking.{entry_in, port_named, at_place, parts}

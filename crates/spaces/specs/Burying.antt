@@ -9,7 +9,7 @@ use Rattle.ipc_laws.specs.MapSums.{key_is, same_key}
 use Rattle.ipc_model.specs.declared.entry.Entry.{Entry}
 use Rattle.ipc_model.specs.declared.entry.Entry.TheVariants.{Port, SendOnce, Set, Dead}
 use Rattle.ipc_model.specs.effects.Effects.{entry_after_death, map_values, one_more_if, without_target}
-use Rattle.ipc_model.specs.state.State.{Names, is_number, request_of}
+use Rattle.ipc_model.specs.state.Ipc.{Names, is_number, request_of}
 use Rattle.port_space.specs.References.{AreFewReferences}
 use Rattle.spaces.specs.Indexes.{AreSmall}
 use Rattle.spaces.specs.Laws.{get_names_changed}

@@ -11,7 +11,7 @@ use Rattle.ipc_laws.specs.Weights.{Weight, entry_weigh, target_weigh, names_weig
 use Rattle.ipc_model.specs.declared.entry.Entry.{Entry}
 use Rattle.ipc_model.specs.declared.entry.Entry.TheVariants.{Port, SendOnce, Set, Dead}
 use Rattle.ipc_model.specs.declared.message.RightKind.TheVariants as kind
-use Rattle.ipc_model.specs.state.State.{Names}
+use Rattle.ipc_model.specs.state.Ipc.{Names}
 use Rattle.port_indexes.specs.Counts.{Counts, count_at, none_counted}
 use Rattle.port_indexes.specs.Rights.{AreCounted, right_weight, right_more, right_fewer, counted_more, counted_fewer, counted_same}
 use Rattle.spaces.specs.Slots.{SpaceMap, names_changed}

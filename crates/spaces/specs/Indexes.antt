@@ -5,7 +5,7 @@ use Rattle.std.specs.Cmp.{nat_cmp_total}
 use Rattle.std.specs.Ordering.{nat_cmp, eq_by_cmp}
 use Rattle.std.specs.FinMap.{empty, get, insert, remove, get-empty, get-insert, get-remove}
 use Rattle.ipc_model.specs.declared.entry.Entry.{Entry}
-use Rattle.ipc_model.specs.state.State.{Names, is_number, request_of, received_port}
+use Rattle.ipc_model.specs.state.Ipc.{Names, is_number, request_of, received_port}
 use Rattle.ipc_laws.specs.MapSums.{key_is}
 use Rattle.port_indexes.specs.Places.{Numbers, moved, IsNext}
 use Rattle.port_indexes.specs.Indexed.{IsIndexed, nothing_indexed, place_moved, alike_indexed}

@@ -4,7 +4,7 @@ use Rattle.std.specs.Cmp.{nat_cmp_total}
 use Rattle.std.specs.Ordering.{nat_cmp, eq_by_cmp}
 use Rattle.std.specs.FinMap.{empty_of_len, get, insert, remove, empty, len, get-empty, get-insert, get-remove, len-insert, len-remove, same_map, nat_cmp-IsAntisymmetric}
 use Rattle.ipc_laws.specs.MapSums.{key_is}
-use Rattle.ipc_model.specs.state.State.{Names}
+use Rattle.ipc_model.specs.state.Ipc.{Names}
 use Rattle.tracked_map.specs.Slots.{picked, get_picked}
 use Rattle.tracked_map.specs.Touched.{AreTouched, all_alike, exchanged, none_touched, put_touched, one_touched, last_is_touched}
 use Rattle.spaces.specs.Slots.{SpaceSlot, SpaceSlots, SpaceMap, TrackedSpaces, was, is, rolled_back_slot, slot_changed, slot_opened, names_changed}

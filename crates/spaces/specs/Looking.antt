@@ -6,7 +6,7 @@ use Rattle.std.specs.FinMap.{get}
 use Rattle.ipc_laws.specs.MapSums.{key_is, same_key}
 use Rattle.ipc_model.specs.declared.entry.Entry.{Entry}
 use Rattle.ipc_model.specs.declared.entry.Entry.TheVariants.{Port, SendOnce, Set, Dead}
-use Rattle.ipc_model.specs.state.State.{Names}
+use Rattle.ipc_model.specs.state.Ipc.{Names}
 use Rattle.spaces.specs.Laws.{get_names_changed}
 use Rattle.spaces.specs.Slots.{SpaceMap, SpaceSlot, SpaceSlots, is, names_changed, stood_at}
 use Rattle.tracked_map.specs.Slots.{get_picked, picked}

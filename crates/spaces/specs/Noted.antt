@@ -4,7 +4,7 @@ use Rattle.std.specs.Ordering.{nat_cmp, eq_by_cmp}
 use Rattle.std.specs.FinMap.{get}
 use Rattle.ipc_laws.specs.MapSums.{key_is}
 use Rattle.ipc_model.specs.declared.entry.Entry.{Entry}
-use Rattle.ipc_model.specs.state.State.{Names}
+use Rattle.ipc_model.specs.state.Ipc.{Names}
 use Rattle.spaces.specs.Laws.{get_names_changed}
 use Rattle.spaces.specs.Looking.{entry_in, place, place_same}
 use Rattle.spaces.specs.Slots.{SpaceMap, names_changed}

@@ -7,7 +7,7 @@ use Rattle.std.specs.Ordering.{nat_cmp, eq_by_cmp}
 use Rattle.std.specs.FinMap.{empty, get, insert, remove, len, get-empty, get-insert, get-remove}
 use Rattle.codes.specs.declared.limits.TheConstants.{MAX_SPACES}
 use Rattle.ipc_laws.specs.MapSums.{key_is, same_key}
-use Rattle.ipc_model.specs.state.State.{Names}
+use Rattle.ipc_model.specs.state.Ipc.{Names}
 use Rattle.port_space.specs.Crowded.{crowded}
 use Rattle.spaces.specs.Slots.{SpaceMap}
 use Rattle.spaces.specs.declared.numbers.Numbers.{Numbers}

@@ -8,7 +8,7 @@ use Rattle.codes.specs.declared.name.TheConstants.{MACH_PORT_DEAD}
 use Rattle.ipc_laws.specs.MapLaws.{entries_none}
 use Rattle.ipc_model.specs.calls.PortCalls.{stands_elsewhere}
 use Rattle.ipc_model.specs.declared.entry.Entry.{Entry}
-use Rattle.ipc_model.specs.state.State.{Names, IsUnused, is_number, name_of_port, port_held}
+use Rattle.ipc_model.specs.state.Ipc.{Names, IsUnused, is_number, name_of_port, port_held}
 use Rattle.spaces.specs.Slots.{SpaceMap}
 
 abbrev pub names_of : SpaceMap → ℕ → Names

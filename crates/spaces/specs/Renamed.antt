@@ -8,7 +8,7 @@ use Rattle.ipc_laws.specs.ListLaws.{some_same}
 use Rattle.ipc_laws.specs.MapLaws.{get-here}
 use Rattle.ipc_laws.specs.MapSums.{insert-insert, insert-same, key_is}
 use Rattle.ipc_model.specs.declared.entry.Entry.{Entry}
-use Rattle.ipc_model.specs.state.State.{Names}
+use Rattle.ipc_model.specs.state.Ipc.{Names}
 use Rattle.port_space.specs.Renaming.{under_other_name}
 use Rattle.spaces.specs.Laws.{changed_absent, changed_there}
 use Rattle.spaces.specs.Looking.{entry_in}

@@ -9,7 +9,7 @@ use Rattle.ipc_laws.specs.MapSums.{same_key}
 use Rattle.ipc_model.specs.declared.entry.Entry.{Entry}
 use Rattle.ipc_model.specs.declared.entry.Entry.TheVariants.{Port, SendOnce, Set, Dead}
 use Rattle.ipc_model.specs.effects.Effects.{Effect, dead_name_notice, dead_name_of_entry, is_name_of}
-use Rattle.ipc_model.specs.state.State.{Names, is_number, request_of}
+use Rattle.ipc_model.specs.state.Ipc.{Names, is_number, request_of}
 use Rattle.port_space.specs.Walking.{IsNextEntry, from_on, above_all, below_none, nothing_from, entries_alike, entries_none, entries_split}
 use Rattle.spaces.specs.Burying.{less_or_not}
 use Rattle.spaces.specs.Indexes.{AreSmall, IsNextAt}

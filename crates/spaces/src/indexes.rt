@@ -1,7 +1,7 @@
 //! The names by the ports that they have to do with, as plain tables.
 ghost use Rattle.std.specs.Prelude.{◌≡◌, [], OnOk, option_and_then};
 ghost use Rattle.std.specs.FinMap as map;
-ghost use Rattle.ipc_model.specs.state.State.{received_port, request_of};
+ghost use Rattle.ipc_model.specs.state.Ipc.{received_port, request_of};
 ghost use Rattle.spaces.specs.Indexes.{IsMoved, SameBefore, AreRolledBack, AreCommitted};
 ghost use Rattle.spaces.specs.Looking.{port_shared};
 ghost use Rattle.tracked_map.specs.Tracked.{at_rest};

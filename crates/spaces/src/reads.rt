@@ -1,7 +1,7 @@
 ghost use Rattle.std.specs.Prelude.{◌≡◌, ℕ, ◌≤◌, ◌<◌, ◌↔◌, IsTrue, IsSome};
 ghost use Rattle.std.specs.FinMap as map;
 ghost use Rattle.ipc_model.specs.calls.PortCalls.{stands_elsewhere};
-ghost use Rattle.ipc_model.specs.state.State.{IsUnused, name_of_port};
+ghost use Rattle.ipc_model.specs.state.Ipc.{IsUnused, name_of_port};
 ghost use Rattle.spaces.specs.Reading.{names_of};
 
 use crate::Spaces;

@@ -1,7 +1,7 @@
 ghost use Rattle.std.specs.Prelude.{◌≡◌, ◌<◌, None, Some, IfOk, OnOk, OnErr, IfSome, is_some, option_map, option_and_then, option_copied};
 ghost use Rattle.std.specs.FinMap as map;
 ghost use Rattle.codes.specs.declared.limits.TheConstants.{MAX_NAMES};
-ghost use Rattle.ipc_model.specs.state.State.{Names};
+ghost use Rattle.ipc_model.specs.state.Ipc.{Names};
 ghost use Rattle.port_space.specs.References.{AreFewReferences};
 ghost use Rattle.spaces.specs.Slots.{slot_at_rest};
 

@@ -2,7 +2,7 @@
 ghost use Rattle.std.specs.Prelude.{◌≡◌, ◌<◌, [], None, Some, IfOk, OnOk, OnErr, IfSome, option_map};
 ghost use Rattle.std.specs.FinMap as map;
 ghost use Rattle.codes.specs.declared.limits.TheConstants.{MAX_NAMES};
-ghost use Rattle.ipc_model.specs.state.State.{Names};
+ghost use Rattle.ipc_model.specs.state.Ipc.{Names};
 ghost use Rattle.port_space.specs.References.{AreFewReferences};
 ghost use Rattle.spaces.specs.Slots.{SpaceSlot, slot_at_rest, was, is, committed_slot, rolled_back_slot, slot_changed, slot_opened, stood_at};
 ghost use Rattle.tracked_map.specs.Slots.{picked};

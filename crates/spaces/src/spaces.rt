@@ -4,7 +4,7 @@ ghost use Rattle.codes.specs.declared.limits.TheConstants.{MAX_NAMES, MAX_SPACES
 ghost use Rattle.ipc_laws.specs.MapSums.{total};
 ghost use Rattle.ipc_laws.specs.Weights.{names_weigh};
 ghost use Rattle.ipc_model.specs.declared.message.RightKind.TheVariants as kind;
-ghost use Rattle.ipc_model.specs.state.State.{Names, received_port, request_of};
+ghost use Rattle.ipc_model.specs.state.Ipc.{Names, received_port, request_of};
 ghost use Rattle.port_indexes.specs.Rights.{right_weight};
 ghost use Rattle.port_space.specs.References.{AreFewReferences};
 ghost use Rattle.spaces.specs.Indexes.{AreSmall, IsMoved, IsNextAt, SameBefore, lesser};

@@ -1,7 +1,7 @@
 ghost use Rattle.std.specs.Prelude.{◌≡◌, ◌<◌, ◌^◌, None, Some, IfOk, OnOk, OnErr, IfSome, is_some, option_map, option_copied};
 ghost use Rattle.std.specs.FinMap as map;
 ghost use Rattle.codes.specs.declared.limits.TheConstants.{MAX_NAMES, MAX_SPACES};
-ghost use Rattle.ipc_model.specs.state.State.{Names};
+ghost use Rattle.ipc_model.specs.state.Ipc.{Names};
 ghost use Rattle.port_space.specs.References.{AreFewReferences};
 ghost use Rattle.spaces.specs.Looking.{entry_in};
 ghost use Rattle.spaces.specs.Numbers.{IsFreeNumber};

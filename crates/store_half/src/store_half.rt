@@ -108,8 +108,8 @@ impl<D: Disk> StoreHalf<D> {
         self.checkpoint.is_some()
     }
 
-    /// Stores a batch of the epoch in use, which an epoch log gave out: all of it or nothing. At `Ok` it is on the disk.
-    /// It takes no memory. At a fault the batch comes back.
+    /// Stores a batch of the epoch in use, which an epoch log gave out: all of it or nothing. At `Ok` it is on the
+    /// disk. It takes no memory. At a fault the batch comes back.
     ///
     /// `Failed`: the device failed in an earlier call; the store has to be opened again. `Full`: the segment would hold
     /// more than `MAX_RECORDS` records; nothing changed. `Device`: the device failed, and whether the batch is stored

@@ -2,7 +2,7 @@
 use Rattle.std.proofs.Common.{◌≡◌, ◌⊎◌, ℕ, Bool, true, false, take, Option, Some, None, ap, subst, ◌∙◌, inl, inr}
 use Rattle.std.specs.Prelude.{Result, Ok, Err, IfOk, IfErr, IfSome, IfNone, MatchBool}
 use Rattle.disk.specs.Moments.{View}
-use Rattle.ipc_laws.specs.StepsKeep.{one_run}
+use Rattle.ipc_laws.specs.RunsKeep.{one_run}
 use Rattle.ipc_model.specs.calls.Step.{Run}
 use Rattle.ipc_model.specs.state.State.{State}
 use Rattle.history.specs.Entries.{records_of}

@@ -10,11 +10,11 @@ use Rattle.history.proofs.Beginnings.{begins_caught, begins_itself, begins_recor
 use Rattle.history.specs.declared.entry.Entry.{Entry}
 use Rattle.codes.specs.declared.limits.TheConstants.{MAX_RECORDS}
 use Rattle.ipc_laws.specs.RunLaws.{run_split}
-use Rattle.ipc_laws.specs.StepsKeep.{one_run}
+use Rattle.ipc_laws.specs.RunsKeep.{one_run}
 use Rattle.ipc_model.specs.calls.Step.{Run}
 use Rattle.ipc_model.specs.declared.record.Record.{Record}
 use Rattle.ipc_model.specs.state.Circular.{Acyclic}
-use Rattle.ipc_model.specs.state.Lawful.{Lawful}
+use Rattle.ipc_model.specs.state.LawfulState.{LawfulState}
 use Rattle.ipc_model.specs.state.State.{State}
 use Rattle.ipc_model.specs.store.Store.{IsMidAppend}
 use Rattle.journal.specs.Batch.{Holds, content_of}
@@ -320,7 +320,7 @@ module _ {D : Type 0} (honest : Type 0) (view : D → View) (base : State) where
   }
 
   -- The half that stores, of a store that was opened: no record of this history is stored yet.
-  pub first_storer : (disk : D) (segment : Segment) (entries : List Entry) → entries ≡ [] → Lawful base → Acyclic base
+  pub first_storer : (disk : D) (segment : Segment) (entries : List Entry) → entries ≡ [] → LawfulState base → Acyclic base.ipc
       → (honest → IsKept (view disk) segment base)
       → IsStoreKeeper honest view base
       (record {

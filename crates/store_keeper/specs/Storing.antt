@@ -6,11 +6,11 @@ use Rattle.disk.specs.Slots.{Slots}
 use Rattle.history.specs.Entries.{records_of}
 use Rattle.history.specs.contracts.entry.Entry as entry
 use Rattle.history.specs.declared.entry.Entry.{Entry}
-use Rattle.ipc_laws.specs.StepsKeep.{FitCalls}
+use Rattle.ipc_laws.specs.RunsKeep.{FitCalls}
 use Rattle.ipc_model.specs.calls.Step.{Run}
 use Rattle.ipc_model.specs.declared.record.Record.{Record}
 use Rattle.ipc_model.specs.state.Circular.{Acyclic}
-use Rattle.ipc_model.specs.state.Lawful.{Lawful}
+use Rattle.ipc_model.specs.state.LawfulState.{LawfulState}
 use Rattle.ipc_model.specs.state.State.{State}
 use Rattle.ipc_model.specs.store.Recovery.{IsImageOf}
 use Rattle.ipc_model.specs.store.Store.{AreRecords}
@@ -26,8 +26,8 @@ pub record IsRecorded (base : State) (entries : List Entry) : Type 0 where
   pub run : Run base (records_of entries) end
   pub fit : FitCalls (records_of entries)
   pub records : AreRecords (map canonical_record (records_of entries))
-  pub lawful : Lawful base
-  pub acyclic : Acyclic base
+  pub lawful : LawfulState base
+  pub acyclic : Acyclic base.ipc
 
 -- Records of one epoch that were taken to be stored, with the history up to them: at which place of the history the
 -- first one stands, and which number it has in its epoch.

@@ -3,7 +3,7 @@ ghost use Rattle.disk.specs.Moments.{MayLeave};
 ghost use Rattle.disk.specs.Slots.{Slots};
 ghost use Rattle.history.specs.Entries.{Begins, records_of};
 ghost use Rattle.ipc_model.specs.state.Circular.{Acyclic};
-ghost use Rattle.ipc_model.specs.state.Lawful.{Lawful};
+ghost use Rattle.ipc_model.specs.state.LawfulState.{LawfulState};
 ghost use Rattle.checkpoint_phases.specs.Passed.{IsKept};
 ghost use Rattle.store_keeper.specs.Appending.{CountsDevice, GivesLoadBack, HadFailed, OnlyFails, StoresLoad, WouldOverfill, WritesNothingElse};
 ghost use Rattle.store_keeper.specs.Faults.{IsWhyNotStored};
@@ -66,7 +66,7 @@ impl<L: Founding, D: Disk> StoreKeeper<L, D> {
     pub fn new(disk: D, segment: Segment, past: Past<L>, stored: Storing<L>) -> Self
         requires none { past.entries ≡ [] }
         requires none_stored { stored ≡ 0 }
-        requires base { Lawful L.base × Acyclic L.base }
+        requires base { LawfulState L.base × Acyclic L.base.ipc }
         requires kept { D.honest → IsKept (D.view disk) segment L.base }
         ensures { result ≡ record {
           store = record {

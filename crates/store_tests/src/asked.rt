@@ -1,6 +1,6 @@
 //! Calls that consist only of numbers, in tables.
 
-use ipc_model::Call;
+use ipc_model::{Call, PlainCall};
 
 /// A call.
 #[derive(Clone, Copy)]
@@ -31,45 +31,50 @@ impl Asked {
     /// The call itself.
     pub(crate) fn call(self) -> Call {
         match self {
-            Asked::Allocate(right) => Call::Allocate { right },
-            Asked::AllocateName => Call::AllocateName {
+            Asked::Allocate(right) => Call::Plain(PlainCall::Allocate { right }),
+            Asked::AllocateName => Call::Plain(PlainCall::AllocateName {
                 right: 1,
                 name: 0x2000,
-            },
-            Asked::Type(name) => Call::Type { name },
-            Asked::Destroy(name) => Call::Destroy { name },
-            Asked::MoveMember(member, after) => Call::MoveMember { member, after },
-            Asked::ExtractRight(name) => Call::ExtractRight {
+            }),
+            Asked::Type(name) => Call::Plain(PlainCall::Type { name }),
+            Asked::Destroy(name) => Call::Plain(PlainCall::Destroy { name }),
+            Asked::MoveMember(member, after) => Call::Plain(PlainCall::MoveMember {
+                member,
+                after,
+            }),
+            Asked::ExtractRight(name) => Call::Plain(PlainCall::ExtractRight {
                 name,
                 disposition: 21,
-            },
-            Asked::InsertRight(name) => Call::InsertRight {
+            }),
+            Asked::InsertRight(name) => Call::Plain(PlainCall::InsertRight {
                 name,
                 right_name: name,
                 disposition: 20,
-            },
-            Asked::RequestNotification(name, variant) => Call::RequestNotification {
-                name,
-                variant,
-                sync: 0,
-                notify: 0x100,
-                disposition: 21,
-            },
-            Asked::DropReceive(name) => Call::ModRefs {
+            }),
+            Asked::RequestNotification(name, variant) => Call::Plain(
+                PlainCall::RequestNotification {
+                    name,
+                    variant,
+                    sync: 0,
+                    notify: 0x100,
+                    disposition: 21,
+                },
+            ),
+            Asked::DropReceive(name) => Call::Plain(PlainCall::ModRefs {
                 name,
                 right: 1,
                 delta: u32::MAX,
-            },
-            Asked::SpaceCreate => Call::SpaceCreate {
+            }),
+            Asked::SpaceCreate => Call::Plain(PlainCall::SpaceCreate {
                 name: 0x100,
                 disposition: 20,
-            },
-            Asked::Receive(name, waited) => Call::Receive {
+            }),
+            Asked::Receive(name, waited) => Call::Plain(PlainCall::Receive {
                 limit: 24,
                 large: false,
                 name,
                 waited,
-            },
+            }),
         }
     }
 }

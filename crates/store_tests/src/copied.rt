@@ -1,7 +1,9 @@
 use crate::asked::Asked;
 use crate::expect::same;
 use crate::machine::{Machine, Words, ask, ask_all, make};
-use ipc_model::{Call, CarriedRight, Entry, PortInMessage, PortRights, RightKind, Sequence};
+use ipc_model::{
+    Call, CarriedRight, Entry, PlainCall, PortInMessage, PortRights, RightKind, Sequence,
+};
 use kernel::Kernel;
 use snapshot::{NamedEntry, Snapshot};
 use std::alloc::Global;
@@ -34,9 +36,9 @@ static MESSAGE: [u8; 32] = [
 
 fn message(alloc: Global) -> Option<Call> {
     let bytes = Vec::from_slice(alloc, &MESSAGE).ok()?;
-    Some(Call::Send {
+    Some(Call::Plain(PlainCall::Send {
         message: Sequence::new(bytes),
-    })
+    }))
 }
 
 fn make_calls<M: Machine>(alloc: Global, machine: &mut M) -> Option<Words> {
@@ -62,7 +64,7 @@ fn name_at(names: &[NamedEntry], index: usize) -> NameSeen {
 
 /// The names of the only space, up to the sixth.
 fn names_of(copy: &Snapshot) -> [NameSeen; 6] {
-    let [space] = copy.spaces.as_slice() else {
+    let [space] = copy.ipc.spaces.as_slice() else {
         return [None; 6];
     };
     let names = space.names.as_slice();
@@ -80,7 +82,7 @@ fn names_of(copy: &Snapshot) -> [NameSeen; 6] {
 type PortSeen = Option<(u64, Option<u32>, Option<u64>, usize)>;
 
 fn port_of(copy: &Snapshot, index: usize) -> PortSeen {
-    let port = copy.ports.as_slice().get(index)?;
+    let port = copy.ipc.ports.as_slice().get(index)?;
     Some((
         port.serial,
         port.state.set,
@@ -91,7 +93,7 @@ fn port_of(copy: &Snapshot, index: usize) -> PortSeen {
 
 /// The rights of the first port's oldest message: that for the reply, and the first of its body.
 fn rights_of(copy: &Snapshot) -> Option<[Option<CarriedRight>; 2]> {
-    let port = copy.ports.as_slice().first()?;
+    let port = copy.ipc.ports.as_slice().first()?;
     let message = port.state.messages.as_slice().first()?;
     Some([message.reply, message.rights.as_slice().first().copied()])
 }
@@ -160,7 +162,7 @@ static EXPECTED_PORTS: [PortSeen; 3] = [
 fn expect_seen(rt: &impl Abort, copy: &Snapshot) {
     let ports = [port_of(copy, 0), port_of(copy, 1), port_of(copy, 2)];
     same(rt, &names_of(copy), &EXPECTED_NAMES);
-    same(rt, (copy.next_serial, ports), (4, EXPECTED_PORTS));
+    same(rt, (copy.ipc.next_serial, ports), (4, EXPECTED_PORTS));
     same(rt, rights_of(copy), Some(EXPECTED_RIGHTS));
 }
 

@@ -3,7 +3,7 @@ use crate::bending::{Found, reopened};
 use crate::expect::{same, same_in_row};
 use crate::looked::looked;
 use crate::making::{SEGMENT, append_allocations, append_from};
-use crate::store::{Store, disk_of, keeps};
+use crate::store::{Store, TORN, disk_of, keeps};
 use crate::written::{CURRENT, image_of_name, image_of_none, opened_slot};
 use disk::{Disk, MemDisk, Slot, Torn};
 use journal::{Segment, roll_close, roll_head, roll_open};
@@ -170,18 +170,9 @@ fn records_go_to_the_segment_of_the_newest_image(rt: HostRuntime) {
     same(&rt, seen, Some(wanted));
 }
 
-static TORN: [Torn; 6] = [
-    Torn::Old,
-    Torn::New,
-    Torn::Half,
-    Torn::Fill(0),
-    Torn::Fill(0x5a),
-    Torn::Fill(0xff),
-];
-
 // How many device calls the opening of such a store makes: four syncs, four headers, the image's version, length and
-// encoding, the version and the batches of two segments; four calls that clear the next image, one for its encoding, two for its header and two for its
-// gate; and the two that end the segment.
+// encoding, the version and the batches of two segments; four calls that clear the next image, one for its encoding,
+// two for its header and two for its gate; and the two that end the segment.
 const CALLS: u64 = 26;
 
 // The fault of an opening within which a crash may come, and what opening the store again returns then.

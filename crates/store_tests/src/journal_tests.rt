@@ -3,7 +3,7 @@ use crate::making::{NEW_SEGMENT, SEGMENT, append_allocations, segment_of};
 use crate::store::{Store, disk_with};
 use crate::streams::{Read, long_segment, records_of};
 use disk::{Disk, MemDisk, Slot};
-use ipc_model::{Call, Reply};
+use ipc_model::{Call, PlainCall, PlainReply, Reply};
 use journal::{LONGEST_STEP, PIECE, Segment};
 use std::alloc::Global;
 use store_fault::StoreFault;
@@ -104,8 +104,11 @@ fn only_of(read: &Read) -> Option<(u64, u32, bool, bool)> {
     let [record] = read.records.as_slice() else {
         return None;
     };
-    let is_call = matches!(&record.call, Call::Allocate { right: 1 });
-    let is_reply = matches!(&record.reply, Reply::Allocate { name: 0x100 });
+    let is_call = matches!(&record.call, Call::Plain(PlainCall::Allocate { right: 1 }));
+    let is_reply = matches!(
+        &record.reply,
+        Reply::Plain(PlainReply::Allocate { name: 0x100 })
+    );
     Some((read.end, record.space, is_call, is_reply))
 }
 

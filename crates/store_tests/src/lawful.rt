@@ -1,9 +1,10 @@
 use crate::expect::same;
 use ipc_model::{
-    CarriedRight, Entry, Message, PortInMessage, PortRights, PortState, RightKind, Sequence,
+    CarriedRight, Entry, Message, NumberedReply, PlainReply, PortInMessage, PortRights, PortState,
+    RightKind, Sequence,
 };
 use kernel::lawful;
-use snapshot::{LivePort, NamedEntry, Snapshot, Space};
+use snapshot::{IpcSnapshot, LivePort, NamedEntry, Snapshot, Space};
 use std::alloc::{AllocError, Global};
 
 /// A port's serial and its set; the port whose receive right the one message in its queue carries, if there is one; and
@@ -98,16 +99,35 @@ fn spaces(alloc: Global, third: Option<Entry>) -> Result<Sequence<Space>, AllocE
     Ok(Sequence::new(spaces))
 }
 
+/// Rows of kept replies: one for each request and name, to an allocation of that name.
+fn kept(
+    alloc: Global,
+    rows: &[Option<(u32, u32)>],
+) -> Result<Sequence<Option<NumberedReply>>, AllocError> {
+    let mut kept = Vec::new(alloc);
+    for row in rows {
+        kept.push(row.map(|(request, name)| NumberedReply {
+            request,
+            reply: PlainReply::Allocate { name },
+        }))?;
+    }
+    Ok(Sequence::new(kept))
+}
+
 fn snapshot(
     alloc: Global,
     third: Option<Entry>,
     ports: &[PortRow],
+    rows: &[Option<(u32, u32)>],
 ) -> Result<Snapshot, AllocError> {
     let spaces = spaces(alloc, third)?;
     Ok(Snapshot {
-        next_serial: 8,
-        spaces,
-        ports: live_ports(alloc, ports)?,
+        ipc: IpcSnapshot {
+            next_serial: 8,
+            spaces,
+            ports: live_ports(alloc, ports)?,
+        },
+        kept: kept(alloc, rows)?,
     })
 }
 
@@ -117,8 +137,13 @@ fn is_lawful(alloc: Global, snapshot: &Snapshot) -> Option<bool> {
 }
 
 /// Whether these rows are those of a lawful state.
-fn verdict(alloc: Global, third: Option<Entry>, ports: &[PortRow]) -> Option<bool> {
-    let snapshot = snapshot(alloc, third, ports).ok()?;
+fn verdict(
+    alloc: Global,
+    third: Option<Entry>,
+    ports: &[PortRow],
+    rows: &[Option<(u32, u32)>],
+) -> Option<bool> {
+    let snapshot = snapshot(alloc, third, ports, rows).ok()?;
     let verdict = is_lawful(alloc, &snapshot);
     drop(snapshot);
     verdict
@@ -129,7 +154,7 @@ static USUAL: [PortRow; 2] = [(1, Some(0x101), Some(2), false), (2, None, None, 
 
 /// Whether the usual ports are lawful together with what 0x102 stands for.
 fn usual(alloc: Global, third: Option<Entry>) -> Option<bool> {
-    verdict(alloc, third, &USUAL)
+    verdict(alloc, third, &USUAL, &[None])
 }
 
 /// A second receive right of a port, a right to a dead port, and references that are none or too many are refused.
@@ -162,6 +187,20 @@ static PORTS: [&'static [PortRow]; 4] = [
 #[test]
 fn ports_are_looked_at(rt: HostRuntime) {
     for ports in &PORTS {
-        same(&rt, verdict(rt.alloc(), None, ports), Some(false));
+        same(&rt, verdict(rt.alloc(), None, ports, &[None]), Some(false));
+    }
+}
+
+/// A space keeps a reply under a number that isn't 0, and there is a row for each space and no other.
+#[test]
+fn kept_replies_are_looked_at(rt: HostRuntime) {
+    let rows: [(&[Option<(u32, u32)>], bool); 4] = [
+        (&[Some((7, 0x105))], true),
+        (&[Some((0, 0x105))], false),
+        (&[], false),
+        (&[None, None], false),
+    ];
+    for (rows, wanted) in rows {
+        same(&rt, verdict(rt.alloc(), None, &USUAL, rows), Some(wanted));
     }
 }

@@ -12,11 +12,11 @@ pub(crate) fn looked<D: Disk>(
     disk: &mut D,
 ) -> Result<(u64, u64, u64, usize), StoreFault> {
     let found = look(alloc, disk)?;
-    let spaces = found.snapshot.spaces.as_slice().len();
+    let spaces = found.snapshot.ipc.spaces.as_slice().len();
     Ok((
         found.epoch,
         found.records,
-        found.snapshot.next_serial,
+        found.snapshot.ipc.next_serial,
         spaces,
     ))
 }

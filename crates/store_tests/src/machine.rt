@@ -3,7 +3,7 @@
 
 use crate::asked::Asked;
 use crate::recorded::Counter;
-use ipc_model::{Call, Record, Reply};
+use ipc_model::{Call, PlainCall, PlainReply, Record, Reply};
 use kernel::{Kernel, ReplayFault};
 use snapshot::Snapshot;
 use std::alloc::Global;
@@ -52,19 +52,26 @@ pub(crate) trait Machine {
 /// number.
 fn words_of(reply: &Reply) -> Words {
     match reply {
-        Reply::Refused { number, code } => [*number, code.number(), 0, 0],
-        Reply::Done { number } => [*number, 0, 0, 0],
-        Reply::Type { bits } => [2, 0, *bits, 0],
-        Reply::Allocate { name } => [5, 0, *name, 0],
-        Reply::References { count } => [8, 0, *count, 0],
-        Reply::ReceiveStatus { status } => [13, 0, status.messages, status.make_send_count],
-        Reply::Message {
-            code,
-            size,
-            member,
-            ..
-        } => [code.number(), *size, *member, 19],
-        Reply::SpaceCreated { space, name } => [20, 0, *space, *name],
+        Reply::Plain(PlainReply::Refused { number, code }) => [*number, code.number(), 0, 0],
+        Reply::Plain(PlainReply::Done { number }) => [*number, 0, 0, 0],
+        Reply::Plain(PlainReply::Type { bits }) => [2, 0, *bits, 0],
+        Reply::Plain(PlainReply::Allocate { name }) => [5, 0, *name, 0],
+        Reply::Plain(PlainReply::References { count }) => [8, 0, *count, 0],
+        Reply::Plain(PlainReply::ReceiveStatus { status }) => [
+            13,
+            0,
+            status.messages,
+            status.make_send_count,
+        ],
+        Reply::Plain(
+            PlainReply::Message {
+                code,
+                size,
+                member,
+                ..
+            },
+        ) => [code.number(), *size, *member, 19],
+        Reply::Plain(PlainReply::SpaceCreated { space, name }) => [20, 0, *space, *name],
         _ => [u32::MAX; 4],
     }
 }
@@ -156,8 +163,8 @@ fn after<M: Machine>(alloc: Global, record: &Record) -> Option<M> {
 pub(crate) fn allocated(right: u32, name: u32) -> Record {
     Record {
         space: 1,
-        call: Call::Allocate { right },
-        reply: Reply::Allocate { name },
+        call: Call::Plain(PlainCall::Allocate { right }),
+        reply: Reply::Plain(PlainReply::Allocate { name }),
     }
 }
 

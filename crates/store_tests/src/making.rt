@@ -4,7 +4,7 @@ ghost use Rattle.std.specs.Prelude.{◌<◌, ◌^◌, length};
 ghost use Rattle.ipc_model.specs.encodings.Encodings.{call_encoding, reply_encoding};
 
 use disk::Disk;
-use ipc_model::{Call, Record, Reply};
+use ipc_model::{Call, PlainCall, PlainReply, Record, Reply};
 use journal::{Batch, Segment};
 use record::push_record;
 use slot_steps::segment_slot;
@@ -22,15 +22,15 @@ pub(crate) static SEGMENT: [u8; 70] = [
 pub(crate) static NEW_SEGMENT: [u8; 17] = [0x5a, 2, 0, 0, 0, 0, 0, 0, 0, 0, 0, 0, 0, 0, 0, 0, 0];
 
 /// The allocation of a name, done.
-#[tactic(auto, unfolding(ipc_model::specs::encodings::Encodings::call_encoding, ipc_model::specs::encodings::Encodings::reply_encoding))]
+#[tactic(auto, unfolding(ipc_model::specs::encodings::PlainCalls::call_encoding, ipc_model::specs::encodings::PlainCalls::reply_encoding))]
 fn allocation(name: u32) -> Record
     ensures call { length (call_encoding result.call) < 2 ^ 32 }
     ensures reply { length (reply_encoding result.reply) < 2 ^ 32 }
 {
     Record {
         space: 1,
-        call: Call::Allocate { right: 1 },
-        reply: Reply::Allocate { name },
+        call: Call::Plain(PlainCall::Allocate { right: 1 }),
+        reply: Reply::Plain(PlainReply::Allocate { name }),
     }
 }
 

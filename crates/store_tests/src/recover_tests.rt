@@ -1,7 +1,7 @@
 use crate::bending::set;
 use crate::expect::{same, same_in_row};
 use crate::making::{NEW_SEGMENT, SEGMENT, append_allocations, segment_of};
-use crate::store::{Store, disk_with};
+use crate::store::{Store, TORN, disk_with};
 use crate::streams::long_segment;
 use disk::{MemDisk, Slot, Torn};
 use journal::OPEN_GATE;
@@ -254,15 +254,6 @@ static STORES: [Described; 3] = [
 
 // Segments with no gate after their batches, which no server leaves.
 static FOREIGN: [Described; 2] = [(true, 1, 69, 15, STORED), (true, 0, 16, 14, EMPTY)];
-
-static TORN: [Torn; 6] = [
-    Torn::Old,
-    Torn::New,
-    Torn::Half,
-    Torn::Fill(0),
-    Torn::Fill(0x5a),
-    Torn::Fill(0xff),
-];
 
 // The batch of `SEGMENT` with a number and a name of its own.
 fn batch_of(number: u8) -> [u8; 53] {

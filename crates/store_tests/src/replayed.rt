@@ -3,7 +3,7 @@ use crate::asked::Asked;
 use crate::expect::same;
 use crate::machine::{Machine, Words, after_allocated, allocated, ask_all, make};
 use codes::KernReturn;
-use ipc_model::{Call, Record, Reply, RightKind, Sequence};
+use ipc_model::{Call, PlainCall, PlainReply, Record, Reply, RightKind, Sequence};
 use kernel::{Kernel, ReplayFault};
 use std::alloc::Global;
 
@@ -61,10 +61,10 @@ fn fault_after_a_port<M: Machine + Drop>(alloc: Global, call: Call, reply: Reply
 
 /// The fault if a right of that port is extracted under a name.
 fn fault_of_extracted<M: Machine + Drop>(alloc: Global, name: u32) -> Found {
-    let reply = Reply::Extracted {
+    let reply = Reply::Plain(PlainReply::Extracted {
         name,
         kind: RightKind::SendOnce,
-    };
+    });
     fault_after_a_port::<M>(alloc, Asked::ExtractRight(0x1ff).call(), reply)
 }
 
@@ -81,11 +81,15 @@ fn replays_the_name_of_an_extracted_right(rt: HostRuntime) {
 
 /// The fault if a space with this number is created, with this name for a send right of that port.
 fn fault_of_space<M: Machine + Drop>(alloc: Global, space: u32, name: u32) -> Found {
-    let create = Call::SpaceCreate {
+    let create = Call::Plain(PlainCall::SpaceCreate {
         name: 0x1ff,
         disposition: 20,
-    };
-    fault_after_a_port::<M>(alloc, create, Reply::SpaceCreated { space, name })
+    });
+    fault_after_a_port::<M>(
+        alloc,
+        create,
+        Reply::Plain(PlainReply::SpaceCreated { space, name }),
+    )
 }
 
 /// A space's number, its name for the right, and the fault.
@@ -107,10 +111,10 @@ fn replays_the_number_of_a_new_space(rt: HostRuntime) {
 
 /// The fault if such an extraction is refused.
 fn fault_of_refused<M: Machine + Drop>(alloc: Global) -> Found {
-    let refused = Reply::Refused {
+    let refused = Reply::Plain(PlainReply::Refused {
         number: 18,
         code: KernReturn::InvalidRight,
-    };
+    });
     fault_after_a_port::<M>(alloc, Asked::ExtractRight(0x1ff).call(), refused)
 }
 
@@ -139,7 +143,7 @@ fn send(alloc: Global, port: u8) -> Option<Call> {
         0x14, 0, 0, 0, 0, 0, 0, 0, port, 1, 0, 0, 0, 0, 0, 0, 0, 0, 0, 0, 7, 0, 0, 0,
     ];
     let message = bytes_of(alloc, &encoding)?;
-    Some(Call::Send { message })
+    Some(Call::Plain(PlainCall::Send { message }))
 }
 
 /// The record of a receive from the set that took that port's message.
@@ -151,12 +155,12 @@ fn received(alloc: Global, port: u8) -> Option<Record> {
     Some(Record {
         space: 1,
         call: Asked::Receive(0x102, false).call(),
-        reply: Reply::Message {
+        reply: Reply::Plain(PlainReply::Message {
             code: KernReturn::Success,
             size: 24,
             member: 0x100 + u32::from(port),
             message,
-        },
+        }),
     })
 }
 

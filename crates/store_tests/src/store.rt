@@ -3,7 +3,7 @@
 //! one.
 
 use disk::{Disk, MemDisk, Slot, Torn};
-use ipc_model::Reply;
+use ipc_model::{PlainReply, Reply};
 use journal::Segment;
 use recover::{Opened, open};
 use std::alloc::Global;
@@ -18,6 +18,16 @@ pub(crate) struct Seen {
     /// The type bits of four names of space 1, 0 for one that isn't in use.
     pub(crate) bits: [u32; 4],
 }
+
+/// What a crash may leave of the writes since a slot's last sync.
+pub(crate) static TORN: [Torn; 6] = [
+    Torn::Old,
+    Torn::New,
+    Torn::Half,
+    Torn::Fill(0),
+    Torn::Fill(0x5a),
+    Torn::Fill(0xff),
+];
 
 /// The type bits of a receive right.
 const RECEIVE: u32 = 0x2_0000;
@@ -54,7 +64,7 @@ pub(crate) trait Store: Disk {
 
 fn type_bits<D: Disk>(opened: &Opened<D>, name: u32) -> u32 {
     match opened.kernel.port_type(1, name) {
-        Reply::Type { bits } => bits,
+        Reply::Plain(PlainReply::Type { bits }) => bits,
         _ => 0,
     }
 }

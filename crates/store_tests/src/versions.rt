@@ -3,7 +3,7 @@
 use crate::bending::{Found, NEW, reopened, set, whole_slot};
 use crate::expect::same_in_row;
 use crate::making::{NEW_SEGMENT, SEGMENT};
-use crate::store::{Store, disk_of, keeps};
+use crate::store::{Store, TORN, disk_of, keeps};
 use crate::written::{
     CURRENT, image_of_name, image_of_none, image_with_limit, opened_slot, segment_of_limit,
 };
@@ -121,15 +121,6 @@ fn each_slot_is_read_by_its_version(rt: HostRuntime) {
     }
 }
 
-static TORN: [Torn; 6] = [
-    Torn::Old,
-    Torn::New,
-    Torn::Half,
-    Torn::Fill(0),
-    Torn::Fill(0x5a),
-    Torn::Fill(0xff),
-];
-
 // Opens a store with a crash at a device call: what is returned, and what opening what is left returns.
 fn stopped<S: Store + Drop>(
     alloc: Global,
@@ -206,8 +197,8 @@ fn crashes_within_the_opening_of_each_version(rt: HostRuntime) {
     }
 }
 
-// The store of version 1 after the allocation of the name 0x100, or before it; its segment is truncated or extended to a
-// length.
+// The store of version 1 after the allocation of the name 0x100, or before it; its segment is truncated or extended to
+// a length.
 fn old_store(alloc: Global, length: usize, name: bool) -> Option<[Vec<u8>; 4]> {
     let batches: &[u8] = if name { &SEGMENT[16..] } else { &[0] };
     let mut segment = opened_slot(alloc, 1, 0, batches).ok()?;
@@ -373,8 +364,8 @@ fn limits_are_those_of_the_version(rt: HostRuntime) {
     }
 }
 
-// What a start that didn't end left in version 1: a closed image, and a segment 0 that is empty, closed, or open without
-// a batch.
+// What a start that didn't end left in version 1: a closed image, and a segment 0 that is empty, closed, or open
+// without a batch.
 static STARTS: [Is; 3] = [Is::Empty, Is::Closed(1, 0), Is::Open(1, 0)];
 
 fn start_of(alloc: Global, segment: Is) -> Option<[Vec<u8>; 4]> {

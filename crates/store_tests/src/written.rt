@@ -1,5 +1,5 @@
-//! Slots written byte by byte, in either version: headers and segments as docs/FORMATS.md has them, and the images of two
-//! states. A version is its number here.
+//! Slots written byte by byte, in either version: headers and segments as docs/FORMATS.md has them, and the images of
+//! two states. A version is its number here.
 use std::alloc::{AllocError, Global};
 
 /// The version that slots are written in.

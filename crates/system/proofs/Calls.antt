@@ -10,7 +10,7 @@ use Rattle.epoch_log.specs.Logs.{EpochLogValue, TakenValue, entry_of, with_recor
 use Rattle.ipc_laws.specs.MapLaws.{get-here}
 use Rattle.ipc_model.specs.calls.Step.{Step, has_record}
 use Rattle.ipc_model.specs.declared.call.Call.{Call}
-use Rattle.ipc_model.specs.declared.call.Reply.{Reply}
+use Rattle.ipc_model.specs.declared.reply.Reply.{Reply}
 use Rattle.ipc_model.specs.declared.record.Record.{Record}
 use Rattle.ipc_model.specs.state.State.{State}
 use Rattle.ipc_model.specs.encodings.Encodings.{record_encoding}

@@ -3,7 +3,7 @@ use Rattle.std.proofs.Common.{◌≡◌, inl, inr, ℕ, ◌+◌, ◌-◌, ◌≤
 use Rattle.std.specs.Prelude.{max, is_none}
 use Rattle.disk.specs.Moments.{View, Passes}
 use Rattle.epoch_log.specs.Logs.{next_log}
-use Rattle.ipc_laws.specs.StepsKeep.{one_run}
+use Rattle.ipc_laws.specs.RunsKeep.{one_run}
 use Rattle.ipc_model.specs.calls.Step.{Run}
 use Rattle.ipc_model.specs.declared.record.Record.{Record}
 use Rattle.ipc_model.specs.state.State.{State}

@@ -4,7 +4,8 @@ use Rattle.std.specs.Prelude.{max, map, if◌then◌else◌}
 use Rattle.std.proofs.lemmas.List.{append-nil}
 use Rattle.epoch_log.specs.Logs.{EpochLogValue, entry_of, with_record}
 use Rattle.ipc_laws.specs.RunLaws.{run-push}
-use Rattle.ipc_laws.specs.StepsKeep.{FitCalls}
+use Rattle.ipc_laws.specs.NumberedSteps.{kept_fits}
+use Rattle.ipc_laws.specs.RunsKeep.{FitCalls}
 use Rattle.ipc_model.specs.calls.Step.{Run, has_record}
 use Rattle.ipc_model.specs.declared.call.Call.{Call}
 use Rattle.ipc_model.specs.declared.record.Record.{Record}
@@ -168,7 +169,7 @@ module _ (base : State) (opened earlier taken stored : ℕ) (applied : List Reco
             (run-push s old.kernel new.kernel (drop k applied) entry run gives.step);
         all = record {
           run = run-push base old.kernel new.kernel applied entry all.run gives.step;
-          fit = fit_push applied entry all.fit (gives.fits, tt);
+          fit = fit_push applied entry all.fit ((gives.fits, kept_fits entry.reply (gives.kept recorded).reply.fits), tt);
           records = are_push applied entry all.records (gives.kept recorded);
           made_is = omega (arith, ap (λ (r : EpochLogValue). r.made) log, all.made_is, long);
           lawful = all.lawful;

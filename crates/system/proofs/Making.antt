@@ -1,16 +1,17 @@
 -- How a call changes the half that makes calls.
 use Rattle.std.proofs.Common.{◌≡◌, inl, inr, ℕ, ◌+◌, ◌-◌, ◌^◌, ◌≤◌, ◌<◌, ◌∙◌, ap, Bool, true, false, List, ◌++◌, length, take, length-append, Result, Ok, Err, OnErr, arith, refl, subst, sym}
-use Rattle.std.specs.Prelude.{IsErrOf, MatchBool, if◌then◌else◌}
+use Rattle.std.specs.Prelude.{IfOk, IsErrOf, MatchBool, if◌then◌else◌}
 use Rattle.std.proofs.Math.Dec.{leb}
 use Rattle.std.proofs.lemmas.List.{take_at}
 use Rattle.std.proofs.lemmas.Bool.Decides.{leb_tells}
+use Rattle.codes.specs.declared.limits.TheConstants.{MAX_RECORDS}
 use Rattle.epoch_log.specs.Logs.{EpochLogValue, entry_of, log_after, with_record}
 use Rattle.ipc_model.specs.calls.Step.{has_record}
 use Rattle.ipc_model.specs.declared.call.Call.{Call}
-use Rattle.ipc_model.specs.declared.call.Reply.{Reply}
+use Rattle.ipc_model.specs.declared.reply.Reply.{Reply}
 use Rattle.ipc_model.specs.encodings.Encodings.{record_encoding}
 use Rattle.journal.specs.Batch.{without_last}
-use Rattle.system.specs.Halves.{CanCut, KernelValue}
+use Rattle.system.specs.Halves.{CanCut, Gives, KernelValue, TicketValue}
 use Rattle.system.specs.declared.kernel_half.SubmitFault.{SubmitFault}
 use Rattle.system.specs.declared.kernel_half.SubmitFault.TheVariants as fault
 
@@ -31,6 +32,19 @@ module _ (old new : EpochLogValue) (space : ℕ) (c : Call) (answer : Reply)
       by : (b : Bool) → has_record c answer ≡ b → handed ≤ new.made
       by true is = subst (λ (r : EpochLogValue). handed ≤ r.made) (sym (with_one is)) (omega (arith, few))
       by false is = subst (λ (r : EpochLogValue). handed ≤ r.made) (sym (with_none is)) few
+
+-- what a value at `Ok` is follows from what it is known to be
+pub at_ok : {T E : Type 0} (P Q : T → Type 0) (r : Result T E) → ((v : T) → P v → Q v) → IfOk r P → IfOk r Q
+at_ok P Q (Ok v) follows holds = follows v holds
+at_ok P Q (Err f) follows holds = tt
+
+-- where the epoch log is full, no call that was made has a record
+pub learns_nothing : {E : Type 0} (r : Result TicketValue E) (old new : KernelValue) (space : ℕ) (c : Call)
+    (P : TicketValue → Type 0) → MAX_RECORDS ≤ old.log.length → IfOk r (λ ticket. Gives old space c ticket new)
+    → IfOk r (λ ticket. has_record c ticket.answer ≡ true → P ticket)
+learns_nothing r old new space c P full gives =
+    at_ok (λ ticket. Gives old space c ticket new) (λ ticket. has_record c ticket.answer ≡ true → P ticket) r
+    (λ ticket given is. absurd (omega (arith, given.room is, full))) gives
 
 -- what holds at an exit with a fault
 pub with_fault : {T E : Type 0} (P : Type 0) (r : Result T E) → P → OnErr r P

@@ -3,9 +3,9 @@ use Rattle.std.proofs.Common.{◌≡◌, ℕ, ◌≤◌, List, [], ◌∷◌, �
 use Rattle.disk.specs.Moments.{View, MayLeave, Passes}
 use Rattle.disk.specs.Slots.{Slots}
 use Rattle.ipc_model.specs.state.Circular.{Acyclic}
-use Rattle.ipc_model.specs.state.Lawful.{Lawful}
+use Rattle.ipc_model.specs.state.LawfulState.{LawfulState}
 use Rattle.ipc_model.specs.state.State.{State}
-use Rattle.ipc_model.specs.declared.call.Reply.{Reply}
+use Rattle.ipc_model.specs.declared.reply.Reply.{Reply}
 use Rattle.ipc_model.specs.world.World.{World, After, first_world, acknowledged}
 use Rattle.journal.specs.declared.segment.Segment.{Segment}
 use Rattle.checkpoint_phases.specs.Passed.{IsKept}
@@ -17,7 +17,7 @@ use Rattle.system.proofs.Tickets.{none_fresh}
 
 module _ {D : Type 0} (honest : Type 0) (view : D → View) (base : State) where
   -- A core that continues from an opened store.
-  pub first_stands : (kernel : State) (disk : D) (segment : Segment) → kernel ≡ base → Lawful base → Acyclic base
+  pub first_stands : (kernel : State) (disk : D) (segment : Segment) → kernel ≡ base → LawfulState base → Acyclic base.ipc
       → (honest → IsKept (view disk) segment kernel)
       → StandsFor honest view base (first_world segment.epoch segment.records) (first_system kernel disk segment)
   first_stands kernel disk segment is lawful acyclic kept = record {

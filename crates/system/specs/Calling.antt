@@ -5,7 +5,7 @@ use Rattle.disk.specs.Moments.{View, IsSynced}
 use Rattle.epoch_log.specs.Logs.{entry_of}
 use Rattle.ipc_model.specs.calls.Step.{Step, has_record}
 use Rattle.ipc_model.specs.declared.call.Call.{Call}
-use Rattle.ipc_model.specs.declared.call.Reply.{Reply}
+use Rattle.ipc_model.specs.declared.reply.Reply.{Reply}
 use Rattle.ipc_model.specs.encodings.Encodings.{canonical_record, FitsCall, IsRecord}
 use Rattle.journal.specs.Batch.{BatchValue, Holds, empty_batch}
 use Rattle.slot_steps.specs.Steps.{segment_slot}

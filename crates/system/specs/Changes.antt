@@ -5,7 +5,7 @@ use Rattle.codes.specs.declared.limits.TheConstants.{MAX_RECORDS}
 use Rattle.disk.specs.Moments.{View, IsSynced}
 use Rattle.epoch_log.specs.Logs.{TakenValue}
 use Rattle.ipc_model.specs.declared.call.Call.{Call}
-use Rattle.ipc_model.specs.declared.call.Reply.{Reply}
+use Rattle.ipc_model.specs.declared.reply.Reply.{Reply}
 use Rattle.slot_steps.specs.Steps.{segment_slot}
 use Rattle.store_half.specs.Changes.{Finishes, IsAppended, PassesAppend}
 use Rattle.store_half.specs.Values.{CutValue, begun}

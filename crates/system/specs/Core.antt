@@ -8,15 +8,15 @@ use Rattle.disk.specs.Slots.{Slots}
 use Rattle.epoch_log.specs.Logs.{TakenValue}
 use Rattle.ipc_model.specs.calls.Step.{Run}
 use Rattle.ipc_model.specs.declared.record.Record.{Record}
-use Rattle.ipc_model.specs.declared.call.Reply.{Reply}
+use Rattle.ipc_model.specs.declared.reply.Reply.{Reply}
 use Rattle.ipc_model.specs.state.Circular.{Acyclic}
-use Rattle.ipc_model.specs.state.Lawful.{Lawful}
+use Rattle.ipc_model.specs.state.LawfulState.{LawfulState}
 use Rattle.ipc_model.specs.state.State.{State}
 use Rattle.ipc_model.specs.encodings.Encodings.{canonical_record}
 use Rattle.ipc_model.specs.store.Store.{AreRecords}
 use Rattle.ipc_model.specs.world.World.{World, Ticket, Receipt, After, greatest_seen, of_append, of_finish, pieces_of, acknowledged}
 use Rattle.ipc_model.specs.world.World as world
-use Rattle.ipc_laws.specs.StepsKeep.{FitCalls}
+use Rattle.ipc_laws.specs.RunsKeep.{FitCalls}
 use Rattle.journal.specs.Batch.{BatchValue, Holds}
 use Rattle.journal.specs.declared.segment.Segment.{Segment}
 use Rattle.checkpoint_phases.specs.Phases.{Keeps}
@@ -63,8 +63,8 @@ pub record IsApplied (base : State) (applied : List Record) (kernel : State) (ma
   pub fit : FitCalls applied
   pub records : AreRecords (map canonical_record applied)
   pub made_is : made ≡ length applied
-  pub lawful : Lawful base
-  pub acyclic : Acyclic base
+  pub lawful : LawfulState base
+  pub acyclic : Acyclic base.ipc
 
 -- How many records there are: `all` were applied since the opening; of these `earlier` before this epoch, whose log
 -- began with `opened` records. The log of the epoch before has `older` records, of which the last is the last of the

@@ -1,5 +1,5 @@
 -- The events and outcomes of a core, as the abstract specification has them.
-use Rattle.ipc_model.specs.declared.call.Reply.{Reply}
+use Rattle.ipc_model.specs.declared.reply.Reply.{Reply}
 use Rattle.ipc_model.specs.store.Faults as fault
 use Rattle.ipc_model.specs.world.World as world
 use Rattle.store_fault.specs.declared.fault.StoreFault.{StoreFault}

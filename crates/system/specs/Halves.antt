@@ -6,8 +6,9 @@ use Rattle.codes.specs.declared.limits.TheConstants.{MAX_RECORDS}
 use Rattle.epoch_log.specs.Logs.{EpochLogValue, TakenValue, entry_of, log_after, log_code, next_log}
 use Rattle.ipc_model.specs.calls.Step.{Step, has_record}
 use Rattle.ipc_model.specs.declared.call.Call.{Call}
-use Rattle.ipc_model.specs.declared.call.Reply.{Reply}
-use Rattle.ipc_model.specs.declared.call.Reply.TheVariants as reply
+use Rattle.ipc_model.specs.declared.reply.Reply.{Reply}
+use Rattle.ipc_model.specs.declared.plain_reply.PlainReply.TheVariants.{Message}
+use Rattle.ipc_model.specs.declared.reply.Reply.TheVariants as reply
 use Rattle.ipc_model.specs.state.State.{State}
 use Rattle.ipc_model.specs.state.StateCode.{state_code}
 use Rattle.ipc_model.specs.store.Recovery.{IsImageOf}
@@ -22,7 +23,7 @@ pub record TicketValue : Type 0 where
 
 -- the code of what mach_msg answered
 abbrev pub message_code : Reply → Option KernReturn
-message_code (reply.Message code size member message) = Some code
+message_code (reply.Plain (Message code size member message)) = Some code
 message_code answer = None
 
 -- The half that makes calls: the state, its epoch, the records of the epoch before that wait to be taken, the epoch

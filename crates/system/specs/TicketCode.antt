@@ -3,8 +3,8 @@ use Rattle.std.specs.Prelude.{ℕ, Option, refl}
 use Rattle.std.specs.Ordering.{nat_cmp}
 use Rattle.std.specs.FinMap as finmap
 use Rattle.std.specs.Coded.{Coded, code_by, coded×, coded_option, coded_ℕ}
-use Rattle.ipc_model.specs.contracts.call.Reply as reply
-use Rattle.ipc_model.specs.declared.call.Reply.{Reply}
+use Rattle.ipc_model.specs.contracts.reply.Reply as reply
+use Rattle.ipc_model.specs.declared.reply.Reply.{Reply}
 use Rattle.system.specs.Core.{TicketsValue}
 use Rattle.system.specs.Halves.{TicketValue}
 

@@ -174,7 +174,7 @@ impl KernelHalf {
         places: &mut Places,
     ) -> (W, Result<Ticket, SubmitFault>)
         ensures given { IfOk result.1 (λ ticket. Gives self.old space call.now ticket self.new) }
-        ensures wakes { IfOk result.1 (λ ticket. Wakes self.old.kernel self.new.kernel (names places.new)) }
+        ensures wakes { IfOk result.1 (λ ticket. Wakes self.old.kernel.ipc self.new.kernel.ipc (names places.new)) }
         ensures learned { IfOk result.1
             (λ ticket. has_record call.now ticket.answer ≡ true
             → W.learned witness space call.now ticket.answer result.0) }
@@ -208,7 +208,7 @@ impl KernelHalf {
     ) -> (W, Result<Ticket, AllocError>)
         requires { (self.old.log.length < MAX_RECORDS) × (self.old.log.made < 2 ^ 64 - 1) }
         ensures given { IfOk result.1 (λ ticket. Gives self.old space call.now ticket self.new) }
-        ensures wakes { IfOk result.1 (λ ticket. Wakes self.old.kernel self.new.kernel (names places.new)) }
+        ensures wakes { IfOk result.1 (λ ticket. Wakes self.old.kernel.ipc self.new.kernel.ipc (names places.new)) }
         ensures learned { IfOk result.1
             (λ ticket. has_record call.now ticket.answer ≡ true
             → W.learned witness space call.now ticket.answer result.0) }
@@ -332,7 +332,7 @@ fn apply_with_witness<W: Witness>(
 ) -> (W, Result<Reply, AllocError>)
     requires { (log.old.length < MAX_RECORDS) × (log.old.made < 2 ^ 64 - 1) }
     ensures step { IfOk result.1 (λ reply. Step kernel.old space call.now reply kernel.new) }
-    ensures wakes { IfOk result.1 (λ reply. Wakes kernel.old kernel.new (names places.new)) }
+    ensures wakes { IfOk result.1 (λ reply. Wakes kernel.old.ipc kernel.new.ipc (names places.new)) }
     ensures recorded { IfOk result.1
         (λ reply. has_record call.now reply ≡ true → Wrote log.old space call.now reply log.new
         × W.learned witness space call.now reply result.0) }

@@ -15,7 +15,7 @@ pub use checkpoint_phases::{Kernel, Opened, open};
 pub use epoch_log::Taken;
 pub use event::{Event, Outcome};
 pub use kernel_half::{KernelHalf, SubmitFault};
-pub use laws::crashes_keep_calls;
+pub use laws::{calls_are_made_once, crashes_keep_calls};
 pub use system::{CallFault, System};
 pub use ticket::Ticket;
 pub use witness::Witness;

@@ -8,7 +8,7 @@ ghost use Rattle.system.specs.Core.{TicketsValue};
 ghost use Rattle.system.specs.Halves.{TicketValue, message_code};
 
 use codes::KernReturn;
-use ipc_model::Reply;
+use ipc_model::{PlainReply, Reply};
 use number_map::NumberMap;
 use std::alloc::{AllocError, Global};
 use std::marker::Model;
@@ -47,7 +47,7 @@ impl Ticket {
 
     /// Whether the call was done, which is code 0.
     pub fn is_success(&self) -> bool
-        ensures { (call : Call) → result ≡ succeeded call self.now.answer }
+        ensures { result ≡ succeeded self.now.answer }
     {
         self.reply.is_success()
     }
@@ -57,7 +57,7 @@ impl Ticket {
         ensures { result ≡ message_code self.now.answer }
     {
         match &self.reply {
-            Reply::Message { code, .. } => Some(*code),
+            Reply::Plain(PlainReply::Message { code, .. }) => Some(*code),
             _ => None,
         }
     }

@@ -2,9 +2,9 @@
 use Rattle.std.proofs.Common.{◌≡◌, ℕ, suc, Bool, true, false, ◌==◌, ◌||◌, Option, None, Some, refl, sym, ◌∙◌, ap, subst}
 use Rattle.ipc_model.specs.state.Circular.{carrier_of, meets}
 use Rattle.ipc_laws.specs.Ranks.{meets_itself}
-use Rattle.ipc_model.specs.state.State.{State}
+use Rattle.ipc_model.specs.state.Ipc.{Ipc}
 
-module _ (state : State) (port : ℕ) where
+module _ (state : Ipc) (port : ℕ) where
   abbrev climb : ℕ → Option ℕ → Bool
   climb hops None = false
   climb hops (Some carrier) = meets state hops port carrier

@@ -19,7 +19,7 @@ use Rattle.ipc_model.specs.declared.port.PortState.{PortState}
 use Rattle.ipc_model.specs.messages.Sending.{is_full, live_port}
 use Rattle.ipc_model.specs.rights.CopyIn.{Taken, copy_in, moved_port, taken_keeping, taken_leaving, taken_of_dead, taken_of_entry, taken_of_port, taken_of_send_once, with_left}
 use Rattle.ipc_model.specs.rights.Dispositions.{Disposition, MoveReceive, MoveSend, MoveSendOnce, CopySend, MakeSend, MakeSendOnce}
-use Rattle.ipc_model.specs.state.State.{State, Names, entry_at, is_empty_entry, with_changed, with_port, next_count}
+use Rattle.ipc_model.specs.state.Ipc.{Ipc, Names, entry_at, is_empty_entry, with_changed, with_port, next_count}
 use Rattle.waiting.specs.Receiving.{stands}
 use Rattle.waiting.specs.Waiting.{port_of}
 
@@ -31,7 +31,7 @@ Both R (Some x) None = ⊥
 Both R (Some x) (Some y) = R x y
 
 -- a change of the names of an existing space, at one name
-entry_changed : (state : State) (space name : ℕ) (change : Names → Names) (o : Option Entry) (names : Names)
+entry_changed : (state : Ipc) (space name : ℕ) (change : Names → Names) (o : Option Entry) (names : Names)
     → finmap.get state.spaces space ≡ Some names
     → ((n : Names) (k : ℕ) → finmap.get (change n) k ≡ cond (eq_by_cmp nat_cmp k name) o (finmap.get n k))
     → (k : ℕ) → entry_at (with_changed state space change) space k
@@ -39,7 +39,7 @@ entry_changed : (state : State) (space name : ℕ) (change : Names → Names) (o
 entry_changed state space name change o names there changed k =
     ap (λ (n : Option Names). option_and_then
     (λ (m : Names). finmap.get m k)
-    (finmap.get (elim n as (λ _. State) [
+    (finmap.get (elim n as (λ _. Ipc) [
       | None ↦ state
       | Some m ↦ record state
           { spaces = finmap.insert state.spaces space (change m) }
@@ -48,12 +48,12 @@ entry_changed state space name change o names there changed k =
     ∙ changed names k
     ∙ ap (cond (eq_by_cmp nat_cmp k name) o) (sym (ap (option_and_then (λ (m : Names). finmap.get m k)) there))
 
-full_changed : (state : State) (space serial : ℕ) (change : Names → Names)
+full_changed : (state : Ipc) (space serial : ℕ) (change : Names → Names)
     → is_full (with_changed state space change) serial ≡ is_full state serial
 full_changed state space serial change =
     elim (finmap.get state.spaces space)
     as (λ (n : Option Names). is_full
-    (elim n as (λ _. State) [
+    (elim n as (λ _. Ipc) [
       | None ↦ state
       | Some m ↦
           record state { spaces = finmap.insert state.spaces space (change m) }
@@ -63,7 +63,7 @@ full_changed state space serial change =
     ]
 
 -- a change of a port that keeps its limit and its messages
-full_port : (state : State) (serial other : ℕ) (change : PortState → PortState)
+full_port : (state : Ipc) (serial other : ℕ) (change : PortState → PortState)
     → ((p : PortState) → nat_le (change p).limit (length (change p).messages) ≡ nat_le p.limit (length p.messages))
     → is_full (with_port state serial change) other ≡ is_full state other
 full_port state serial other change keeps = go (finmap.get state.ports serial) refl
@@ -86,7 +86,7 @@ full_port state serial other change keeps = go (finmap.get state.ports serial) r
     at_key port there false _ = refl
 
     go : (o : Option PortState) → finmap.get state.ports serial ≡ o
-        → is_full (elim o as (λ _. State)
+        → is_full (elim o as (λ _. Ipc)
         [ None ↦ state | Some port ↦ record state { ports = finmap.insert state.ports serial (change port) } ])
         other ≡ is_full state other
     go None there = refl
@@ -99,12 +99,12 @@ full_port state serial other change keeps = go (finmap.get state.ports serial) r
 -- The wanted names stand for the same in both states; what the one named `remote` stands for is to a wanted port; and a
 -- wanted port whose queue is full in the one state has a full queue in the other.
 module _ (space remote : ℕ) (wanted wanted_port : ℕ → Type 0) where
-  pub record Alike (one other : State) : Type 0 where
+  pub record Alike (one other : Ipc) : Type 0 where
     pub entries : (name : ℕ) → wanted name → entry_at other space name ≡ entry_at one space name
     pub port : (serial : ℕ) → option_and_then port_of (entry_at one space remote) ≡ Some serial → wanted_port serial
     pub full : (serial : ℕ) → wanted_port serial → is_full one serial ≡ true → is_full other serial ≡ true
 
-  alike_changed : (one other : State) (name : ℕ) (change : Names → Names) (o : Option Entry) (entry : Entry)
+  alike_changed : (one other : Ipc) (name : ℕ) (change : Names → Names) (o : Option Entry) (entry : Entry)
       → wanted name → entry_at one space name ≡ Some entry
       → ((n : Names) (k : ℕ) → finmap.get (change n) k ≡ cond (eq_by_cmp nat_cmp k name) o (finmap.get n k))
       → ((serial : ℕ) → option_and_then port_of o ≡ Some serial → port_of entry ≡ Some serial) → Alike one other
@@ -134,7 +134,7 @@ module _ (space remote : ℕ) (wanted wanted_port : ℕ → Type 0) where
       by_key serial false _ is = alike.port serial is
 
   -- what is left of a name has a right to the same port, or to none
-  alike_left : (one other : State) (name : ℕ) (left entry : Entry) → wanted name → entry_at one space name ≡ Some entry
+  alike_left : (one other : Ipc) (name : ℕ) (left entry : Entry) → wanted name → entry_at one space name ≡ Some entry
       → ((serial : ℕ) → port_of left ≡ Some serial → port_of entry ≡ Some serial) → Alike one other
       → Alike (with_left one space name left) (with_left other space name left)
   alike_left one other name left entry want at to alike = go (is_empty_entry left)
@@ -150,7 +150,7 @@ module _ (space remote : ℕ) (wanted wanted_port : ℕ → Type 0) where
           alike_changed one other name (λ names. finmap.insert names name left) (Some left) entry want at
           (λ n k. get-insert nat_cmp_total n name left k) to alike
 
-  alike_port : (one other : State) (serial : ℕ) (change : PortState → PortState)
+  alike_port : (one other : Ipc) (serial : ℕ) (change : PortState → PortState)
       → ((p : PortState) → nat_le (change p).limit (length (change p).messages) ≡ nat_le p.limit (length p.messages))
       → Alike one other → Alike (with_port one serial change) (with_port other serial change)
   alike_port one other serial change keeps alike = record {
@@ -162,7 +162,7 @@ module _ (space remote : ℕ) (wanted wanted_port : ℕ → Type 0) where
         ∙ alike.full s w (sym (full_port one serial s change keeps) ∙ is);
   }
     where
-      entry_kept : (state : State) (serial : ℕ) (change : PortState → PortState) (name : ℕ)
+      entry_kept : (state : Ipc) (serial : ℕ) (change : PortState → PortState) (name : ℕ)
           → entry_at (with_port state serial change) space name ≡ entry_at state space name
       entry_kept state serial change name =
           ap (λ (s : finmap.FinMap nat_cmp Names). option_and_then
@@ -176,19 +176,19 @@ module _ (space remote : ℕ) (wanted wanted_port : ℕ → Type 0) where
     pub to : (serial : ℕ) → live_port one.right.port ≡ Some serial → port_of entry ≡ Some serial
 
   -- a right was taken, and this is left of its name
-  leaving : (one other : State) (name : ℕ) (right : CarriedRight) (left entry : Entry) → wanted name
+  leaving : (one other : Ipc) (name : ℕ) (right : CarriedRight) (left entry : Entry) → wanted name
       → entry_at one space name ≡ Some entry → ((serial : ℕ) → port_of left ≡ Some serial → port_of entry ≡ Some serial)
       → ((serial : ℕ) → live_port right.port ≡ Some serial → port_of entry ≡ Some serial) → Alike one other
       → TakenAlike entry (taken_leaving one space name right left) (taken_leaving other space name right left)
   leaving one other name right left entry want at same to alike =
       record { right = refl; notices = refl; states = alike_left one other name left entry want at same alike; to = to }
 
-  keeping : (one other : State) (right : CarriedRight) (entry : Entry)
+  keeping : (one other : Ipc) (right : CarriedRight) (entry : Entry)
       → ((serial : ℕ) → live_port right.port ≡ Some serial → port_of entry ≡ Some serial) → Alike one other
       → TakenAlike entry (taken_keeping one right) (taken_keeping other right)
   keeping one other right entry to alike = record { right = refl; notices = refl; states = alike; to = to }
 
-  of_port : (one other : State) (name : ℕ) (disposition : Disposition) (rights : PortRights) → wanted name
+  of_port : (one other : Ipc) (name : ℕ) (disposition : Disposition) (rights : PortRights) → wanted name
       → entry_at one space name ≡ Some (Port rights) → Alike one other
       → Both (TakenAlike (Port rights)) (taken_of_port one space name disposition rights)
       (taken_of_port other space name disposition rights)
@@ -262,7 +262,7 @@ module _ (space remote : ℕ) (wanted wanted_port : ℕ → Type 0) where
           (λ serial is. is) alike
       go false = tt
 
-  of_send_once : (one other : State) (name : ℕ) (disposition : Disposition) (port : ℕ) (target : Option ℕ) → wanted name
+  of_send_once : (one other : Ipc) (name : ℕ) (disposition : Disposition) (port : ℕ) (target : Option ℕ) → wanted name
       → entry_at one space name ≡ Some (SendOnce port target) → Alike one other
       → Both (TakenAlike (SendOnce port target)) (taken_of_send_once one space name disposition port target)
       (taken_of_send_once other space name disposition port target)
@@ -280,7 +280,7 @@ module _ (space remote : ℕ) (wanted wanted_port : ℕ → Type 0) where
   of_send_once one other name MakeSend port target want at alike = tt
   of_send_once one other name MakeSendOnce port target want at alike = tt
 
-  of_dead : (one other : State) (name : ℕ) (disposition : Disposition) (references : ℕ) → wanted name
+  of_dead : (one other : Ipc) (name : ℕ) (disposition : Disposition) (references : ℕ) → wanted name
       → entry_at one space name ≡ Some (Dead references) → Alike one other
       → Both (TakenAlike (Dead references)) (taken_of_dead one space name disposition references)
       (taken_of_dead other space name disposition references)
@@ -297,7 +297,7 @@ module _ (space remote : ℕ) (wanted wanted_port : ℕ → Type 0) where
   of_dead one other name MakeSend references want at alike = tt
   of_dead one other name MakeSendOnce references want at alike = tt
 
-  of_entry : (one other : State) (name : ℕ) (disposition : Disposition) (entry : Entry) → wanted name
+  of_entry : (one other : Ipc) (name : ℕ) (disposition : Disposition) (entry : Entry) → wanted name
       → entry_at one space name ≡ Some entry → Alike one other
       → Both (TakenAlike entry) (taken_of_entry one space name disposition entry)
       (taken_of_entry other space name disposition entry)
@@ -310,7 +310,7 @@ module _ (space remote : ℕ) (wanted wanted_port : ℕ → Type 0) where
       of_dead one other name disposition references want at alike
 
   -- what is known of a right that was taken from a name: it is to the port of the right that the name stands for
-  pub record TakenOf (name : ℕ) (start : State) (first second : Taken) : Type 0 where
+  pub record TakenOf (name : ℕ) (start : Ipc) (first second : Taken) : Type 0 where
     pub right : second.right ≡ first.right
     pub notices : second.notices ≡ first.notices
     pub states : Alike first.state second.state
@@ -324,7 +324,7 @@ module _ (space remote : ℕ) (wanted wanted_port : ℕ → Type 0) where
   both_map R S f (Some x) None is = absurd is
   both_map R S f (Some x) (Some y) is = f x y is
 
-  pub copy_in_alike : (one other : State) (name : ℕ) (disposition : Disposition) → wanted name → Alike one other
+  pub copy_in_alike : (one other : Ipc) (name : ℕ) (disposition : Disposition) → wanted name → Alike one other
       → Both (TakenOf name one) (copy_in one space name disposition) (copy_in other space name disposition)
   unfolding copy_in
   copy_in_alike one other name disposition want alike =

@@ -1,3 +1,4 @@
+pub mod CallPlaces
 pub mod Copying
 pub mod Places
 pub mod PlacesCode

@@ -16,7 +16,7 @@ use Rattle.ipc_model.specs.declared.entry.Entry.TheVariants.{Port, SendOnce, Set
 use Rattle.ipc_model.specs.declared.message.Message.{Message}
 use Rattle.ipc_model.specs.declared.port.PortState.{PortState}
 use Rattle.ipc_model.specs.messages.Receiving.{ReceiveArguments, all_empty, is_in_set, oldest, oldest_under, port_under, receive_refusal, refusal_of_sources, sources, sources_of_port}
-use Rattle.ipc_model.specs.state.State.{State, Names, entry_at, is_member, is_number, members_of, received_port}
+use Rattle.ipc_model.specs.state.Ipc.{Ipc, Names, entry_at, is_member, is_number, members_of, received_port}
 use Rattle.waiting.specs.Places.{place_of_name}
 use Rattle.waiting.specs.Waiting.{Covers, IsQuiet, Occupancy, occupancy}
 
@@ -63,7 +63,7 @@ stands None name entry is = absurd (cc is)
 stands (Some names) name entry is = record { names = names; there = refl; named = is }
 
 -- the port under a name that holds its receive right
-under : (state : State) (names : Names) (name serial : ℕ) (entry : Entry) → finmap.get names name ≡ Some entry
+under : (state : Ipc) (names : Names) (name serial : ℕ) (entry : Entry) → finmap.get names name ≡ Some entry
     → received_port entry ≡ Some serial → port_under state names name ≡ finmap.get state.ports serial
 under state names name serial entry at holds =
     ap (λ (o : Option Entry). option_and_then (λ (s : ℕ). finmap.get state.ports s) (option_and_then received_port o))
@@ -71,14 +71,14 @@ under state names name serial entry at holds =
     ∙ ap (λ (o : Option ℕ). option_and_then (λ (s : ℕ). finmap.get state.ports s) o) holds
 
 -- the code of a name with these sources
-code_of : (state : State) (names : Names) (arguments : ReceiveArguments) (entry : Entry) (among : Option (List ℕ))
+code_of : (state : Ipc) (names : Names) (arguments : ReceiveArguments) (entry : Entry) (among : Option (List ℕ))
     → finmap.get names arguments.name ≡ Some entry → sources state names arguments.name (Some entry) ≡ among
     → receive_refusal state names arguments ≡ refusal_of_sources state names arguments among
 code_of state names arguments entry among at is =
     ap (λ (o : Option Entry). refusal_of_sources state names arguments (sources state names arguments.name o)) at
     ∙ ap (refusal_of_sources state names arguments) is
 
-no_source : (state : State) (names : Names) (arguments : ReceiveArguments) (P : Type 0)
+no_source : (state : Ipc) (names : Names) (arguments : ReceiveArguments) (P : Type 0)
     → refusal_of_sources state names arguments None ≡ Some RcvTimedOut → P
 no_source state names arguments P is =
     elim arguments.waited as (λ (b : Bool). Some (if b then RcvPortDied else RcvInvalidName) ≡ Some RcvTimedOut → P) [
@@ -87,7 +87,7 @@ no_source state names arguments P is =
     ] is
 
 -- what a receive that finds no message knows of its sources
-sources_empty : (state : State) (names : Names) (arguments : ReceiveArguments) (among : List ℕ)
+sources_empty : (state : Ipc) (names : Names) (arguments : ReceiveArguments) (among : List ℕ)
     → refusal_of_sources state names arguments (Some among) ≡ Some RcvTimedOut
     → (is_in_set state names arguments.name ≡ false) × (all_empty state names among ≡ true)
 sources_empty state names arguments among is =
@@ -106,7 +106,7 @@ sources_empty state names arguments among is =
     go false within true empty code = (within, empty)
     go false within false empty code = absurd (cc code)
 
-empty_sources : (state : State) (names : Names) (arguments : ReceiveArguments) (among : List ℕ)
+empty_sources : (state : Ipc) (names : Names) (arguments : ReceiveArguments) (among : List ℕ)
     → is_in_set state names arguments.name ≡ false → all_empty state names among ≡ true
     → refusal_of_sources state names arguments (Some among) ≡ Some RcvTimedOut
 empty_sources state names arguments among outside empty =
@@ -114,7 +114,7 @@ empty_sources state names arguments among outside empty =
     else if all_empty state names among then Some RcvTimedOut else None) outside
     ∙ ap (λ (b : Bool). if b then Some RcvTimedOut else None) empty
 
-module _ (old new : State) (named : ℕ → Bool) (covers : Covers old new named) (space : ℕ) where
+module _ (old new : Ipc) (named : ℕ → Bool) (covers : Covers old new named) (space : ℕ) where
   -- a port under a name whose place isn't named
   still_idle : (name serial : ℕ) (entry : Entry) → named (place_of_name space name) ≡ false
       → entry_at new space name ≡ Some entry → received_port entry ≡ Some serial → IsIdle (finmap.get old.ports serial)
@@ -143,7 +143,7 @@ module _ (old new : State) (named : ℕ → Bool) (covers : Covers old new named
   port_case : (names : Names) (arguments : ReceiveArguments) (entry : Entry) (serial : ℕ)
       → finmap.get old.spaces space ≡ Some names → finmap.get names arguments.name ≡ Some entry
       → received_port entry ≡ Some serial
-      → ((state : State) (n : Names) → sources state n arguments.name (Some entry) ≡ Some (arguments.name ∷ []))
+      → ((state : Ipc) (n : Names) → sources state n arguments.name (Some entry) ≡ Some (arguments.name ∷ []))
       → named (place_of_name space arguments.name) ≡ false
       → receive_refusal old names arguments ≡ Some RcvTimedOut → (after : Names)
       × (finmap.get new.spaces space ≡ Some after) × (receive_refusal new after arguments ≡ Some RcvTimedOut)
@@ -191,14 +191,14 @@ module _ (old new : State) (named : ℕ → Bool) (covers : Covers old new named
   -- the members of a set
 
   -- the port of a member
-  record IsIn (state : State) (set : ℕ) (entry : Entry) : Type 0 where
+  record IsIn (state : Ipc) (set : ℕ) (entry : Entry) : Type 0 where
     serial : ℕ
     port : PortState
     holds : received_port entry ≡ Some serial
     there : finmap.get state.ports serial ≡ Some port
     within : port.set ≡ Some set
 
-  is_in : (state : State) (set : ℕ) (entry : Entry) → is_member state set entry ≡ true → IsIn state set entry
+  is_in : (state : Ipc) (set : ℕ) (entry : Entry) → is_member state set entry ≡ true → IsIn state set entry
   is_in state set entry member = go (received_port entry) refl member
     where
       number : (o : Option ℕ) → is_number o set ≡ true → o ≡ Some set
@@ -218,7 +218,7 @@ module _ (old new : State) (named : ℕ → Bool) (covers : Covers old new named
       go None holds e = absurd (cc e)
       go (Some serial) holds e = by_port serial holds (finmap.get state.ports serial) refl e
 
-  in_is : (state : State) (set : ℕ) (entry : Entry) → IsIn state set entry → is_member state set entry ≡ true
+  in_is : (state : Ipc) (set : ℕ) (entry : Entry) → IsIn state set entry → is_member state set entry ≡ true
   in_is state set entry is =
       ap (λ (o : Option ℕ). elim (option_and_then (λ (serial : ℕ). finmap.get state.ports serial) o) as (λ _. Bool)
       [ None ↦ false | Some port ↦ is_number port.set set ]) is.holds
@@ -230,11 +230,11 @@ module _ (old new : State) (named : ℕ → Bool) (covers : Covers old new named
       number_itself n = grind (arith, nat_tests)
 
   -- the names of the members among these entries
-  abbrev members_among : State → ℕ → List (ℕ × Entry) → List ℕ
+  abbrev members_among : Ipc → ℕ → List (ℕ × Entry) → List ℕ
   members_among state set es = map (λ e. e.0) (filter (λ e. is_member state set e.1) es)
 
   -- no member has a message: what holds of each holds of all, and conversely
-  each_empty : (state : State) (names : Names) (set : ℕ) (es : List (ℕ × Entry)) → T (is_sorted nat_cmp es)
+  each_empty : (state : Ipc) (names : Names) (set : ℕ) (es : List (ℕ × Entry)) → T (is_sorted nat_cmp es)
       → ((name : ℕ) (entry : Entry) → find nat_cmp name es ≡ Some entry → is_member state set entry ≡ true
       → is_some (oldest_under state names name) ≡ false)
       → all_empty state names (members_among state set es) ≡ true
@@ -256,7 +256,7 @@ module _ (old new : State) (named : ℕ → Bool) (covers : Covers old new named
           (each e.0 e.1 first member) ∙ rest
       go rest false _ = rest
 
-  empty_each : (state : State) (names : Names) (set : ℕ) (es : List (ℕ × Entry))
+  empty_each : (state : Ipc) (names : Names) (set : ℕ) (es : List (ℕ × Entry))
       → all_empty state names (members_among state set es) ≡ true
       → (name : ℕ) (entry : Entry) → find nat_cmp name es ≡ Some entry → is_member state set entry ≡ true
       → is_some (oldest_under state names name) ≡ false

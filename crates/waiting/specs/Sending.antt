@@ -19,7 +19,7 @@ use Rattle.ipc_model.specs.messages.Sending.{Ready, TakenDestination, destinatio
 use Rattle.ipc_model.specs.rights.CopyIn.{Taken, copy_in}
 use Rattle.ipc_model.specs.rights.Dispositions.{Disposition, disposition_of, received_kind}
 use Rattle.ipc_model.specs.state.Placed.{same_kind}
-use Rattle.ipc_model.specs.state.State.{State, entry_at, is_null_or_dead}
+use Rattle.ipc_model.specs.state.Ipc.{Ipc, entry_at, is_null_or_dead}
 use Rattle.waiting.specs.Copying.{Alike, Both, TakenOf, copy_in_alike}
 use Rattle.waiting.specs.Waiting.{names_in_items, port_of}
 
@@ -69,7 +69,7 @@ unless_follows (test ∷ tests) first second follows =
     ]
 
 module _ (space remote : ℕ) (wanted wanted_port : ℕ → Type 0) where
-  abbrev Like : State → State → Type 0
+  abbrev Like : Ipc → Ipc → Type 0
   Like one other = Alike space remote wanted wanted_port one other
 
   -- a destination's right, with its live port
@@ -106,7 +106,7 @@ module _ (space remote : ℕ) (wanted wanted_port : ℕ → Type 0) where
       go None = tt
       go (Some n) = refl
 
-  destination : (one other : State) (disposition : Disposition) → wanted remote → Like one other
+  destination : (one other : Ipc) (disposition : Disposition) → wanted remote → Like one other
       → BothDone DestinationAlike (take_destination one space remote disposition)
       (take_destination other space remote disposition)
   destination one other disposition want alike =
@@ -139,7 +139,7 @@ module _ (space remote : ℕ) (wanted wanted_port : ℕ → Type 0) where
                 is_wanted = alike.port m (is.to m at);
               }
 
-  reply_alike : (one other : State) (name : ℕ) (disposition : Option Disposition) → wanted name → Like one other
+  reply_alike : (one other : Ipc) (name : ℕ) (disposition : Option Disposition) → wanted name → Like one other
       → BothDone ReplyAlike (take_reply one space name disposition) (take_reply other space name disposition)
   reply_alike one other name None want alike = record { reply = refl; notices = refl; states = alike }
   reply_alike one other name (Some disposition) want alike = go (is_null_or_dead name)
@@ -173,16 +173,16 @@ module _ (space remote : ℕ) (wanted wanted_port : ℕ → Type 0) where
             states = is.states;
           })
 
-  header_alike : (one other : State) (by : Disposition) (local : ℕ) (reply : Option Disposition) → wanted remote
+  header_alike : (one other : Ipc) (by : Disposition) (local : ℕ) (reply : Option Disposition) → wanted remote
       → wanted local → Like one other
       → BothDone HeaderAlike (take_header one space remote by local reply)
       (take_header other space remote by local reply)
   header_alike one other by local reply want want_local alike = go (reply_goes_first by reply)
     where
-      reply_first : State → Result TakenHeader KernReturn
+      reply_first : Ipc → Result TakenHeader KernReturn
       reply_first state = take_reply_first state space remote by local reply
 
-      reply_last : State → Result TakenHeader KernReturn
+      reply_last : Ipc → Result TakenHeader KernReturn
       reply_last state = take_destination_first state space remote by local reply
 
       both_notices : (a b c d : List Effect) → c ≡ a → d ≡ b → c ++ d ≡ a ++ b
@@ -357,7 +357,7 @@ module _ (space remote : ℕ) (wanted wanted_port : ℕ → Type 0) where
       full_of false full c stopped ready e = absurd (cc e)
 
   -- A send that finds no room in the one state finds none in the other.
-  of_items : (one other : State) (parts : UsedParts) (by : Disposition) (reply : Option Disposition) (items : List Item)
+  of_items : (one other : Ipc) (parts : UsedParts) (by : Disposition) (reply : Option Disposition) (items : List Item)
       → parts.remote ≡ remote → wanted remote → wanted parts.local → AllWanted (flat_map names_of_item items)
       → Like one other
       → Follows (ready_of_items one space parts by reply items) (ready_of_items other space parts by reply items)
@@ -379,7 +379,7 @@ module _ (space remote : ℕ) (wanted wanted_port : ℕ → Type 0) where
       start : TakenHeader → TakenRights
       start header = record { rights = []; state = header.state; notices = [] }
 
-  pub of_parts : (one other : State) (parts : UsedParts) → parts.remote ≡ remote → wanted remote → wanted parts.local
+  pub of_parts : (one other : Ipc) (parts : UsedParts) → parts.remote ≡ remote → wanted remote → wanted parts.local
       → AllWanted (names_in_items (items_if_complex parts.complex parts.body)) → Like one other
       → ready_by_parts one space parts ≡ Err SendTimedOut → ready_by_parts other space parts ≡ Err SendTimedOut
   of_parts one other parts at want want_local want_items alike =
@@ -463,7 +463,7 @@ items_untimed : (complex : Bool) (body : List ℕ) → Untimed (items_if_complex
 unfolding items_of
 items_untimed complex body = if_untimed complex _ _ (within_untimed (length body) body) (fine [])
 
-reply_untimed : (state : State) (space name : ℕ) (disposition : Option Disposition)
+reply_untimed : (state : Ipc) (space name : ℕ) (disposition : Option Disposition)
     → Untimed (take_reply state space name disposition)
 reply_untimed state space name None = fine _
 reply_untimed state space name (Some disposition) =
@@ -472,7 +472,7 @@ reply_untimed state space name (Some disposition) =
     (λ (taken : Taken). Ok (record { reply = Some taken.right; state = taken.state; notices = taken.notices }))
     (or_untimed SendInvalidReply (copy_in state space name disposition) tt) (λ taken _. fine _))
 
-destination_untimed : (state : State) (space name : ℕ) (disposition : Disposition)
+destination_untimed : (state : Ipc) (space name : ℕ) (disposition : Disposition)
     → Untimed (take_destination state space name disposition)
 destination_untimed state space name disposition =
     then_untimed (or_refused SendInvalidDest (copy_in state space name disposition)) _
@@ -480,7 +480,7 @@ destination_untimed state space name disposition =
     then_untimed (or_refused SendInvalidDest (live_port taken.right.port)) _
     (or_untimed SendInvalidDest (live_port taken.right.port) tt) (λ serial _. fine _))
 
-header_untimed : (state : State) (space remote : ℕ) (by : Disposition) (local : ℕ) (reply : Option Disposition)
+header_untimed : (state : Ipc) (space remote : ℕ) (by : Disposition) (local : ℕ) (reply : Option Disposition)
     → Untimed (take_header state space remote by local reply)
 header_untimed state space remote by local reply =
     if_untimed (reply_goes_first by reply) _ _
@@ -492,7 +492,7 @@ header_untimed state space remote by local reply =
     (reply_untimed first.taken.state space local reply) (λ second _. fine _)))
 
 -- Where the destination's name stands for nothing, no header is taken.
-no_header : (state : State) (space remote : ℕ) (by : Disposition) (local : ℕ) (reply : Option Disposition)
+no_header : (state : Ipc) (space remote : ℕ) (by : Disposition) (local : ℕ) (reply : Option Disposition)
     → entry_at state space remote ≡ None → (header : TakenHeader)
     → take_header state space remote by local reply ≡ Ok header → ⊥
 no_header state space remote by local reply none header is =
@@ -511,7 +511,7 @@ no_header state space remote by local reply none header is =
     go (Err code) is both = absurd (cc is)
 
 -- A send that finds no room has a destination's name.
-pub has_destination : (state : State) (space : ℕ) (parts : UsedParts)
+pub has_destination : (state : Ipc) (space : ℕ) (parts : UsedParts)
     → ready_by_parts state space parts ≡ Err SendTimedOut → (entry : Entry)
     × (entry_at state space parts.remote ≡ Some entry)
 has_destination state space parts is = go (entry_at state space parts.remote) refl

@@ -4,9 +4,9 @@ use Rattle.std.specs.FinMap as finmap
 use Rattle.codes.specs.declared.kern_return.KernReturn.{KernReturn}
 use Rattle.codes.specs.declared.kern_return.KernReturn.TheVariants.{SendTimedOut, RcvTimedOut}
 use Rattle.codes.specs.declared.name.TheConstants.{MACH_PORT_NULL}
-use Rattle.ipc_model.specs.calls.Step.{Answer}
-use Rattle.ipc_model.specs.declared.call.Call.{Call}
-use Rattle.ipc_model.specs.declared.call.Call.TheVariants as call
+use Rattle.ipc_model.specs.calls.PlainStep.{Answer}
+use Rattle.ipc_model.specs.declared.plain_call.PlainCall.{PlainCall}
+use Rattle.ipc_model.specs.declared.plain_call.PlainCall.TheVariants as call
 use Rattle.ipc_model.specs.declared.entry.Entry.{Entry}
 use Rattle.ipc_model.specs.declared.entry.Entry.TheVariants.{Port, SendOnce, Set, Dead}
 use Rattle.ipc_model.specs.declared.port.PortState.{PortState}
@@ -14,12 +14,12 @@ use Rattle.ipc_model.specs.messages.Items.{Item, names_of_item}
 use Rattle.ipc_model.specs.messages.Messages.{UsedParts, used_parts}
 use Rattle.ipc_model.specs.messages.Receiving.{without_message}
 use Rattle.ipc_model.specs.messages.Sending.{is_full, items_if_complex}
-use Rattle.ipc_model.specs.state.State.{State, entry_at, received_port}
+use Rattle.ipc_model.specs.state.Ipc.{Ipc, entry_at, received_port}
 use Rattle.waiting.specs.Places.{place_of_name, place_of_port}
 
 -- A call of a task of this space finds nothing to do: a send finds no room in the queue, a receive no message. It may
 -- be answered so, and then changes nothing.
-abbrev pub FindsNothing : State → ℕ → Call → Type 0
+abbrev pub FindsNothing : Ipc → ℕ → PlainCall → Type 0
 FindsNothing state space (call.Send message) =
     Answer state space (call.Send message) (without_message SendTimedOut 0 MACH_PORT_NULL)
 FindsNothing state space (call.Receive limit large name waited) =
@@ -47,25 +47,25 @@ abbrev pub place_of_destination : Option ℕ → List ℕ
 place_of_destination (Some serial) = place_of_port serial ∷ []
 place_of_destination None = []
 
-abbrev pub places_of_send : State → ℕ → UsedParts → List ℕ
+abbrev pub places_of_send : Ipc → ℕ → UsedParts → List ℕ
 places_of_send state space parts =
     map (place_of_name space) (names_cited parts)
     ++ place_of_destination (option_and_then port_of (entry_at state space parts.remote))
 
 -- Where a call that finds nothing to do waits: a receive waits at its name, a send as above. No other call waits.
-abbrev pub places_of_call : State → ℕ → Call → List ℕ
+abbrev pub places_of_call : Ipc → ℕ → PlainCall → List ℕ
 places_of_call state space (call.Receive limit large name waited) = place_of_name space name ∷ []
 places_of_call state space (call.Send message) = places_of_send state space (used_parts message)
 places_of_call state space c = []
 
-abbrev pub WaitsAt : State → ℕ → Call → ℕ → Type 0
+abbrev pub WaitsAt : Ipc → ℕ → PlainCall → ℕ → Type 0
 WaitsAt state space c place = Contains (places_of_call state space c) place
 
 -- No wake-up is lost: a call that found nothing to do before a step, and waits at no place that the step names, finds
 -- nothing after it either.
-abbrev pub Wakes : State → State → (ℕ → Bool) → Type 0
+abbrev pub Wakes : Ipc → Ipc → (ℕ → Bool) → Type 0
 Wakes old new named =
-    (space : ℕ) (call : Call) → FindsNothing old space call
+    (space : ℕ) (call : PlainCall) → FindsNothing old space call
     → ((place : ℕ) → WaitsAt old space call place → named place ≡ false) → FindsNothing new space call
 
 -- what a waiting call depends on of a port: how many messages its queue may hold and holds, and the port's set
@@ -77,7 +77,7 @@ pub record Occupancy : Type 0 where
 abbrev pub occupancy : PortState → Occupancy
 occupancy port = record { limit = port.limit; held = length port.messages; set = port.set }
 
-abbrev pub occupancy_at : State → ℕ → Option Occupancy
+abbrev pub occupancy_at : Ipc → ℕ → Option Occupancy
 occupancy_at state serial = option_map occupancy (finmap.get state.ports serial)
 
 -- a port without a message, in no set
@@ -85,7 +85,7 @@ abbrev pub IsQuiet : PortState → Type 0
 IsQuiet port = (port.set ≡ None) × (port.messages ≡ [])
 
 -- Which changes from one state to another the places have to name.
-pub record Covers (old new : State) (named : ℕ → Bool) : Type 0 where
+pub record Covers (old new : Ipc) (named : ℕ → Bool) : Type 0 where
   -- each name that stands for something else
   pub entries : (space name : ℕ) → named (place_of_name space name) ≡ false
       → entry_at new space name ≡ entry_at old space name

@@ -6,25 +6,25 @@ use Rattle.std.proofs.lemmas.List.Elements.{Contains-append_left, Contains-appen
 use Rattle.codes.specs.declared.kern_return.KernReturn.{KernReturn}
 use Rattle.codes.specs.declared.kern_return.KernReturn.TheVariants.{InvalidTask, Success, SendTimedOut, RcvTimedOut, RcvHeaderErrorSpace}
 use Rattle.codes.specs.declared.name.TheConstants.{MACH_PORT_NULL}
-use Rattle.ipc_model.specs.calls.Step.{ActsFrom, ActsIn, Step, refused}
-use Rattle.ipc_model.specs.declared.call.Call.{Call}
-use Rattle.ipc_model.specs.declared.call.Call.TheVariants as call
-use Rattle.ipc_model.specs.declared.call.Reply.{Reply}
-use Rattle.ipc_model.specs.declared.call.Reply.TheVariants as reply
+use Rattle.ipc_model.specs.calls.PlainStep.{ActsFrom, ActsIn, PlainStep, refused}
+use Rattle.ipc_model.specs.declared.plain_call.PlainCall.{PlainCall}
+use Rattle.ipc_model.specs.declared.plain_call.PlainCall.TheVariants as call
+use Rattle.ipc_model.specs.declared.plain_reply.PlainReply.{PlainReply}
+use Rattle.ipc_model.specs.declared.plain_reply.PlainReply.TheVariants as reply
 use Rattle.ipc_model.specs.declared.message.Message.{Message}
 use Rattle.ipc_model.specs.declared.port.PortState.{PortState}
 use Rattle.ipc_model.specs.effects.Effects.{Effect, settled}
 use Rattle.ipc_model.specs.messages.Messages.{UsedParts, used_parts}
 use Rattle.ipc_model.specs.messages.Receiving.{ReceiveArguments, Received, Receives, TakesOut, TooLarge, lacks_names, message_size, receive_refusal, without_message}
 use Rattle.ipc_model.specs.messages.Sending.{Ready, items_if_complex, ready_by_parts, ready_to_send, sent}
-use Rattle.ipc_model.specs.state.State.{State, Names, entry_at}
+use Rattle.ipc_model.specs.state.Ipc.{Ipc, Names, entry_at}
 use Rattle.ipc_laws.specs.ReceiveLaws.{large_answer}
 use Rattle.waiting.specs.Places.{place_of_name, place_of_port}
 use Rattle.waiting.specs.Receiving.{stands, still_none}
 use Rattle.waiting.specs.Sending.{AllWanted, has_destination, of_parts}
 use Rattle.waiting.specs.Waiting.{Covers, FindsNothing, Wakes, WaitsAt, names_cited, names_in_items, place_of_destination, port_of}
 
-abbrev code_in : Reply → KernReturn
+abbrev code_in : PlainReply → KernReturn
 code_in (reply.Message code size member message) = code
 code_in answer = Success
 
@@ -38,14 +38,14 @@ some_code None code A B C is never = absurd (never is)
 some_code (Some c) code A B C is never = ap (λ (k : KernReturn). Some k) (sym (code_same code c is.0))
 
 -- a receive that takes a message, or has no room for its names, gets another answer
-takes_none : (old : State) (space : ℕ) (names : Names) (arguments : ReceiveArguments) (member serial : ℕ)
-    (port : PortState) (message : Message) (acted : State) (effects : List Effect)
+takes_none : (old : Ipc) (space : ℕ) (names : Names) (arguments : ReceiveArguments) (member serial : ℕ)
+    (port : PortState) (message : Message) (acted : Ipc) (effects : List Effect)
     → TakesOut old space names arguments member serial port message
     (without_message RcvTimedOut 0 MACH_PORT_NULL) acted effects → ⊥
 takes_none old space names arguments member serial port message acted effects is =
     go (nat_lt arguments.limit (message_size message)) (lacks_names names message) is
   where
-    answer : Reply
+    answer : PlainReply
     answer = without_message RcvTimedOut 0 MACH_PORT_NULL
 
     go : (b c : Bool) → MatchBool b (TooLarge old member serial message arguments.large answer acted effects)
@@ -56,7 +56,7 @@ takes_none old space names arguments member serial port message acted effects is
     go false true is = cc (ap code_in is.0)
     go false false is = cc (ap code_in is.3)
 
-refused_receive : (old : State) (space : ℕ) (names : Names) (arguments : ReceiveArguments) (acted : State)
+refused_receive : (old : Ipc) (space : ℕ) (names : Names) (arguments : ReceiveArguments) (acted : Ipc)
     (effects : List Effect)
     → Receives old space names arguments (without_message RcvTimedOut 0 MACH_PORT_NULL) acted effects
     → receive_refusal old names arguments ≡ Some RcvTimedOut
@@ -68,12 +68,12 @@ refused_receive old space names arguments acted effects is =
 abbrev failed : KernReturn → Result Ready KernReturn
 failed code = Err code
 
-refused_send : (old : State) (space : ℕ) (message : List ℕ) (acted : State) (effects : List Effect) (names : Names)
+refused_send : (old : Ipc) (space : ℕ) (message : List ℕ) (acted : Ipc) (effects : List Effect) (names : Names)
     → ActsIn old space names (call.Send message) (without_message SendTimedOut 0 MACH_PORT_NULL) acted effects
     → ready_to_send old space message ≡ Err SendTimedOut
 refused_send old space message acted effects names is = go (ready_to_send old space message) is
   where
-    answer : Reply
+    answer : PlainReply
     answer = without_message SendTimedOut 0 MACH_PORT_NULL
 
     go : (r : Result Ready KernReturn)
@@ -95,13 +95,13 @@ matches_code o code A B C is b c =
     (λ c. (without_message code 0 MACH_PORT_NULL ≡ without_message c 0 MACH_PORT_NULL) × B × C)) (sym is)
     (refl, b, c)
 
-receive_refused : (new : State) (space : ℕ) (names : Names) (arguments : ReceiveArguments)
+receive_refused : (new : Ipc) (space : ℕ) (names : Names) (arguments : ReceiveArguments)
     → receive_refusal new names arguments ≡ Some RcvTimedOut
     → Receives new space names arguments (without_message RcvTimedOut 0 MACH_PORT_NULL) new no_effects
 receive_refused new space names arguments is =
     matches_code (receive_refusal new names arguments) RcvTimedOut _ (new ≡ new) (no_effects ≡ no_effects) is refl refl
 
-send_refused : (new : State) (space : ℕ) (message : List ℕ) (names : Names)
+send_refused : (new : Ipc) (space : ℕ) (message : List ℕ) (names : Names)
     → ready_to_send new space message ≡ Err SendTimedOut
     → ActsIn new space names (call.Send message) (without_message SendTimedOut 0 MACH_PORT_NULL) new no_effects
 send_refused new space message names is =
@@ -112,7 +112,7 @@ send_refused new space message names is =
     × (no_effects ≡ no_effects))) (sym is) (refl, refl, refl)
 
 -- a caller whose space is gone is refused with another code
-there : (old : State) (space : ℕ) (c : Call) (code : KernReturn) (acted : State) (effects : List Effect)
+there : (old : Ipc) (space : ℕ) (c : PlainCall) (code : KernReturn) (acted : Ipc) (effects : List Effect)
     → refused c InvalidTask ≡ without_message InvalidTask 0 MACH_PORT_NULL → (InvalidTask ≡ code → ⊥)
     → ActsFrom old space (finmap.get old.spaces space) c (without_message code 0 MACH_PORT_NULL) acted effects
     → (names : Names) × (finmap.get old.spaces space ≡ Some names)
@@ -126,23 +126,25 @@ there old space c code acted effects gone other is = go (finmap.get old.spaces s
     go None at acts = absurd (other (sym (code_same code InvalidTask (acts.0 ∙ gone))))
     go (Some names) at acts = (names, at, acts)
 
-in_there : (new : State) (space : ℕ) (c : Call) (names : Names) (answer : Reply)
-    → finmap.get new.spaces space ≡ Some names → ActsIn new space names c answer new [] → Step new space c answer new
-unfolding Step
+in_there : (new : Ipc) (space : ℕ) (c : PlainCall) (names : Names) (answer : PlainReply)
+    → finmap.get new.spaces space ≡ Some names → ActsIn new space names c answer new []
+    → PlainStep new space c answer new
+unfolding PlainStep
 in_there new space c names answer at acts =
     (new, [], subst (λ (o : Option Names). ActsFrom new space o c answer new []) (sym at) acts, settled)
 
-acted_from : (old : State) (space : ℕ) (c : Call) (answer : Reply) → Step old space c answer old → (acted : State)
+acted_from : (old : Ipc) (space : ℕ) (c : PlainCall) (answer : PlainReply) → PlainStep old space c answer old
+    → (acted : Ipc)
     × (effects : List Effect) × ActsFrom old space (finmap.get old.spaces space) c answer acted effects
-unfolding Step
+unfolding PlainStep
 acted_from old space c answer is = (is.0, is.1, is.2)
 
-by_parts : (state : State) (space : ℕ) (message : List ℕ) → ready_to_send state space message ≡ Err SendTimedOut
+by_parts : (state : Ipc) (space : ℕ) (message : List ℕ) → ready_to_send state space message ≡ Err SendTimedOut
     → ready_by_parts state space (used_parts message) ≡ Err SendTimedOut
 unfolding ready_to_send
 by_parts state space message is = is
 
-as_parts : (state : State) (space : ℕ) (message : List ℕ)
+as_parts : (state : Ipc) (space : ℕ) (message : List ℕ)
     → ready_by_parts state space (used_parts message) ≡ Err SendTimedOut
     → ready_to_send state space message ≡ Err SendTimedOut
 unfolding ready_to_send
@@ -155,7 +157,7 @@ contains_mapped f (y ∷ ys) x zero below is = (zero, omega arith, ap f is)
 contains_mapped f (y ∷ ys) x (suc k) below is =
     let rest = contains_mapped f ys x k (omega (arith, below)) is in (suc rest.0, omega (arith, rest.1), rest.2)
 
-module _ (old new : State) (named : ℕ → Bool) (covers : Covers old new named) where
+module _ (old new : Ipc) (named : ℕ → Bool) (covers : Covers old new named) where
   receives : (space limit : ℕ) (large : Bool) (name : ℕ) (waited : Bool)
       → FindsNothing old space (call.Receive limit large name waited)
       → ((place : ℕ) → WaitsAt old space (call.Receive limit large name waited) place → named place ≡ false)

@@ -11,8 +11,8 @@ use Rattle.codes.specs.declared.name.TheConstants.{MACH_PORT_NULL, FIRST_SPACE}
 use Rattle.codes.specs.declared.right.Right.{Right}
 use Rattle.codes.specs.declared.right.Right.TheVariants as right
 use Rattle.codes.specs.Right.{number_of}
-use Rattle.ipc_model.specs.declared.call.Call.{Call}
-use Rattle.ipc_model.specs.declared.call.Call.TheVariants as call
+use Rattle.ipc_model.specs.declared.plain_call.PlainCall.{PlainCall}
+use Rattle.ipc_model.specs.declared.plain_call.PlainCall.TheVariants as call
 use Rattle.ipc_model.specs.declared.entry.Entry.{Entry}
 use Rattle.ipc_model.specs.declared.entry.Entry.TheVariants.{Port, SendOnce, Set, Dead}
 use Rattle.ipc_model.specs.declared.message.RightKind.{RightKind}
@@ -22,7 +22,7 @@ use Rattle.ipc_model.specs.rights.CopyIn.{Taken, copy_in}
 use Rattle.ipc_model.specs.rights.CopyOut.{names_needed}
 use Rattle.ipc_model.specs.rights.Dispositions.{Disposition, MoveSendOnce, MakeSendOnce, disposition_of, number_of_disposition}
 use Rattle.ipc_model.specs.messages.Sending.{live_port}
-use Rattle.ipc_model.specs.state.State.{State, Names, is_null_or_dead, ports_are_used_up, port_held, received_port, request_of, is_number}
+use Rattle.ipc_model.specs.state.Ipc.{Ipc, Names, is_null_or_dead, ports_are_used_up, port_held, received_port, request_of, is_number}
 use Rattle.ipc_model.specs.calls.Tests.{Tests, always_failing}
 
 -- whether a number is this right's
@@ -144,16 +144,16 @@ tests_of_taken code (Some taken) of_taken =
     elim (live_port taken.right.port) as (λ _. Tests)
     [ None ↦ always_failing code | Some serial ↦ of_taken taken serial ]
 
-abbrev pub tests_of_copy_in : State → ℕ → ℕ → Option Disposition → KernReturn → (Taken → ℕ → Tests) → Tests
+abbrev pub tests_of_copy_in : Ipc → ℕ → ℕ → Option Disposition → KernReturn → (Taken → ℕ → Tests) → Tests
 tests_of_copy_in state space name None code of_taken = always_failing InvalidValue
 tests_of_copy_in state space name (Some disposition) code of_taken =
     tests_of_taken code (copy_in state space name disposition) of_taken
 
-abbrev pub names_in : State → ℕ → Names
+abbrev pub names_in : Ipc → ℕ → Names
 names_in state space = elim (finmap.get state.spaces space) as (λ _. Names) [ None ↦ finmap.empty | Some names ↦ names ]
 
 -- the port whose receive right an entry holds is a member of a set
-abbrev pub is_in_some_set : State → Entry → Bool
+abbrev pub is_in_some_set : Ipc → Entry → Bool
 is_in_some_set state entry =
     elim (option_and_then (λ serial. finmap.get state.ports serial) (received_port entry)) as (λ _. Bool)
     [ None ↦ false | Some port ↦ is_some port.set ]
@@ -203,17 +203,17 @@ is_variant variant =
     variant == MACH_NOTIFY_PORT_DESTROYED || variant == MACH_NOTIFY_NO_SENDERS || variant == MACH_NOTIFY_DEAD_NAME
 
 -- the target of the request that a variant asks of an entry, as it stands now
-abbrev pub target_of_port : State → ℕ → Option ℕ → Option ℕ
+abbrev pub target_of_port : Ipc → ℕ → Option ℕ → Option ℕ
 target_of_port state variant None = None
 target_of_port state variant (Some serial) =
     option_and_then (λ (port : PortState). if variant == MACH_NOTIFY_PORT_DESTROYED then port.port_destroyed_target
     else port.no_senders_target) (finmap.get state.ports serial)
 
-abbrev pub target_now : State → ℕ → Entry → Option ℕ
+abbrev pub target_now : Ipc → ℕ → Entry → Option ℕ
 target_now state variant entry =
     if variant == MACH_NOTIFY_DEAD_NAME then request_of entry else target_of_port state variant (received_port entry)
 
-abbrev pub target_under : State → Names → ℕ → ℕ → Option ℕ
+abbrev pub target_under : Ipc → Names → ℕ → ℕ → Option ℕ
 target_under state names variant name = option_and_then (target_now state variant) (finmap.get names name)
 
 -- the tests of a request of this variant
@@ -227,7 +227,7 @@ tests_of_variant names name variant sync cancels =
     ∷ (name_is (λ entry. nat_le MAX_DEAD_REFERENCES (dead_references entry)) names name, UrefsOverflow)
     ∷ []
 
-abbrev pub tests_of_request : State → ℕ → ℕ → ℕ → ℕ → Bool → Tests
+abbrev pub tests_of_request : Ipc → ℕ → ℕ → ℕ → ℕ → Bool → Tests
 tests_of_request state space name variant sync cancels =
     let names : Names = names_in state space in
     ((is_no_name names name, InvalidName) ∷ []) ++ (tests_of_variant names name variant sync cancels
@@ -243,18 +243,18 @@ notify_disposition n =
 abbrev pub tests_of_targeted : ℕ → ℕ → ℕ → ℕ → Taken → ℕ → Tests
 tests_of_targeted space name variant sync taken serial = tests_of_request taken.state space name variant sync false
 
-abbrev pub tests_of_notify : State → ℕ → ℕ → ℕ → ℕ → ℕ → ℕ → Tests
+abbrev pub tests_of_notify : Ipc → ℕ → ℕ → ℕ → ℕ → ℕ → ℕ → Tests
 tests_of_notify state space name variant sync notify_name disposition =
     if notify_name == MACH_PORT_NULL then tests_of_request state space name variant sync true
     else tests_of_copy_in state space notify_name (notify_disposition disposition) InvalidCapability
     (tests_of_targeted space name variant sync)
 
 -- the tests of a new space, once its right was copied in
-abbrev pub tests_of_new_space : State → Taken → ℕ → Tests
+abbrev pub tests_of_new_space : Ipc → Taken → ℕ → Tests
 tests_of_new_space state taken serial = (nat_le MAX_SPACES (finmap.len state.spaces), ResourceShortage) ∷ []
 
 -- The tests of a call, in the order in which they are made.
-unfoldable pub tests_of : State → ℕ → Names → Call → Tests
+unfoldable pub tests_of : Ipc → ℕ → Names → PlainCall → Tests
 tests_of state space names (call.Attach other) = (not (is_some (finmap.get state.spaces other)), InvalidTask) ∷ []
 tests_of state space names call.Names = []
 tests_of state space names (call.Type name) = (is_no_name names name, InvalidName) ∷ []

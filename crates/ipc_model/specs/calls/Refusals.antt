@@ -1,12 +1,9 @@
 -- How the call of a number is refused.
-use Rattle.std.specs.Prelude.{ℕ, ◌==◌, if◌then◌else◌}
-use Rattle.codes.specs.declared.call_number.TheConstants.{MACH_MSG}
+use Rattle.std.specs.Prelude.{ℕ}
 use Rattle.codes.specs.declared.kern_return.KernReturn.{KernReturn}
-use Rattle.codes.specs.declared.name.TheConstants.{MACH_PORT_NULL}
-use Rattle.ipc_model.specs.declared.call.Reply.{Reply}
-use Rattle.ipc_model.specs.declared.call.Reply.TheVariants as reply
-use Rattle.ipc_model.specs.messages.Receiving.{without_message}
+use Rattle.ipc_model.specs.calls.PlainRefusals as plain
+use Rattle.ipc_model.specs.declared.reply.Reply.{Reply}
+use Rattle.ipc_model.specs.declared.reply.Reply.TheVariants as reply
 
--- the reply that refuses the call of a number; mach_msg shows its results in any case
 abbrev pub refused_of : ℕ → KernReturn → Reply
-refused_of number code = if number == MACH_MSG then without_message code 0 MACH_PORT_NULL else reply.Refused number code
+refused_of number code = reply.Plain (plain.refused_of number code)

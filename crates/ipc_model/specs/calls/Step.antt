@@ -1,150 +1,149 @@
--- The machine: what each call may answer, and the state that it leaves.
--- (Kernel Interfaces, mach_msg and "Port Manipulation".)
-use Rattle.std.specs.Prelude.{◌≡◌, ℕ, Bool, true, false, ◌&&◌, ◌||◌, List, [], ◌∷◌, Option, None, Some, Result, IfOk, MatchResult}
+-- The machine: what each call may answer, and the state that it leaves. A plain call acts on the IPC state. A task may
+-- number a call, to be sure that it is made once: its space keeps the number and the reply of the last one, so that
+-- after a lost reply the task asks again, and is answered the same without the call being made again. (Numbers are this
+-- server's own.)
+use Rattle.std.specs.Prelude.{◌≡◌, ◌⊎◌, ℕ, Bool, false, ◌&&◌, ◌||◌, ◌==◌, not, nat_lt, List, [], ◌∷◌, Option, None, Some, is_some, MatchOption, if◌then◌else◌}
 use Rattle.std.specs.FinMap as finmap
-use Rattle.codes.specs.declared.call_number.TheConstants.{ATTACH, MACH_PORT_NAMES, MACH_PORT_TYPE, MACH_PORT_RENAME, MACH_PORT_ALLOCATE_NAME, MACH_PORT_ALLOCATE, MACH_PORT_DESTROY, MACH_PORT_DEALLOCATE, MACH_PORT_GET_REFS, MACH_PORT_MOD_REFS, MACH_PORT_SET_QLIMIT, MACH_PORT_SET_MSCOUNT, MACH_PORT_SET_SEQNO, MACH_PORT_GET_RECEIVE_STATUS, MACH_PORT_GET_SET_STATUS, MACH_PORT_MOVE_MEMBER, MACH_PORT_REQUEST_NOTIFICATION, MACH_PORT_INSERT_RIGHT, MACH_PORT_EXTRACT_RIGHT, MACH_MSG, SPACE_CREATE, SPACE_DESTROY}
+use Rattle.codes.specs.declared.call_number.TheConstants.{NUMBERED}
 use Rattle.codes.specs.declared.kern_return.KernReturn.{KernReturn}
-use Rattle.codes.specs.declared.kern_return.KernReturn.TheVariants.{Success, InvalidTask, RcvTooLarge}
-use Rattle.codes.specs.declared.name.TheConstants.{MACH_PORT_NULL}
+use Rattle.codes.specs.declared.kern_return.KernReturn.TheVariants.{InvalidTask, InvalidArgument, InvalidValue}
+use Rattle.ipc_model.specs.calls.PlainStep as plain
+use Rattle.ipc_model.specs.calls.PlainStep.{PlainStep, may_be_numbered}
+use Rattle.ipc_model.specs.calls.Tests.{RefusedOrDone, Tests, first_failing}
 use Rattle.ipc_model.specs.declared.call.Call.{Call}
-use Rattle.ipc_model.specs.declared.call.Call.TheVariants as call
-use Rattle.ipc_model.specs.declared.call.Reply.{Reply}
-use Rattle.ipc_model.specs.declared.call.Reply.TheVariants as reply
+use Rattle.ipc_model.specs.declared.call.Call.TheVariants.{Plain, Numbered, Unnumberable}
+use Rattle.ipc_model.specs.declared.call.NumberedCall.{NumberedCall}
+use Rattle.ipc_model.specs.declared.plain_call.PlainCall.{PlainCall}
+use Rattle.ipc_model.specs.declared.plain_call.PlainCall.TheVariants as call
+use Rattle.ipc_model.specs.declared.plain_reply.PlainReply.{PlainReply}
+use Rattle.ipc_model.specs.declared.plain_reply.PlainReply.TheVariants.{Refused}
 use Rattle.ipc_model.specs.declared.record.Record.{Record}
-use Rattle.ipc_model.specs.calls.Actions.{Done}
-use Rattle.ipc_model.specs.effects.Effects.{Effect, Settles, state_after, added}
-use Rattle.ipc_model.specs.calls.PortCalls.{names_in, tests_of}
-use Rattle.ipc_model.specs.messages.Receiving.{Receives, without_message}
-use Rattle.ipc_model.specs.messages.Sending.{Ready, ready_to_send, sent}
-use Rattle.ipc_model.specs.state.State.{State, Names}
-use Rattle.ipc_model.specs.calls.Tests.{RefusedOrDone, first_failing}
-pub use Rattle.ipc_model.specs.calls.Tests.{IsRefusedWith}
+use Rattle.ipc_model.specs.declared.reply.NumberedReply.{NumberedReply}
+use Rattle.ipc_model.specs.declared.reply.Reply.{Reply}
+use Rattle.ipc_model.specs.declared.reply.Reply.TheVariants as reply
+use Rattle.ipc_model.specs.encodings.PlainCalls.{number_of_reply}
+use Rattle.ipc_model.specs.state.State.{State, KeptReplies, last_request}
 
 -- the number of a call in its frame
 abbrev pub number_of_call : Call → ℕ
-number_of_call (call.Attach space) = ATTACH
-number_of_call call.Names = MACH_PORT_NAMES
-number_of_call (call.Type name) = MACH_PORT_TYPE
-number_of_call (call.Rename from to) = MACH_PORT_RENAME
-number_of_call (call.AllocateName kind name) = MACH_PORT_ALLOCATE_NAME
-number_of_call (call.Allocate kind) = MACH_PORT_ALLOCATE
-number_of_call (call.Destroy name) = MACH_PORT_DESTROY
-number_of_call (call.Deallocate name) = MACH_PORT_DEALLOCATE
-number_of_call (call.GetRefs name kind) = MACH_PORT_GET_REFS
-number_of_call (call.ModRefs name kind delta) = MACH_PORT_MOD_REFS
-number_of_call (call.SetQlimit name limit) = MACH_PORT_SET_QLIMIT
-number_of_call (call.SetMscount name count) = MACH_PORT_SET_MSCOUNT
-number_of_call (call.SetSeqno name seqno) = MACH_PORT_SET_SEQNO
-number_of_call (call.GetReceiveStatus name) = MACH_PORT_GET_RECEIVE_STATUS
-number_of_call (call.GetSetStatus name) = MACH_PORT_GET_SET_STATUS
-number_of_call (call.MoveMember member after) = MACH_PORT_MOVE_MEMBER
-number_of_call (call.RequestNotification name variant sync notify_name disposition) = MACH_PORT_REQUEST_NOTIFICATION
-number_of_call (call.InsertRight name right_name disposition) = MACH_PORT_INSERT_RIGHT
-number_of_call (call.ExtractRight name disposition) = MACH_PORT_EXTRACT_RIGHT
-number_of_call (call.Send message) = MACH_MSG
-number_of_call (call.Receive limit large name waited) = MACH_MSG
-number_of_call (call.SpaceCreate name disposition) = SPACE_CREATE
-number_of_call call.SpaceDestroy = SPACE_DESTROY
+number_of_call (Plain c) = plain.number_of_call c
+number_of_call (Numbered numbered) = NUMBERED
+number_of_call Unnumberable = NUMBERED
 
--- how a call is refused; mach_msg shows its results in any case
-abbrev pub refused : Call → KernReturn → Reply
-refused (call.Send message) code = without_message code 0 MACH_PORT_NULL
-refused (call.Receive limit large name waited) code = without_message code 0 MACH_PORT_NULL
-refused c code = reply.Refused (number_of_call c) code
+-- A space that is removed keeps nothing.
+abbrev pub removes_space : PlainCall → PlainReply → Bool
+removes_space call.SpaceDestroy answer = plain.succeeded answer
+removes_space c answer = false
 
--- the message of a send is queued or destroyed, as `sent` says
-abbrev pub IsSent : Ready → Reply → State → List Effect → Type 0
-IsSent ready answer new effects =
-    (answer ≡ without_message Success 0 MACH_PORT_NULL) × (new ≡ state_after (sent ready))
-    × (effects ≡ added (sent ready))
+abbrev pub kept_after : KeptReplies → ℕ → PlainCall → PlainReply → KeptReplies
+kept_after kept space c answer = if removes_space c answer then finmap.remove kept space else kept
 
--- A send is refused with the code of the first test that fails, or its message is sent.
-abbrev pub Sends : State → ℕ → List ℕ → Reply → State → List Effect → Type 0
-Sends old space message answer new effects =
-    MatchResult (ready_to_send old space message) (λ (ready : Ready). IsSent ready answer new effects)
-    (λ code. IsRefusedWith (without_message code 0 MACH_PORT_NULL) old answer new effects)
+abbrev pub StepsPlain : State → ℕ → PlainCall → Reply → State → Type 0
+StepsPlain old space c (reply.Plain answer) new =
+    PlainStep old.ipc space c answer new.ipc × (new.kept ≡ kept_after old.kept space c answer)
+StepsPlain old space c answer new = ⊥
 
--- A call's own action, without the effects that it sets off: it is refused, or done.
-abbrev pub ActsIn : State → ℕ → Names → Call → Reply → State → List Effect → Type 0
-ActsIn old space names (call.Send message) answer new effects = Sends old space message answer new effects
-ActsIn old space names (call.Receive limit large name waited) answer new effects =
-    Receives old space names (record { limit = limit; large = large; name = name; waited = waited }) answer new effects
-ActsIn old space names c answer new effects =
-    RefusedOrDone (first_failing (tests_of old space names c))
-    (λ code. IsRefusedWith (reply.Refused (number_of_call c) code) old answer new effects)
-    (Done old space names c answer new effects)
+-- number 22 is refused with this code, and changes nothing
+abbrev pub IsRefused : State → KernReturn → Reply → State → Type 0
+IsRefused old code answer new = (answer ≡ reply.Plain (Refused NUMBERED code)) × (new ≡ old)
 
--- A call of a task of this space is answered as its own action says, and leaves this state with these effects. An error
--- says nothing: its caller rolls back what was changed.
-abbrev pub Acts : {E : Type 0} → State → ℕ → Call → Result Reply E → State → List Effect → Type 0
-Acts old space c result new effects = IfOk result (λ answer. ActsIn old space (names_in old space) c answer new effects)
+-- the caller's space is gone
+abbrev pub is_gone : State → ℕ → Bool
+is_gone state space = not (is_some (finmap.get state.ipc.spaces space))
 
--- A caller whose space is gone is refused before any test.
-abbrev pub ActsFrom : State → ℕ → Option Names → Call → Reply → State → List Effect → Type 0
-ActsFrom old space None c answer new effects = IsRefusedWith (refused c InvalidTask) old answer new effects
-ActsFrom old space (Some names) c answer new effects = ActsIn old space names c answer new effects
+-- what a space keeps, if this request asks for it again
+abbrev pub asked_again : Option NumberedReply → ℕ → Option NumberedReply
+asked_again None request = None
+asked_again (Some kept) request = if kept.request == request then Some kept else None
 
--- A step of the machine: this call of a task of this space may give this reply, and leaves this state once its effects
--- have settled.
+-- the request asks again for a call of another number
+abbrev pub is_other_call : Option NumberedReply → ℕ → Bool
+is_other_call None number = false
+is_other_call (Some kept) number = not (number_of_reply kept.reply == number)
+
+-- The tests of a numbered call, in their order: the caller's space is there; the call may be numbered; the request is
+-- neither 0 nor below the last one; and if it is the last one, the call has the number that it had then.
+abbrev pub tests_of_numbered : State → ℕ → NumberedCall → Tests
+tests_of_numbered state space numbered =
+    let kept : Option NumberedReply = finmap.get state.kept space in
+    (is_gone state space, InvalidTask) ∷
+    ((not (may_be_numbered numbered.call), InvalidArgument) ∷
+    ((numbered.request == 0 || nat_lt numbered.request (last_request kept), InvalidValue) ∷
+    ((is_other_call (asked_again kept numbered.request) (plain.number_of_call numbered.call), InvalidArgument) ∷
+    [])))
+
+-- The call that a number stands for is made. The space keeps its reply where the call has a record; else the number may
+-- be used again.
+abbrev pub kept_with : KeptReplies → ℕ → PlainCall → NumberedReply → KeptReplies
+kept_with kept space c answer =
+    if plain.has_record c answer.reply then finmap.insert kept space answer else kept
+
+abbrev pub StepsNumbered : State → ℕ → NumberedCall → Reply → State → Type 0
+StepsNumbered old space numbered (reply.Numbered answer) new =
+    (answer.request ≡ numbered.request) × PlainStep old.ipc space numbered.call answer.reply new.ipc
+    × (new.kept ≡ kept_with old.kept space numbered.call answer)
+StepsNumbered old space numbered answer new = ⊥
+
+-- asked for again, it is answered by the reply that the space keeps, and isn't made
+abbrev pub IsRepeated : State → NumberedReply → Reply → State → Type 0
+IsRepeated old kept answer new = (answer ≡ reply.Repeated kept) × (new ≡ old)
+
+abbrev pub MakesNumbered : State → ℕ → NumberedCall → Reply → State → Type 0
+MakesNumbered old space numbered answer new =
+    RefusedOrDone (first_failing (tests_of_numbered old space numbered)) (λ code. IsRefused old code answer new)
+    (MatchOption (asked_again (finmap.get old.kept space) numbered.request)
+    (StepsNumbered old space numbered answer new) (λ kept. IsRepeated old kept answer new))
+
+-- A step of the machine: this call of a task of this space may give this reply, and leaves this state.
 unfoldable pub Step : State → ℕ → Call → Reply → State → Type 0
-Step old space c answer new =
-    (acted : State) × (effects : List Effect) × ActsFrom old space (finmap.get old.spaces space) c answer acted effects
-    × Settles acted effects new
+Step old space (Plain c) answer new = StepsPlain old space c answer new
+Step old space (Numbered numbered) answer new = MakesNumbered old space numbered answer new
+Step old space Unnumberable answer new =
+    IsRefused old (if is_gone old space then InvalidTask else InvalidArgument) answer new
 
 -- a step that leaves the state as it is
 abbrev pub Answer : State → ℕ → Call → Reply → Type 0
 Answer state space c answer = Step state space c answer state
 
--- Whether a call of this number can have a record: it may change the state.
+-- how a call is refused
+abbrev pub refused : Call → KernReturn → Reply
+refused (Plain c) code = reply.Plain (plain.refused c code)
+refused (Numbered numbered) code = reply.Plain (Refused NUMBERED code)
+refused Unnumberable code = reply.Plain (Refused NUMBERED code)
+
+-- whether a call can have a record: it may change the state
 abbrev pub is_recorded : Call → Bool
-is_recorded (call.Attach space) = false
-is_recorded call.Names = false
-is_recorded (call.Type name) = false
-is_recorded (call.Rename from to) = true
-is_recorded (call.AllocateName kind name) = true
-is_recorded (call.Allocate kind) = true
-is_recorded (call.Destroy name) = true
-is_recorded (call.Deallocate name) = true
-is_recorded (call.GetRefs name kind) = false
-is_recorded (call.ModRefs name kind delta) = true
-is_recorded (call.SetQlimit name limit) = true
-is_recorded (call.SetMscount name count) = true
-is_recorded (call.SetSeqno name seqno) = true
-is_recorded (call.GetReceiveStatus name) = false
-is_recorded (call.GetSetStatus name) = false
-is_recorded (call.MoveMember member after) = true
-is_recorded (call.RequestNotification name variant sync notify_name disposition) = true
-is_recorded (call.InsertRight name right_name disposition) = true
-is_recorded (call.ExtractRight name disposition) = true
-is_recorded (call.Send message) = true
-is_recorded (call.Receive limit large name waited) = true
-is_recorded (call.SpaceCreate name disposition) = true
-is_recorded call.SpaceDestroy = true
+is_recorded (Plain c) = plain.is_recorded c
+is_recorded (Numbered numbered) = may_be_numbered numbered.call
+is_recorded Unnumberable = false
 
-abbrev pub is_success : KernReturn → Bool
-is_success Success = true
-is_success _ = false
+-- the call was done, and of a numbered one the call that it numbers
+abbrev pub succeeded : Reply → Bool
+succeeded (reply.Plain answer) = plain.succeeded answer
+succeeded (reply.Numbered answer) = plain.succeeded answer.reply
+succeeded (reply.Repeated answer) = plain.succeeded answer.reply
 
--- a receive without MACH_RCV_LARGE destroyed a message that was too large
-abbrev pub has_destroyed : Call → KernReturn → Bool
-has_destroyed (call.Receive limit false name waited) RcvTooLarge = true
-has_destroyed _ _ = false
-
-abbrev pub succeeded : Call → Reply → Bool
-succeeded c (reply.Refused number code) = false
-succeeded c (reply.Message code size member message) = is_success code
-succeeded c answer = true
-
-abbrev pub destroyed_message : Call → Reply → Bool
-destroyed_message c (reply.Message code size member message) = has_destroyed c code
-destroyed_message c answer = false
-
--- Whether an answered call has a record: it may change the state, and has code 0 or is a receive that destroyed a
--- message.
+-- Whether an answered call has a record: it may change the state. A numbered one has a record where the call that it
+-- numbers has one. Asked for again, it has none.
 abbrev pub has_record : Call → Reply → Bool
-has_record c answer = is_recorded c && (succeeded c answer || destroyed_message c answer)
+has_record (Plain c) (reply.Plain answer) = plain.has_record c answer
+has_record (Numbered numbered) (reply.Numbered answer) =
+    may_be_numbered numbered.call && plain.has_record numbered.call answer.reply
+has_record c answer = false
 
--- these records, each a step, lead the machine from old to new
+-- A record of a numbered call that the space keeps already, with the reply that it keeps. It changes nothing. Only a
+-- file that another program wrote holds such a record.
+abbrev pub IsKeptAlready : State → ℕ → Call → Reply → State → Type 0
+IsKeptAlready old space (Numbered numbered) (reply.Numbered answer) new =
+    (finmap.get old.kept space ≡ Some answer) × (answer.request ≡ numbered.request) × (new ≡ old)
+IsKeptAlready old space c answer new = ⊥
+
+-- A record is replayed: as the step that it is of, or as one that is kept already.
+abbrev pub Replays : State → Record → State → Type 0
+Replays old entry new =
+    Step old entry.space entry.call entry.reply new ⊎ IsKeptAlready old entry.space entry.call entry.reply new
+
+-- these records, replayed, lead the machine from old to new
 abbrev pub Run : State → List Record → State → Type 0
 Run old [] new = new ≡ old
-Run old (first ∷ records) new = (mid : State) × Step old first.space first.call first.reply mid × Run mid records new
+Run old (first ∷ records) new = (mid : State) × Replays old first mid × Run mid records new

@@ -1,9 +1,9 @@
 -- Tests of a call, in the order in which they are made.
 use Rattle.std.specs.Prelude.{◌≡◌, Bool, true, List, [], ◌∷◌, Option, None, Some, Result, Ok, Err, MatchOption, if◌then◌else◌}
 use Rattle.codes.specs.declared.kern_return.KernReturn.{KernReturn}
-use Rattle.ipc_model.specs.declared.call.Reply.{Reply}
+use Rattle.ipc_model.specs.declared.plain_reply.PlainReply.{PlainReply}
 use Rattle.ipc_model.specs.effects.Effects.{Effect}
-use Rattle.ipc_model.specs.state.State.{State}
+use Rattle.ipc_model.specs.state.Ipc.{Ipc}
 
 -- A test is true where it fails, and then the call is refused with the code paired with it.
 abbrev pub Tests : Type 0
@@ -19,7 +19,7 @@ first_failing [] = None
 first_failing ((fails, code) ∷ tests) = if fails then Some code else first_failing tests
 
 -- the call is refused with this reply: it changes nothing, and sets nothing off
-abbrev pub IsRefusedWith : Reply → State → Reply → State → List Effect → Type 0
+abbrev pub IsRefusedWith : PlainReply → Ipc → PlainReply → Ipc → List Effect → Type 0
 IsRefusedWith refusal old answer new effects = (answer ≡ refusal) × (new ≡ old) × (effects ≡ [])
 
 -- If a test fails, the call is refused with its code; otherwise it is done.

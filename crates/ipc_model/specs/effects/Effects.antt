@@ -16,7 +16,7 @@ use Rattle.ipc_model.specs.state.Circular.{is_circular}
 use Rattle.ipc_model.specs.messages.Notices.{Notice, notice_message}
 use Rattle.ipc_model.specs.messages.Notices as notice
 use Rattle.ipc_model.specs.state.Placed.{send_count}
-use Rattle.ipc_model.specs.state.State.{State, with_port, lives, request_of}
+use Rattle.ipc_model.specs.state.Ipc.{Ipc, with_port, lives, request_of}
 
 -- An effect that waits for its turn: a right that is released, and no longer stands in any place, or a notice that goes
 -- out by the send-once right of a request's target.
@@ -47,11 +47,11 @@ abbrev pub releases_of : Message → List Effect
 releases_of message = release_of_reply message.reply ++ flat_map release_of message.rights
 
 -- a message at the end of a port's queue
-abbrev pub queued : State → ℕ → Message → State
+abbrev pub queued : Ipc → ℕ → Message → Ipc
 queued state serial message = with_port state serial (λ port. record port { messages = port.messages ++ message ∷ [] })
 
 -- a notice in its target's queue, whatever the limit; where the target's port is dead it is dropped
-abbrev pub notified : State → ℕ → Notice → State
+abbrev pub notified : Ipc → ℕ → Notice → Ipc
 notified state target what = queued state target (notice_message what)
 
 -- one more reference where there is a dead-name request
@@ -92,7 +92,7 @@ abbrev pub dead_name_of_entry : ℕ → ℕ → Entry → List Effect
 dead_name_of_entry serial name entry = if is_name_of serial entry then dead_name_notice name (request_of entry) else []
 
 -- all dead-name notices of a port's death, by space and name
-abbrev pub dead_name_notices : State → ℕ → List Effect
+abbrev pub dead_name_notices : Ipc → ℕ → List Effect
 dead_name_notices state serial =
     flat_map (λ s. flat_map (λ e. dead_name_of_entry serial e.0 e.1) (finmap.entries s.1)) (finmap.entries state.spaces)
 
@@ -124,7 +124,7 @@ map_values change values = finmap.from_sorted (map (λ e. (e.0, change e.1)) (fi
 
 -- A port dies: names of it become dead names, carried rights to it become MACH_PORT_DEAD, and requests whose target it
 -- is go.
-abbrev pub after_death : State → ℕ → State
+abbrev pub after_death : Ipc → ℕ → Ipc
 after_death state serial = record state {
   spaces = map_values (map_values (entry_after_death serial)) state.spaces;
   ports = map_values (port_after_death serial) (finmap.remove state.ports serial);
@@ -137,37 +137,37 @@ release_of_target (Some target) = release kind.SendOnce target ∷ []
 
 -- What a death adds: the releases of its messages' rights, oldest message first; the dead-name notices; the release of
 -- its no-senders target.
-abbrev pub effects_of_death : State → ℕ → PortState → List Effect
+abbrev pub effects_of_death : Ipc → ℕ → PortState → List Effect
 effects_of_death state serial port =
     flat_map releases_of port.messages ++ (dead_name_notices state serial ++ release_of_target port.no_senders_target)
 
 -- a state, and the effects that a step adds to the list
 abbrev pub Outcome : Type 0
-Outcome = State × List Effect
+Outcome = Ipc × List Effect
 
 -- the two parts of an outcome
-abbrev pub state_after : Outcome → State
+abbrev pub state_after : Outcome → Ipc
 state_after outcome = outcome.0
 
 abbrev pub added : Outcome → List Effect
 added outcome = outcome.1
 
-abbrev pub died : State → ℕ → PortState → Outcome
+abbrev pub died : Ipc → ℕ → PortState → Outcome
 died state serial port = (after_death state serial, effects_of_death state serial port)
 
 -- A send right was released. If none is left, a no-senders request is taken, and its notice goes out.
-abbrev pub notified_no_senders : State → ℕ → PortState → Option ℕ → State
+abbrev pub notified_no_senders : Ipc → ℕ → PortState → Option ℕ → Ipc
 notified_no_senders state serial port None = state
 notified_no_senders state serial port (Some target) =
     notified (with_port state serial (λ p. record p { no_senders_target = None })) target
     (notice.NoSenders port.make_send_count)
 
-abbrev pub send_released : State → ℕ → PortState → State
+abbrev pub send_released : Ipc → ℕ → PortState → Ipc
 send_released state serial port =
     if send_count state serial == 0 then notified_no_senders state serial port port.no_senders_target else state
 
 -- a receive right goes to the target of a port-destroyed request, in the notice; the port begins anew, in no set
-abbrev pub sent_to_target : State → ℕ → ℕ → State
+abbrev pub sent_to_target : Ipc → ℕ → ℕ → Ipc
 sent_to_target state serial target =
     notified (with_port state serial
     (λ p. record p { set = None; sequence_number = 0; make_send_count = 0; port_destroyed_target = None })) target
@@ -175,30 +175,30 @@ sent_to_target state serial target =
 
 -- A receive right was released: the port leaves its set. A port-destroyed request takes the right along, unless the
 -- right would come back to its own queue; otherwise the port dies.
-abbrev pub receive_released_to : State → ℕ → PortState → Option ℕ → Outcome
+abbrev pub receive_released_to : Ipc → ℕ → PortState → Option ℕ → Outcome
 receive_released_to state serial port None = died state serial port
 receive_released_to state serial port (Some target) =
     if lives state target && not (is_circular state serial target) then (sent_to_target state serial target, [])
     else died state serial port
 
 -- the effect of a release, where the port lives
-abbrev pub released : State → ℕ → PortState → RightKind → Outcome
+abbrev pub released : Ipc → ℕ → PortState → RightKind → Outcome
 released state serial port kind.Send = (send_released state serial port, [])
 released state serial port kind.SendOnce = (notified state serial notice.SendOnce, [])
 released state serial port kind.Receive = receive_released_to state serial port port.port_destroyed_target
 
-abbrev pub released_if_live : State → ℕ → RightKind → Option PortState → Outcome
+abbrev pub released_if_live : Ipc → ℕ → RightKind → Option PortState → Outcome
 released_if_live state serial kind None = (state, [])
 released_if_live state serial kind (Some port) = released state serial port kind
 
 -- One effect: the state after it, and the effects that it adds at the list's end.
-unfoldable pub effect : State → Effect → Outcome
+unfoldable pub effect : Ipc → Effect → Outcome
 effect state (release kind serial) = released_if_live state serial kind (finmap.get state.ports serial)
 effect state (notify target what) = (notified state target what, [])
 
 -- The list is drained from its front, until nothing is left.
-pub data Settles : State → List Effect → State → Type 0 where
-  settled : {state : State} → Settles state [] state
-  next_effect : {state end : State} {first : Effect} {rest : List Effect}
+pub data Settles : Ipc → List Effect → Ipc → Type 0 where
+  settled : {state : Ipc} → Settles state [] state
+  next_effect : {state end : Ipc} {first : Effect} {rest : List Effect}
       → Settles (state_after (effect state first)) (rest ++ added (effect state first)) end
       → Settles state (first ∷ rest) end

@@ -11,11 +11,14 @@ use Rattle.ipc_model.specs.declared.message.Message.{Message}
 use Rattle.ipc_model.specs.declared.message.PortInMessage.{PortInMessage}
 use Rattle.ipc_model.specs.declared.message.PortInMessage.TheVariants as in_message
 use Rattle.ipc_model.specs.declared.port.PortState.{PortState}
+use Rattle.ipc_model.specs.declared.reply.NumberedReply.{NumberedReply}
 use Rattle.ipc_model.specs.rights.Dispositions.{number_of_kind}
 use Rattle.ipc_model.specs.messages.Receiving.{message_size}
-use Rattle.ipc_model.specs.state.State.{State, Names}
-use Rattle.ipc_model.specs.encodings.Encodings.{number_of_bool}
-use Rattle.words.specs.Words.{word, long_word}
+use Rattle.ipc_model.specs.state.Ipc.{Names}
+use Rattle.ipc_model.specs.state.State.{State, KeptReplies}
+use Rattle.ipc_model.specs.encodings.Encodings.{numbered_encoding}
+use Rattle.ipc_model.specs.encodings.PlainCalls.{number_of_bool}
+use Rattle.words.specs.Words.{word, long_word, frame_encoding}
 
 -- a serial or a name, 0 for none
 abbrev pub number_or_0 : Option ℕ → ℕ
@@ -61,21 +64,25 @@ port_encoding port =
     ++ (long_word (number_or_0 port.no_senders_target) ++ (long_word (number_or_0 port.port_destroyed_target)
     ++ (word (length port.messages) ++ flat_map message_image port.messages))))))
 
--- After a space's number, version 2 has that of its last request: 0, for none.
-abbrev pub request_encoding : StoreVersion → List ℕ
-request_encoding One = []
-request_encoding Two = word 0
+-- After a space's number, version 2 has that of its last request, and the frame of the reply that the space keeps; or
+-- 0, if it keeps none. Version 1 has neither.
+abbrev pub kept_encoding : StoreVersion → Option NumberedReply → List ℕ
+kept_encoding One kept = []
+kept_encoding Two None = word 0
+kept_encoding Two (Some kept) = word kept.request ++ frame_encoding (numbered_encoding kept)
 
-abbrev pub space_encoding : StoreVersion → ℕ × Names → List ℕ
-space_encoding version space = word space.0 ++ (request_encoding version ++ names_encoding space.1)
+abbrev pub space_encoding : StoreVersion → KeptReplies → ℕ × Names → List ℕ
+space_encoding version kept space =
+    word space.0 ++ (kept_encoding version (finmap.get kept space.0) ++ names_encoding space.1)
 
 -- A state: the next serial; the spaces, ascending; the ports, ascending, each with its messages, oldest first.
 unfoldable pub image_encoding_of : StoreVersion → State → List ℕ
 image_encoding_of version state =
-    long_word state.next
-    ++ (word (finmap.len state.spaces) ++ (flat_map (space_encoding version) (finmap.entries state.spaces)
-    ++ (word (finmap.len state.ports) ++ flat_map
-    (λ e. long_word e.0 ++ port_encoding e.1) (finmap.entries state.ports))))
+    long_word state.ipc.next
+    ++ (word (finmap.len state.ipc.spaces)
+    ++ (flat_map (space_encoding version state.kept) (finmap.entries state.ipc.spaces)
+    ++ (word (finmap.len state.ipc.ports) ++ flat_map
+    (λ e. long_word e.0 ++ port_encoding e.1) (finmap.entries state.ipc.ports))))
 
 -- and as it is written
 abbrev pub image_encoding : State → List ℕ

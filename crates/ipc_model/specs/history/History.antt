@@ -3,8 +3,9 @@ use Rattle.std.specs.Prelude.{◌≡◌, ◌≢◌, ◌⊎◌, ℕ, ◌<◌, ◌
 use Rattle.std.specs.List.{list_any}
 use Rattle.codes.specs.declared.name.TheConstants.{FIRST_SPACE}
 use Rattle.ipc_model.specs.declared.call.Call.{Call}
-use Rattle.ipc_model.specs.declared.call.Call.TheVariants as call
-use Rattle.ipc_model.specs.declared.call.Reply.{Reply}
+use Rattle.ipc_model.specs.declared.call.Call.TheVariants.{Plain}
+use Rattle.ipc_model.specs.declared.plain_call.PlainCall.TheVariants as call
+use Rattle.ipc_model.specs.declared.reply.Reply.{Reply}
 use Rattle.ipc_model.specs.declared.record.Record.{Record}
 use Rattle.ipc_model.specs.state.State.{State}
 use Rattle.ipc_model.specs.calls.Step.{Run, Answer, has_record, succeeded}
@@ -34,12 +35,12 @@ pub data Operation : Type 0 where
 
 -- the space that a call attaches its task to, where it is done
 abbrev pub attached_by : ℕ → Call → ℕ
-attached_by space (call.Attach other) = other
+attached_by space (Plain (call.Attach other)) = other
 attached_by space c = space
 
 -- the space that a task is attached to after a call with this reply
 abbrev pub space_after : ℕ → Call → Reply → ℕ
-space_after space c answer = if succeeded c answer then attached_by space c else space
+space_after space c answer = if succeeded answer then attached_by space c else space
 
 -- A call with a record stands at one place, at or after what its session had seen before, with the session's space, the
 -- call and the reply. The session has then seen it.

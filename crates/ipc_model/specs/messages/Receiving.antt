@@ -5,8 +5,8 @@ use Rattle.codes.specs.declared.kern_return.KernReturn.{KernReturn}
 use Rattle.codes.specs.declared.kern_return.KernReturn.TheVariants.{Success, RcvInvalidName, RcvTimedOut, RcvTooLarge, RcvPortChanged, RcvPortDied, RcvInSet, RcvHeaderErrorSpace}
 use Rattle.codes.specs.declared.limits.TheConstants.{MAX_NAMES}
 use Rattle.codes.specs.declared.name.TheConstants.{MACH_PORT_NULL}
-use Rattle.ipc_model.specs.declared.call.Reply.{Reply}
-use Rattle.ipc_model.specs.declared.call.Reply.TheVariants as reply
+use Rattle.ipc_model.specs.declared.plain_reply.PlainReply.{PlainReply}
+use Rattle.ipc_model.specs.declared.plain_reply.PlainReply.TheVariants as reply
 use Rattle.ipc_model.specs.declared.entry.Entry.{Entry}
 use Rattle.ipc_model.specs.declared.entry.Entry.TheVariants.{Port, SendOnce, Set, Dead}
 use Rattle.ipc_model.specs.declared.message.CarriedRight.{CarriedRight}
@@ -20,7 +20,7 @@ use Rattle.ipc_model.specs.effects.Effects.{Effect, release, releases_of}
 use Rattle.ipc_model.specs.messages.Items.{items_of, body_filled}
 use Rattle.ipc_model.specs.messages.Messages.{header_length, complex_bit, message_encoding}
 use Rattle.ipc_model.specs.calls.Tests.{IsRefusedWith}
-use Rattle.ipc_model.specs.state.State.{State, Names, next_count, members_of, received_port, with_port, with_names}
+use Rattle.ipc_model.specs.state.Ipc.{Ipc, Names, next_count, members_of, received_port, with_port, with_names}
 
 -- The arguments of a receive: the greatest size that is accepted, whether a larger message stays (MACH_RCV_LARGE), the
 -- name of a receive right or of a set, and whether this attempt comes after a wait.
@@ -37,7 +37,7 @@ message_size message = header_length + length message.body
 abbrev pub sources_of_port : ℕ → Bool → Option (List ℕ)
 sources_of_port name receive = if receive then Some (name ∷ []) else None
 
-abbrev pub sources : State → Names → ℕ → Option Entry → Option (List ℕ)
+abbrev pub sources : Ipc → Names → ℕ → Option Entry → Option (List ℕ)
 sources state names name None = None
 sources state names name (Some (Port rights)) = sources_of_port name rights.receive
 sources state names name (Some (SendOnce port target)) = None
@@ -45,11 +45,11 @@ sources state names name (Some Set) = Some (members_of state names name)
 sources state names name (Some (Dead references)) = None
 
 -- those of a name of a space
-abbrev pub sources_under : State → Names → ℕ → Option (List ℕ)
+abbrev pub sources_under : Ipc → Names → ℕ → Option (List ℕ)
 sources_under state names name = sources state names name (finmap.get names name)
 
 -- the port whose receive right a name holds
-abbrev pub port_under : State → Names → ℕ → Option PortState
+abbrev pub port_under : Ipc → Names → ℕ → Option PortState
 port_under state names name =
     option_and_then (λ (serial : ℕ). finmap.get state.ports serial)
     (option_and_then received_port (finmap.get names name))
@@ -59,17 +59,17 @@ abbrev pub oldest : List Message → Option Message
 oldest [] = None
 oldest (message ∷ messages) = Some message
 
-abbrev pub oldest_under : State → Names → ℕ → Option Message
+abbrev pub oldest_under : Ipc → Names → ℕ → Option Message
 oldest_under state names name =
     option_and_then (λ (port : PortState). oldest port.messages) (port_under state names name)
 
 -- a port that is in a set gives messages only through the set
-abbrev pub is_in_set : State → Names → ℕ → Bool
+abbrev pub is_in_set : Ipc → Names → ℕ → Bool
 is_in_set state names name =
     elim (port_under state names name) as (λ _. Bool) [ None ↦ false | Some port ↦ is_some port.set ]
 
 -- no port among these has a message
-abbrev pub all_empty : State → Names → List ℕ → Bool
+abbrev pub all_empty : Ipc → Names → List ℕ → Bool
 all_empty state names [] = true
 all_empty state names (name ∷ others) =
     if is_some (oldest_under state names name) then false else all_empty state names others
@@ -83,19 +83,19 @@ abbrev pub in_set_code : Bool → KernReturn
 in_set_code waited = if waited then RcvPortChanged else RcvInSet
 
 -- the code with which an attempt is refused because of its sources, before it looks at a message
-abbrev pub refusal_of_sources : State → Names → ReceiveArguments → Option (List ℕ) → Option KernReturn
+abbrev pub refusal_of_sources : Ipc → Names → ReceiveArguments → Option (List ℕ) → Option KernReturn
 refusal_of_sources state names arguments None = Some (no_sources_code arguments.waited)
 refusal_of_sources state names arguments (Some among) =
     if is_in_set state names arguments.name then Some (in_set_code arguments.waited)
     else if all_empty state names among then Some RcvTimedOut
     else None
 
-abbrev pub receive_refusal : State → Names → ReceiveArguments → Option KernReturn
+abbrev pub receive_refusal : Ipc → Names → ReceiveArguments → Option KernReturn
 receive_refusal state names arguments =
     refusal_of_sources state names arguments (sources_under state names arguments.name)
 
 -- the state without a port's oldest message, and its next sequence number
-abbrev pub without_oldest : State → ℕ → State
+abbrev pub without_oldest : Ipc → ℕ → Ipc
 without_oldest state serial =
     with_port state serial (λ port. record port
     { messages = drop 1 port.messages; sequence_number = next_count port.sequence_number })
@@ -150,14 +150,14 @@ received_encoding message member sequence_number given =
     (received_body message (body_names message.reply given))
 
 -- the reply where no message is received: a code, and the size and the port's name of a message that it reports
-abbrev pub without_message : KernReturn → ℕ → ℕ → Reply
+abbrev pub without_message : KernReturn → ℕ → ℕ → PlainReply
 without_message code size member = reply.Message code size member []
 
 -- The cases of a receive. It is refused, or looks at the oldest message of a source: that is too large, and is kept or
 -- destroyed; or it needs more new names than are left; or it is received.
 
 -- the receive is refused with this code, and nothing changes
-abbrev pub ReceiveRefused : KernReturn → State → Reply → State → List Effect → Type 0
+abbrev pub ReceiveRefused : KernReturn → Ipc → PlainReply → Ipc → List Effect → Type 0
 ReceiveRefused code old answer new effects =
     IsRefusedWith (without_message code 0 MACH_PORT_NULL) old answer new effects
 
@@ -166,19 +166,19 @@ abbrev pub is_too_large : ReceiveArguments → Message → Bool
 is_too_large arguments message = nat_lt arguments.limit (message_size message)
 
 -- It is too large, and is kept: it stays where it is, and the reply reports it.
-abbrev pub TooLargeKept : State → ℕ → Message → Reply → State → List Effect → Type 0
+abbrev pub TooLargeKept : Ipc → ℕ → Message → PlainReply → Ipc → List Effect → Type 0
 TooLargeKept old member message answer new effects =
     IsRefusedWith (without_message RcvTooLarge (message_size message) member) old answer new effects
 
 -- It is too large, and is destroyed: it is taken out, which releases its destination, its reply right and the rights of
 -- its body, in this order, and the reply reports it.
-abbrev pub TooLargeDestroyed : State → ℕ → ℕ → Message → Reply → State → List Effect → Type 0
+abbrev pub TooLargeDestroyed : Ipc → ℕ → ℕ → Message → PlainReply → Ipc → List Effect → Type 0
 TooLargeDestroyed old member serial message answer new effects =
     (answer ≡ without_message RcvTooLarge (message_size message) member) × (new ≡ without_oldest old serial)
     × (effects ≡ destination_consumed message.destination serial ++ releases_of message)
 
 -- a message that is too large is kept where the receive asked for that
-abbrev pub TooLarge : State → ℕ → ℕ → Message → Bool → Reply → State → List Effect → Type 0
+abbrev pub TooLarge : Ipc → ℕ → ℕ → Message → Bool → PlainReply → Ipc → List Effect → Type 0
 TooLarge old member serial message large answer new effects =
     MatchBool large (TooLargeKept old member message answer new effects)
     (TooLargeDestroyed old member serial message answer new effects)
@@ -188,11 +188,11 @@ abbrev pub lacks_names : Names → Message → Bool
 lacks_names names message = nat_lt MAX_NAMES (finmap.len names + names_needed names [] (arriving message))
 
 -- It lacks names: the receive is refused, and the reply doesn't report the message.
-abbrev pub LackingNames : State → Reply → State → List Effect → Type 0
+abbrev pub LackingNames : Ipc → PlainReply → Ipc → List Effect → Type 0
 LackingNames old answer new effects = ReceiveRefused RcvHeaderErrorSpace old answer new effects
 
 -- It is received: its rights get names in the receiver's space, and its destination right is consumed.
-abbrev pub Received : State → ℕ → Names → ℕ → ℕ → PortState → Message → Reply → State → List Effect → Type 0
+abbrev pub Received : Ipc → ℕ → Names → ℕ → ℕ → PortState → Message → PlainReply → Ipc → List Effect → Type 0
 Received old space names member serial port message answer new effects =
     (given : List ℕ) × (after : Names) × Arrives names (arriving message) given after
     × (answer ≡ reply.Message Success (message_size message) member
@@ -201,13 +201,13 @@ Received old space names member serial port message answer new effects =
     × (effects ≡ destination_consumed message.destination serial)
 
 -- a message that isn't too large
-abbrev pub SmallEnough : State → ℕ → Names → ℕ → ℕ → PortState → Message → Reply → State → List Effect → Type 0
+abbrev pub SmallEnough : Ipc → ℕ → Names → ℕ → ℕ → PortState → Message → PlainReply → Ipc → List Effect → Type 0
 SmallEnough old space names member serial port message answer new effects =
     MatchBool (lacks_names names message) (LackingNames old answer new effects)
     (Received old space names member serial port message answer new effects)
 
 -- what becomes of the oldest message of a port, whose receive right stands under the name `member`
-abbrev pub TakesOut : State → ℕ → Names → ReceiveArguments → ℕ → ℕ → PortState → Message → Reply → State → List Effect
+abbrev pub TakesOut : Ipc → ℕ → Names → ReceiveArguments → ℕ → ℕ → PortState → Message → PlainReply → Ipc → List Effect
     → Type 0
 TakesOut old space names arguments member serial port message answer new effects =
     MatchBool (is_too_large arguments message)
@@ -224,8 +224,8 @@ HoldsReceiveRight names name serial =
     (entry : Entry) × (finmap.get names name ≡ Some entry) × (received_port entry ≡ Some serial)
 
 -- A receive takes the oldest message of one of its sources.
-pub record TakesMessage (old : State) (space : ℕ) (names : Names) (arguments : ReceiveArguments) (answer : Reply)
-    (new : State) (effects : List Effect) : Type 0 where
+pub record TakesMessage (old : Ipc) (space : ℕ) (names : Names) (arguments : ReceiveArguments) (answer : PlainReply)
+    (new : Ipc) (effects : List Effect) : Type 0 where
   -- the source: the name, the serial of the port whose receive right it holds, and what the port keeps
   pub member : ℕ
   pub serial : ℕ
@@ -240,7 +240,7 @@ pub record TakesMessage (old : State) (space : ℕ) (names : Names) (arguments :
   pub takes : TakesOut old space names arguments member serial port message answer new effects
 
 -- A receive is refused with the code of its sources, or takes out the oldest message of one of them.
-abbrev pub Receives : State → ℕ → Names → ReceiveArguments → Reply → State → List Effect → Type 0
+abbrev pub Receives : Ipc → ℕ → Names → ReceiveArguments → PlainReply → Ipc → List Effect → Type 0
 Receives old space names arguments answer new effects =
     MatchOption (receive_refusal old names arguments) (TakesMessage old space names arguments answer new effects)
     (λ code. ReceiveRefused code old answer new effects)

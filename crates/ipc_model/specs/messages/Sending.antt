@@ -19,14 +19,14 @@ use Rattle.ipc_model.specs.effects.Effects.{Effect, release, releases_of, queued
 use Rattle.ipc_model.specs.messages.Items.{Item, items_of, items_encoding, as_stored, is_port_item, names_of_item}
 use Rattle.ipc_model.specs.messages.Messages.{UsedParts, used_parts, header_length}
 use Rattle.ipc_model.specs.state.Placed.{same_kind}
-use Rattle.ipc_model.specs.state.State.{State, is_null_or_dead}
+use Rattle.ipc_model.specs.state.Ipc.{Ipc, is_null_or_dead}
 use Rattle.ipc_model.specs.calls.Tests.{Tests, and_then, or_refused, unless_failing}
 
 -- The rights that a send has taken from the caller's names so far, the state without what they consumed, and the
 -- port-deleted notices of names that ceased to be.
 pub record TakenRights : Type 0 where
   pub rights : List CarriedRight
-  pub state : State
+  pub state : Ipc
   pub notices : List Effect
 
 -- MACH_PORT_NULL and MACH_PORT_DEAD pass through with their kind
@@ -72,7 +72,7 @@ pub record TakenHeader : Type 0 where
   pub kind : RightKind
   pub port : ℕ
   pub reply : Option CarriedRight
-  pub state : State
+  pub state : Ipc
   pub notices : List Effect
 
 -- the port of a destination; a dead name has none
@@ -104,17 +104,17 @@ destination_of taken =
     and_then (or_refused SendInvalidDest (live_port taken.right.port)) (λ (serial : ℕ).
     Ok (destination_at taken serial))
 
-abbrev pub take_destination : State → ℕ → ℕ → Disposition → Result TakenDestination KernReturn
+abbrev pub take_destination : Ipc → ℕ → ℕ → Disposition → Result TakenDestination KernReturn
 take_destination state space name disposition =
     and_then (or_refused SendInvalidDest (copy_in state space name disposition)) destination_of
 
 -- the reply right, if the header names one; MACH_PORT_NULL and MACH_PORT_DEAD pass through
 pub record TakenReply : Type 0 where
   pub reply : Option CarriedRight
-  pub state : State
+  pub state : Ipc
   pub notices : List Effect
 
-abbrev pub take_reply : State → ℕ → ℕ → Option Disposition → Result TakenReply KernReturn
+abbrev pub take_reply : Ipc → ℕ → ℕ → Option Disposition → Result TakenReply KernReturn
 take_reply state space name None = Ok (record { reply = None; state = state; notices = [] })
 take_reply state space name (Some disposition) =
     if is_null_or_dead name
@@ -132,7 +132,7 @@ reply_goes_first destination None = false
 reply_goes_first destination (Some reply) = consumes destination && not (consumes reply)
 
 -- a header of these two rights, with the state and the notices after both
-abbrev pub header_of : TakenDestination → TakenReply → State → List Effect → TakenHeader
+abbrev pub header_of : TakenDestination → TakenReply → Ipc → List Effect → TakenHeader
 header_of destination reply state notices = record {
   kind = destination.taken.right.kind;
   port = destination.port;
@@ -142,21 +142,21 @@ header_of destination reply state notices = record {
 }
 
 -- the reply right is taken, and then the destination
-abbrev pub take_reply_first : State → ℕ → ℕ → Disposition → ℕ → Option Disposition → Result TakenHeader KernReturn
+abbrev pub take_reply_first : Ipc → ℕ → ℕ → Disposition → ℕ → Option Disposition → Result TakenHeader KernReturn
 take_reply_first state space remote destination local reply =
     and_then (take_reply state space local reply) (λ (first : TakenReply).
     and_then (take_destination first.state space remote destination) (λ (second : TakenDestination).
     Ok (header_of second first second.taken.state (first.notices ++ second.taken.notices))))
 
 -- the destination is taken, and then the reply right
-abbrev pub take_destination_first : State → ℕ → ℕ → Disposition → ℕ → Option Disposition
+abbrev pub take_destination_first : Ipc → ℕ → ℕ → Disposition → ℕ → Option Disposition
     → Result TakenHeader KernReturn
 take_destination_first state space remote destination local reply =
     and_then (take_destination state space remote destination) (λ (first : TakenDestination).
     and_then (take_reply first.taken.state space local reply) (λ (second : TakenReply).
     Ok (header_of first second second.state (first.taken.notices ++ second.notices))))
 
-abbrev pub take_header : State → ℕ → ℕ → Disposition → ℕ → Option Disposition → Result TakenHeader KernReturn
+abbrev pub take_header : Ipc → ℕ → ℕ → Disposition → ℕ → Option Disposition → Result TakenHeader KernReturn
 take_header state space remote destination local reply =
     if reply_goes_first destination reply then take_reply_first state space remote destination local reply
     else take_destination_first state space remote destination local reply
@@ -189,7 +189,7 @@ reply_disposition n name =
 pub record Ready : Type 0 where
   pub message : Message
   pub port : ℕ
-  pub state : State
+  pub state : Ipc
   pub notices : List Effect
 
 abbrev pub ready_message : UsedParts → List Item → TakenHeader → TakenRights → Ready
@@ -208,7 +208,7 @@ ready_message parts items header taken = record {
 }
 
 -- the queue holds as many messages as its limit, or more; a message by a send-once right is queued all the same
-abbrev pub is_full : State → ℕ → Bool
+abbrev pub is_full : Ipc → ℕ → Bool
 is_full state serial =
     elim (finmap.get state.ports serial) as (λ _. Bool)
     [ None ↦ false | Some port ↦ nat_le port.limit (length port.messages) ]
@@ -227,7 +227,7 @@ ready_of_taken parts items header taken =
     let ready : Ready = ready_message parts items header taken in unless_failing (tests_of_queue ready) (Ok ready)
 
 -- no right of the body is taken yet
-abbrev pub none_taken : State → TakenRights
+abbrev pub none_taken : Ipc → TakenRights
 none_taken state = record { rights = []; state = state; notices = [] }
 
 -- the header's rights are taken: the body's are next
@@ -242,36 +242,36 @@ tests_before_rights parts items =
     (nat_lt MAX_MESSAGE_PORTS (ports_in items), SendNoBuffer) ∷ (is_null_or_dead parts.remote, SendInvalidDest) ∷ []
 
 -- the items are read: the header's rights are next
-abbrev pub ready_of_items : State → ℕ → UsedParts → Disposition → Option Disposition → List Item
+abbrev pub ready_of_items : Ipc → ℕ → UsedParts → Disposition → Option Disposition → List Item
     → Result Ready KernReturn
 ready_of_items state space parts destination reply items =
     unless_failing (tests_before_rights parts items)
     (and_then (take_header state space parts.remote destination parts.local reply) (ready_of_header space parts items))
 
 -- both dispositions are known: the body's items are next
-abbrev pub ready_of_dispositions : State → ℕ → UsedParts → Disposition → Option Disposition → Result Ready KernReturn
+abbrev pub ready_of_dispositions : Ipc → ℕ → UsedParts → Disposition → Option Disposition → Result Ready KernReturn
 ready_of_dispositions state space parts destination reply =
     and_then (items_if_complex parts.complex parts.body) (ready_of_items state space parts destination reply)
 
 -- the destination's disposition is known: the reply's is next
-abbrev pub ready_of_destination : State → ℕ → UsedParts → Disposition → Result Ready KernReturn
+abbrev pub ready_of_destination : Ipc → ℕ → UsedParts → Disposition → Result Ready KernReturn
 ready_of_destination state space parts destination =
     and_then (reply_disposition parts.local_disposition parts.local)
     (ready_of_dispositions state space parts destination)
 
 -- The message's parts are known: the size is tested, and the destination's disposition is next.
-abbrev pub ready_by_parts : State → ℕ → UsedParts → Result Ready KernReturn
+abbrev pub ready_by_parts : Ipc → ℕ → UsedParts → Result Ready KernReturn
 ready_by_parts state space parts =
     unless_failing (tests_of_size parts.size)
     (and_then (or_refused SendInvalidHeader (header_disposition parts.remote_disposition))
     (ready_of_destination state space parts))
 
 -- the same, of a task's bytes
-unfoldable pub ready_to_send : State → ℕ → List ℕ → Result Ready KernReturn
+unfoldable pub ready_to_send : Ipc → ℕ → List ℕ → Result Ready KernReturn
 ready_to_send state space bytes = ready_by_parts state space (used_parts bytes)
 
 -- a receive right in the body would travel to its own queue
-abbrev pub goes_in_circle : State → ℕ → CarriedRight → Bool
+abbrev pub goes_in_circle : Ipc → ℕ → CarriedRight → Bool
 goes_in_circle state queue carried =
     same_kind carried.kind kind.Receive && elim (live_port carried.port) as (λ _. Bool)
     [ None ↦ false | Some serial ↦ is_circular state serial queue ]

@@ -12,7 +12,7 @@ use Rattle.ipc_model.specs.declared.message.PortInMessage.{PortInMessage}
 use Rattle.ipc_model.specs.declared.message.PortInMessage.TheVariants as in_message
 use Rattle.ipc_model.specs.declared.message.RightKind.{RightKind}
 use Rattle.ipc_model.specs.declared.message.RightKind.TheVariants as kind
-use Rattle.ipc_model.specs.state.State.{Names, IsUnused, name_of_port}
+use Rattle.ipc_model.specs.state.Ipc.{Names, IsUnused, name_of_port}
 
 -- A name that a right to a port may get in a space: a send-once right gets an unused name; a send or receive
 -- right gets the name that the port has there, or else an unused one.

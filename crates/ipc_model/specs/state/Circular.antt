@@ -9,7 +9,7 @@ use Rattle.ipc_model.specs.declared.message.PortInMessage.TheVariants as in_mess
 use Rattle.ipc_model.specs.declared.message.RightKind.TheVariants as kind
 use Rattle.ipc_model.specs.declared.port.PortState.{PortState}
 use Rattle.ipc_model.specs.state.Placed.{same_kind}
-use Rattle.ipc_model.specs.state.State.{State}
+use Rattle.ipc_model.specs.state.Ipc.{Ipc}
 
 abbrev pub is_port : PortInMessage → ℕ → Bool
 is_port in_message.Null serial = false
@@ -25,33 +25,33 @@ abbrev pub carries : ℕ → PortState → Bool
 carries serial port = list_any (λ message. list_any (is_receive_right serial) message.rights) port.messages
 
 -- the port in whose queue the receive right of a port travels, if it does
-abbrev pub carrier_of : State → ℕ → Option ℕ
+abbrev pub carrier_of : Ipc → ℕ → Option ℕ
 carrier_of state serial = option_map (λ e. e.0) (find (λ e. carries serial e.1) (finmap.entries state.ports))
 
 -- The queue `outer` holds a message with the receive right of the port `inner`.
-abbrev pub Carries : State → ℕ → ℕ → Type 0
+abbrev pub Carries : Ipc → ℕ → ℕ → Type 0
 Carries state outer inner =
     (port : PortState) × (finmap.get state.ports outer ≡ Some port) × (carries inner port ≡ true)
 
 -- Acyclic: no ports carry one another in a circle. They have ranks, by which a port ranks below the one that carries
 -- it.
-abbrev pub Acyclic : State → Type 0
+abbrev pub Acyclic : Ipc → Type 0
 Acyclic state = (rank : ℕ → ℕ) × ((outer inner : ℕ) → Carries state outer inner → rank inner < rank outer)
 
 -- A path up from one port to another, of this many hops: each leads from a port to one whose queue holds its receive
 -- right.
-abbrev pub LeadsUp : State → ℕ → ℕ → ℕ → Type 0
+abbrev pub LeadsUp : Ipc → ℕ → ℕ → ℕ → Type 0
 LeadsUp state zero top serial = serial ≡ top
 LeadsUp state (suc hops) top serial = (carrier : ℕ) × Carries state carrier serial × LeadsUp state hops top carrier
 
 -- Circular: some path leads up from the queue's own port to the port `serial`. If it were put into this queue, the
 -- receive right of that port would travel, directly or through others, to the port's own queue.
-abbrev pub IsCircular : State → ℕ → ℕ → Type 0
+abbrev pub IsCircular : Ipc → ℕ → ℕ → Type 0
 IsCircular state serial queue = (hops : ℕ) × LeadsUp state hops serial queue
 
 -- What is computed, with a bound: whether going up meets a port: from one port to the port that carries its receive
 -- right, and so on, within this many hops. The port itself is met at once.
-abbrev pub meets : State → ℕ → ℕ → ℕ → Bool
+abbrev pub meets : Ipc → ℕ → ℕ → ℕ → Bool
 meets state zero wanted serial = serial == wanted
 meets state (suc hops) wanted serial =
     serial == wanted || elim (carrier_of state serial) as (λ _. Bool)
@@ -60,5 +60,5 @@ meets state (suc hops) wanted serial =
 -- `IsCircular` as it is computed, with as many hops as there are ports. In a lawful and acyclic state the two agree:
 -- that is the law `circles_lead_up` of `ipc_laws`. Sends, effects and the contracts cite this one, since they choose by
 -- it.
-unfoldable pub is_circular : State → ℕ → ℕ → Bool
+unfoldable pub is_circular : Ipc → ℕ → ℕ → Bool
 is_circular state serial queue = meets state (finmap.len state.ports) serial queue

@@ -18,11 +18,11 @@ use Rattle.ipc_model.specs.messages.Items.{Item, items_of, is_port_item}
 use Rattle.ipc_model.specs.rights.Dispositions.{number_of_kind}
 use Rattle.ipc_model.specs.state.Placed.{Right, waiting, placed, same_kind, receive_count}
 use Rattle.ipc_model.specs.messages.Receiving.{message_size}
-use Rattle.ipc_model.specs.state.State.{State, Names, lives, port_held, received_port}
+use Rattle.ipc_model.specs.state.Ipc.{Ipc, Names, lives, port_held, received_port}
 use Rattle.words.specs.Words.{AreBytes}
 
 -- how many rights of any kind a port has
-abbrev pub rights_count : State → ℕ → ℕ
+abbrev pub rights_count : Ipc → ℕ → ℕ
 rights_count state serial = count_by (λ r. r.port == serial) (placed state)
 
 -- What a name may stand for: a port by its receive right or at least one reference, a dead name with at least one.
@@ -89,13 +89,13 @@ pub record LawfulPort (port : PortState) : Type 0 where
   pub messages : All LawfulMessage port.messages
 
 -- The space that holds the port's receive right has a set of this name.
-abbrev pub IsHeldAlongsideSet : State → ℕ → ℕ → Type 0
+abbrev pub IsHeldAlongsideSet : Ipc → ℕ → ℕ → Type 0
 IsHeldAlongsideSet state serial set =
     (space : ℕ) × (names : Names) × (name : ℕ) × (entry : Entry) × (finmap.get state.spaces space ≡ Some names)
     × (finmap.get names name ≡ Some entry) × (received_port entry ≡ Some serial) × (finmap.get names set ≡ Some Set)
 
 -- A lawful state.
-pub record Lawful (state : State) : Type 0 where
+pub record Lawful (state : Ipc) : Type 0 where
   pub first_space : (names : Names) × (finmap.get state.spaces FIRST_SPACE ≡ Some names)
   pub spaces : (space : ℕ) (names : Names) → finmap.get state.spaces space ≡ Some names → (0 < space)
       × (space ≤ MAX_SPACES) × LawfulNames names
@@ -117,7 +117,7 @@ pub record Lawful (state : State) : Type 0 where
 abbrev pub AreShort : finmap.FinMap nat_cmp PortState → Type 0
 AreShort ports = (serial : ℕ) (port : PortState) → finmap.get ports serial ≡ Some port → length port.messages < 2 ^ 32
 
-abbrev pub ShortQueues : State → Type 0
+abbrev pub ShortQueues : Ipc → Type 0
 ShortQueues state = AreShort state.ports
 
 -- While the effects of a call are drained, rights wait among them, and a port whose receive right waits is still in its
@@ -129,11 +129,11 @@ right_of_effect (release kind serial) = record { kind = kind; port = serial; pla
 right_of_effect (notify target what) = record { kind = kind.SendOnce; port = target; place = waiting }
 
 -- every right of a state, and every right that waits among effects
-abbrev pub placed_with : State → List Effect → List Right
+abbrev pub placed_with : Ipc → List Effect → List Right
 placed_with state effects = placed state ++ map right_of_effect effects
 
 -- how many rights of a kind a port has, those among effects too
-abbrev pub count_with : RightKind → State → List Effect → ℕ → ℕ
+abbrev pub count_with : RightKind → Ipc → List Effect → ℕ → ℕ
 count_with wanted state effects serial =
     count_by (λ r. same_kind r.kind wanted && r.port == serial) (placed_with state effects)
 
@@ -155,7 +155,7 @@ abbrev pub IsReleased : List Effect → ℕ → Type 0
 IsReleased effects serial = Contains effects (release kind.Receive serial)
 
 -- A state is lawful, if the rights that wait among effects count as placed. With no effects left it is lawful.
-pub record LawfulBut (state : State) (effects : List Effect) : Type 0 where
+pub record LawfulBut (state : Ipc) (effects : List Effect) : Type 0 where
   pub first_space : (names : Names) × (finmap.get state.spaces FIRST_SPACE ≡ Some names)
   pub spaces : (space : ℕ) (names : Names) → finmap.get state.spaces space ≡ Some names → (0 < space)
       × (space ≤ MAX_SPACES) × LawfulNames names

@@ -11,7 +11,7 @@ use Rattle.ipc_model.specs.declared.message.PortInMessage.TheVariants as in_mess
 use Rattle.ipc_model.specs.declared.message.RightKind.{RightKind}
 use Rattle.ipc_model.specs.declared.message.RightKind.TheVariants as kind
 use Rattle.ipc_model.specs.declared.port.PortState.{PortState}
-use Rattle.ipc_model.specs.state.State.{State, Names}
+use Rattle.ipc_model.specs.state.Ipc.{Ipc, Names}
 
 -- Where a right stands: held under a name of a space, carried by a message in a port's queue (as its destination, its
 -- reply right or a right of its body), or kept as the target of a request: the dead-name request of a name, or one of
@@ -80,7 +80,7 @@ abbrev pub rights_of_space : ℕ → Names → List Right
 rights_of_space space names = flat_map (λ e. rights_of_entry space e.0 e.1) (finmap.entries names)
 
 -- Every right of a state, with its place.
-unfoldable pub placed : State → List Right
+unfoldable pub placed : Ipc → List Right
 placed state =
     flat_map (λ e. rights_of_space e.0 e.1) (finmap.entries state.spaces) ++ flat_map
     (λ e. rights_of_port e.0 e.1) (finmap.entries state.ports)
@@ -92,14 +92,14 @@ same_kind kind.SendOnce kind.SendOnce = true
 same_kind _ _ = false
 
 -- How many rights of this kind a port has: members of that one list.
-abbrev pub count_of : RightKind → State → ℕ → ℕ
+abbrev pub count_of : RightKind → Ipc → ℕ → ℕ
 count_of wanted state serial = count_by (λ r. same_kind r.kind wanted && r.port == serial) (placed state)
 
-abbrev pub receive_count : State → ℕ → ℕ
+abbrev pub receive_count : Ipc → ℕ → ℕ
 receive_count = count_of kind.Receive
 
-abbrev pub send_count : State → ℕ → ℕ
+abbrev pub send_count : Ipc → ℕ → ℕ
 send_count = count_of kind.Send
 
-abbrev pub send_once_count : State → ℕ → ℕ
+abbrev pub send_once_count : Ipc → ℕ → ℕ
 send_once_count = count_of kind.SendOnce

@@ -3,11 +3,13 @@ use Rattle.std.specs.Prelude.{◌≡◌, ◌⊎◌, ℕ, suc, ◌+◌, ◌%◌, 
 use Rattle.std.specs.FinMap as finmap
 use Rattle.codes.specs.StoreVersion.{IsNoVersion, current}
 use Rattle.codes.specs.declared.store_version.StoreVersion.{StoreVersion}
+use Rattle.codes.specs.declared.store_version.StoreVersion.TheVariants.{One, Two}
 use Rattle.ipc_model.specs.declared.port.PortState.{PortState}
 use Rattle.ipc_model.specs.declared.record.Record.{Record}
 use Rattle.ipc_model.specs.state.Circular.{Acyclic}
 use Rattle.ipc_model.specs.encodings.Images.{image_encoding_of}
-use Rattle.ipc_model.specs.state.Lawful.{Lawful, ShortQueues}
+use Rattle.ipc_model.specs.state.Lawful.{ShortQueues}
+use Rattle.ipc_model.specs.state.LawfulState.{LawfulState}
 use Rattle.ipc_model.specs.state.State.{State, opening_state}
 use Rattle.ipc_model.specs.calls.Step.{Run}
 use Rattle.ipc_model.specs.store.Store.{EncodesSegment, IsClosed, IsLimitOf, open_gate, segment_header_of, image_content_of}
@@ -74,15 +76,21 @@ pub record IsNew (slots : Slots) : Type 0 where
 -- each queue has a limit of the version
 abbrev pub HasLimits : StoreVersion → State → Type 0
 HasLimits version state =
-    (serial : ℕ) (port : PortState) → finmap.get state.ports serial ≡ Some port → IsLimitOf version port.limit
+    (serial : ℕ) (port : PortState) → finmap.get state.ipc.ports serial ≡ Some port → IsLimitOf version port.limit
+
+-- in version 1 no space keeps a reply
+abbrev pub KeepsWhatItMay : StoreVersion → State → Type 0
+KeepsWhatItMay One state = state.kept ≡ finmap.empty
+KeepsWhatItMay Two state = Unit {0}
 
 -- These bytes are the image of this state, which is lawful and acyclic, and whose queues are short.
 pub record IsImageIn (version : StoreVersion) (encoding : List ℕ) (state : State) : Type 0 where
   pub encoding_is : encoding ≡ image_encoding_of version state
-  pub lawful : Lawful state
-  pub acyclic : Acyclic state
-  pub short : ShortQueues state
+  pub lawful : LawfulState state
+  pub acyclic : Acyclic state.ipc
+  pub short : ShortQueues state.ipc
   pub limits : HasLimits version state
+  pub kept : KeepsWhatItMay version state
 
 -- and as an image is written
 abbrev pub IsImageOf : List ℕ → State → Type 0
@@ -95,10 +103,11 @@ pub record HoldsImage (epoch : ℕ) (slot : List ℕ) (state : State) : Type 0 w
   pub rest : List ℕ
   pub encoding : slot ≡ (open_gate ∷ image_content_of version epoch (image_encoding_of version state)) ++ rest
   pub fits : length (image_encoding_of version state) < 2 ^ 64
-  pub lawful : Lawful state
-  pub acyclic : Acyclic state
-  pub short : ShortQueues state
+  pub lawful : LawfulState state
+  pub acyclic : Acyclic state.ipc
+  pub short : ShortQueues state.ipc
   pub limits : HasLimits version state
+  pub kept : KeepsWhatItMay version state
 
 -- The other segment slot isn't open, and adds nothing;
 abbrev pub ClosedAddsNothing : List ℕ → List Record → Type 0

@@ -5,7 +5,8 @@ use Rattle.codes.specs.declared.limits.TheConstants.{MAX_RECORDS}
 use Rattle.codes.specs.declared.store_version.StoreVersion.{StoreVersion}
 use Rattle.codes.specs.declared.store_version.StoreVersion.TheVariants.{One, Two}
 use Rattle.ipc_model.specs.declared.call.Call.{Call}
-use Rattle.ipc_model.specs.declared.call.Call.TheVariants.{SetQlimit}
+use Rattle.ipc_model.specs.declared.call.Call.TheVariants.{Plain, Numbered}
+use Rattle.ipc_model.specs.declared.plain_call.PlainCall.TheVariants.{SetQlimit}
 use Rattle.ipc_model.specs.declared.record.Record.{Record}
 use Rattle.words.specs.Words.{word, long_word}
 use Rattle.ipc_model.specs.encodings.Encodings.{records_encoding, IsRecord}
@@ -88,9 +89,10 @@ abbrev pub IsLimitOf : StoreVersion → ℕ → Type 0
 IsLimitOf One limit = limit ≤ greatest_limit One
 IsLimitOf Two limit = Unit {0}
 
--- no record of a segment sets another limit
+-- no call of a segment's records sets another limit, and none of version 1 is numbered
 abbrev pub IsWithin : StoreVersion → Call → Type 0
-IsWithin version (SetQlimit name limit) = IsLimitOf version limit
+IsWithin version (Plain (SetQlimit name limit)) = IsLimitOf version limit
+IsWithin One (Numbered numbered) = ⊥
 IsWithin version call = Unit {0}
 
 abbrev pub AreWithin : StoreVersion → List Record → Type 0

@@ -1,7 +1,7 @@
 use Rattle.std.proofs.Common.{◌≡◌, ℕ, List, ◌++◌, drop, sym, ap, subst, ◌∙◌, refl, arith}
 use Rattle.ipc_laws.specs.CanonicalLaws.{canonical_again, canonical_bytes, canonical_long}
-use Rattle.ipc_model.specs.declared.call.Call.TheVariants as call
-use Rattle.ipc_model.specs.encodings.Encodings.{IsCanonicalCall, IsMessageSize}
+use Rattle.ipc_model.specs.declared.plain_call.PlainCall.TheVariants as call
+use Rattle.ipc_model.specs.encodings.PlainCalls.{IsCanonicalCall, IsMessageSize}
 use Rattle.words.specs.Words.{word}
 use Rattle.calls.proofs.Messages.{bytes_after, kept_same, same_bytes, other_bytes}
 use Rattle.ipc_model.specs.messages.Kept.{canonical_message}

@@ -3,8 +3,8 @@ use Rattle.codes.specs.KernReturn.{number_of}
 use Rattle.codes.specs.declared.kern_return.KernReturn.{KernReturn}
 use Rattle.codes.specs.declared.kern_return.KernReturn.TheVariants.{Success}
 use Rattle.words.specs.Words.{word}
-use Rattle.calls.specs.Replies.{Answers}
-use Rattle.calls.proofs.Replies.{done_reported}
+use Rattle.calls.specs.PlainReplies.{Answers}
+use Rattle.calls.proofs.PlainReplies.{done_reported}
 use Rattle.calls.proofs.reply.read_answer.Goals as goal
 
 pub returns-then-eq-clause-only : goal.returns-then-eq-clause-only

@@ -1,8 +1,8 @@
 use Rattle.std.proofs.Common.{◌≡◌, ◌<◌, ◌^◌, ◌++◌, List, ℕ, length, flat_map, Some, sym, ap, subst, ◌∙◌, rules}
-use Rattle.ipc_model.specs.declared.call.Reply.TheVariants as reply
-use Rattle.ipc_model.specs.encodings.Encodings.{FitsReply}
+use Rattle.ipc_model.specs.declared.plain_reply.PlainReply.TheVariants as reply
+use Rattle.ipc_model.specs.encodings.PlainCalls.{FitsReply}
 use Rattle.words.specs.Words.{word}
-use Rattle.calls.proofs.Replies.{counted_members, one_members}
+use Rattle.calls.proofs.PlainReplies.{counted_members, one_members}
 use Rattle.calls.proofs.reply.read_member_row.Goals as goal
 
 pub returns-then-len-count-clause-only : goal.returns-then-len-count-clause-only

@@ -1,6 +1,6 @@
 use Rattle.std.proofs.Common.{◌≡◌, ◌++◌, List, ℕ, sym, ap, ◌∙◌}
 use Rattle.words.specs.Words.{word}
-use Rattle.calls.proofs.Replies.{one_message}
+use Rattle.calls.proofs.PlainReplies.{one_message}
 use Rattle.calls.proofs.reply.read_message.Goals as goal
 
 pub returns-clause-only : goal.returns-clause-only

@@ -1,9 +1,9 @@
 use Rattle.std.proofs.Common.{◌≡◌, ◌<◌, ◌^◌, ◌++◌, List, ℕ, length, Some, sym, ap, subst, ◌∙◌, rules}
-use Rattle.ipc_model.specs.declared.call.Reply.TheVariants as reply
-use Rattle.ipc_model.specs.encodings.Encodings.{FitsReply}
+use Rattle.ipc_model.specs.declared.plain_reply.PlainReply.TheVariants as reply
+use Rattle.ipc_model.specs.encodings.PlainCalls.{FitsReply}
 use Rattle.words.specs.Words.{word}
 use Rattle.calls.specs.Rows.{names_encoding}
-use Rattle.calls.proofs.Replies.{counted_names, one_names}
+use Rattle.calls.proofs.PlainReplies.{counted_names, one_names}
 use Rattle.calls.proofs.reply.read_name_row.Goals as goal
 
 pub returns-then-len-count-clause-only : goal.returns-then-len-count-clause-only

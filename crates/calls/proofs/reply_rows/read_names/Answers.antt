@@ -1,6 +1,6 @@
 use Rattle.std.proofs.Common.{◌<◌, length, arith}
 use Rattle.std.proofs.lemmas.Grind.{common_steps}
-use Rattle.calls.proofs.Replies.{odd_names}
+use Rattle.calls.proofs.PlainReplies.{odd_names}
 use Rattle.calls.proofs.reply_rows.read_names.Goals as goal
 
 pub returns-clause-none : goal.returns-clause-none

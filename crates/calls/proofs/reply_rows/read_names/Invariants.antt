@@ -1,6 +1,6 @@
 use Rattle.std.proofs.Common.{◌≡◌, ◌<◌, ◌^◌, ◌++◌, List, ℕ, length, flat_map}
 use Rattle.std.specs.Prelude.{All}
-use Rattle.ipc_model.specs.declared.call.NamedType.{NamedType}
+use Rattle.ipc_model.specs.declared.plain_reply.NamedType.{NamedType}
 use Rattle.words.specs.Words.{word}
 use Rattle.calls.proofs.reply_rows.read_names.Given as goal
 

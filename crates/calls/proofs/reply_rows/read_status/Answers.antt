@@ -1,6 +1,6 @@
 use Rattle.std.proofs.Common.{◌≡◌, List, ℕ, drop, sym, ap, ◌∙◌}
-use Rattle.ipc_model.specs.encodings.Encodings.{status_encoding}
-use Rattle.calls.proofs.Replies.{at_none}
+use Rattle.ipc_model.specs.encodings.PlainCalls.{status_encoding}
+use Rattle.calls.proofs.PlainReplies.{at_none}
 use Rattle.calls.proofs.reply_rows.read_status.Goals as goal
 
 pub returns-in_err-has_senders-clause-none : goal.returns-in_err-has_senders-clause-none

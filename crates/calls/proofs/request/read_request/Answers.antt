@@ -1,6 +1,7 @@
-use Rattle.std.proofs.Common.{ℕ, ◌++◌, sym, ap, ◌∙◌}
+use Rattle.std.proofs.Common.{ℕ, ◌++◌, inr, sym, ap, ◌∙◌}
 use Rattle.words.specs.Words.{word}
 use Rattle.calls.proofs.Asked.{asks_in_front, asks_after}
+use Rattle.calls.proofs.RequestLaws.{no_memory, one_numbered, only_numbered}
 use Rattle.calls.proofs.request.read_request.Goals as goal
 
 pub returns-then-number-eq-MACH_MSG-clause-found :
@@ -15,3 +16,30 @@ returns-then-number-eq-MACH_MSG-clause-only c =
     asks_after c.args.frame.now.content c.in-Some.arguments.now c.read_mach_msg.result
     (sym c.content.ensures.value ∙ c.in-Some.ensures.found ∙ ap
     (λ (n : ℕ). word n ++ c.in-Some.arguments.now) c.if-number-eq-MACH_MSG.true) c.read_mach_msg.ensures.only
+
+pub returns-in-Ok-clause-only : goal.returns-in-Ok-clause-only
+returns-in-Ok-clause-only c =
+    one_numbered c.args.frame.now.content c.in-Some.arguments.now c.read_numbered.result c.in-Ok.call
+    (sym c.content.ensures.value ∙ c.in-Some.ensures.found ∙ ap
+    (λ (n : ℕ). word n ++ c.in-Some.arguments.now) c.if-number-eq-NUMBERED.true) c.in-Ok.is c.read_numbered.ensures.only
+
+pub returns-in-Err-clause-only : goal.returns-in-Err-clause-only
+returns-in-Err-clause-only c =
+    only_numbered c.args.frame.now.content c.in-Some.arguments.now c.read_numbered.result c.in-Err.fault
+    (sym c.content.ensures.value ∙ c.in-Some.ensures.found ∙ ap
+    (λ (n : ℕ). word n ++ c.in-Some.arguments.now) c.if-number-eq-NUMBERED.true) c.in-Err.is
+    c.read_numbered.ensures.only
+
+pub returns-in-Err-clause-memory : goal.returns-in-Err-clause-memory
+returns-in-Err-clause-memory c = λ is.
+    let asks = c.in-Err.ensures.memory (no_memory c.in-Err.fault is) in
+    inr (
+      asks.0,
+      asks.1,
+      (
+        c.in-Some.arguments.now,
+        (sym c.content.ensures.value ∙ c.in-Some.ensures.found ∙ ap
+            (λ (n : ℕ). word n ++ c.in-Some.arguments.now) c.if-number-eq-NUMBERED.true),
+        asks.2,
+      ),
+    )

@@ -1,7 +1,7 @@
 use Rattle.std.proofs.Common.{◌≡◌, ◌&&◌, if◌then◌else◌, ℕ, Bool, true, false, not, None, Some, refl, ap, sym, ◌∙◌}
 use Rattle.std.specs.Bool.{then_some}
 use Rattle.ipc_model.specs.state.Circular.{is_circular}
-use Rattle.ipc_model.specs.state.State.{lives}
+use Rattle.ipc_model.specs.state.Ipc.{lives}
 use Rattle.death.specs.Taking.{taker}
 use Rattle.death.proofs.receive.taker.Goals as goal
 use Rattle.death.proofs.receive.taker.Goals.{then-has_port, else-has_port}

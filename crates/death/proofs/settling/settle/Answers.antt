@@ -1,6 +1,6 @@
 use Rattle.std.proofs.Common.{◌∙◌}
 use Rattle.effects.specs.Meaning.{effect_meant}
-use Rattle.ipc_model.specs.state.State.{State}
+use Rattle.ipc_model.specs.state.Ipc.{Ipc}
 use Rattle.death.proofs.Working.{less_is_left, one_more, all_done}
 use Rattle.death.proofs.settling.settle.Goals as goal
 
@@ -12,7 +12,7 @@ loop-first-smaller c =
 
 pub loop-first-preserved : goal.loop-first-preserved
 loop-first-preserved c = record {
-  settles = λ (end : State) (later : _).
+  settles = λ (end : Ipc) (later : _).
       c.loop-first.invariant.settles end
       (one_more c.loop-first.state.current c.run.new.state.current c.loop-first.effects c.take.new.self
       c.run.new.effects (effect_meant c.in-Some.first) c.in-Some.ensures c.in_ok-run.ensures.state

@@ -1,12 +1,12 @@
 use Rattle.std.proofs.Common.{◌≡◌}
 use Rattle.ipc_model.specs.effects.Effects.{Settles}
 use Rattle.ipc_laws.specs.Settling.{measure}
-use Rattle.ipc_model.specs.state.State.{State}
+use Rattle.ipc_model.specs.state.Ipc.{Ipc}
 use Rattle.death.proofs.settling.settle.Given as goal
 
 abbrev pub invariant-loop-first : goal.invariant-loop-first
 invariant-loop-first l = record {
-  settles : (end : State) → Settles l.state.current l.effects end
+  settles : (end : Ipc) → Settles l.state.current l.effects end
       → Settles l.initial.state.current l.initial.effects end;
   before : l.state.before ≡ l.initial.state.before;
 }

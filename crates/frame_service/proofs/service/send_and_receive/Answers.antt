@@ -7,7 +7,7 @@ returns-then-not-is_success-clause-answered g c = (
   c.in_ok-sent.sent,
   c.call.new.self,
   c.in_ok-sent.ensures.answers,
-  at_false _ _ _ (sym (c.is_success.ensures c.args.send) ∙ c.if-not-is_success.true) (refl, refl),
+  at_false _ _ _ (sym c.is_success.ensures ∙ c.if-not-is_success.true) (refl, refl),
 )
 
 pub returns-clause-answered : goal.returns-clause-answered
@@ -17,7 +17,7 @@ returns-clause-answered g c =
       c.in_ok-sent.sent,
       c.call.new.self,
       c.in_ok-sent.ensures.answers,
-      at_true _ _ _ (sym (c.is_success.ensures c.args.send) ∙ c.if-not-is_success.false) answered,
+      at_true _ _ _ (sym c.is_success.ensures ∙ c.if-not-is_success.false) answered,
     ))
     c.call-2.ensures.answers
 
@@ -28,7 +28,7 @@ returns-clause-failed g c =
       c.in_ok-sent.sent,
       c.call.new.self,
       c.in_ok-sent.ensures.answers,
-      sym (c.is_success.ensures c.args.send) ∙ c.if-not-is_success.false,
+      sym c.is_success.ensures ∙ c.if-not-is_success.false,
       failed,
     ))
     c.call-2.ensures.fails

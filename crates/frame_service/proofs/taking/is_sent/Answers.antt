@@ -5,5 +5,5 @@ use Rattle.frame_service.proofs.taking.is_sent.Goals as goal
 
 pub returns-in-Made : goal.returns-in-Made
 returns-in-Made g c =
-    λ call. c.is_done.ensures call ∙ ap
+    λ call. c.is_done.ensures ∙ ap
     (λ r. is_sent g.A.Asker.answer g.A.Asker.makes g.A.Asker.lacks call (Settled r)) (sym c.in-Made.is)

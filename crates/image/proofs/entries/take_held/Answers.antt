@@ -1,6 +1,6 @@
 use Rattle.std.proofs.Common.{◌++◌, ◌∷◌, ◌∙◌, sym}
 use Rattle.ipc_laws.specs.EncodingLaws.{long_word_once, word_once}
-use Rattle.ipc_model.specs.encodings.Encodings.{number_of_bool}
+use Rattle.ipc_model.specs.encodings.PlainCalls.{number_of_bool}
 use Rattle.words.specs.Words.{long_word, word}
 use Rattle.image.proofs.OneEntry.{no_word, no_long_word}
 use Rattle.image.proofs.entries.take_held.Goals as goal

@@ -1,7 +1,7 @@
 use Rattle.std.proofs.Common.{◌++◌, ◌∷◌, ◌∙◌, sym}
 use Rattle.ipc_laws.specs.EncodingLaws.{word_once}
 use Rattle.ipc_model.specs.encodings.Images.{reply_right_encoding}
-use Rattle.ipc_model.specs.encodings.Encodings.{number_of_bool}
+use Rattle.ipc_model.specs.encodings.PlainCalls.{number_of_bool}
 use Rattle.words.specs.Words.{word}
 use Rattle.image.proofs.OneEntry.{no_word}
 use Rattle.image.proofs.messages.take_head.Goals as goal

@@ -26,5 +26,6 @@ returns-clause-image c =
         acyclic = c.show_image.ensures.acyclic;
         short = c.show_image.ensures.short;
         limits = λ serial port at. tt;
+        kept = tt;
       };
     }

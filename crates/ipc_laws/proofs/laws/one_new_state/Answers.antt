@@ -1,4 +1,4 @@
-use Rattle.ipc_laws.specs.StepLaws.{one_new_state}
+use Rattle.ipc_laws.specs.NumberedSteps.{one_new_state}
 use Rattle.ipc_laws.proofs.laws.one_new_state.Goals as goal
 
 pub returns : goal.returns

@@ -1,4 +1,4 @@
-use Rattle.ipc_laws.specs.StepsKeep.{one_run}
+use Rattle.ipc_laws.specs.RunsKeep.{one_run}
 use Rattle.ipc_laws.proofs.laws.one_run.Goals as goal
 
 pub returns : goal.returns

@@ -1,4 +1,4 @@
-use Rattle.ipc_laws.specs.OtherSpaces.{others_fade}
+use Rattle.ipc_laws.specs.StepsElsewhere.{others_fade}
 use Rattle.ipc_laws.proofs.laws.others_fade.Goals as goal
 
 pub returns : goal.returns

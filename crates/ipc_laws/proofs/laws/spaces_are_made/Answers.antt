@@ -1,4 +1,4 @@
-use Rattle.ipc_laws.specs.OtherSpaces.{spaces_are_made}
+use Rattle.ipc_laws.specs.StepsElsewhere.{spaces_are_made}
 use Rattle.ipc_laws.proofs.laws.spaces_are_made.Goals as goal
 
 pub returns : goal.returns

@@ -1,5 +1,5 @@
 use Rattle.std.proofs.Common.{◌≡◌, ℕ, ◌-◌, ◌<◌, ◌≤◌, ◌^◌, true}
-use Rattle.ipc_model.specs.state.State.{is_number, received_port}
+use Rattle.ipc_model.specs.state.Ipc.{is_number, received_port}
 use Rattle.ipc_state.specs.Waking.{IsListedFor}
 use Rattle.spaces.specs.Looking.{at_place}
 use Rattle.waiting.specs.Places.{IsMore, names}

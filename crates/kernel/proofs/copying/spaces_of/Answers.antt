@@ -20,7 +20,7 @@ loop-number-preserved c =
     record {
       gathered =
           subst (λ (n : ℕ). AreGathered space_row state.spaces c.push.new.self.items (n + 1)) (sym c.from-at.ensures)
-          (space_more state before c.push.new.self.items c.loop-number.at c.in-Some.number c.in-Some.ensures.0
+          (space_more space_row state before c.push.new.self.items c.loop-number.at c.in-Some.number c.in-Some.ensures.0
           c.in-Some.ensures.1 c.in-Some.ensures.2
           (c.in_ok-push.ensures.items ∙ ap
           (λ (names : List NamedEntry). before ++ row names) (c.new.ensures ∙ c.in_ok-names.ensures))
@@ -30,5 +30,5 @@ loop-number-preserved c =
 
 pub returns : goal.returns
 returns c =
-    spaces_all c.args.state.now.current c.loop-number.spaces.items c.loop-number.at c.requires c.in_default.ensures
-    c.loop-number.invariant.gathered
+    spaces_all space_row c.args.state.now.current c.loop-number.spaces.items c.loop-number.at c.requires
+    c.in_default.ensures c.loop-number.invariant.gathered

@@ -1,8 +1,8 @@
 use Rattle.std.proofs.Common.{List, ℕ, refl, sym, ◌∙◌, subst}
 use Rattle.ipc_model.specs.calls.PortCalls.{names_in}
-use Rattle.ipc_model.specs.calls.Step.{ActsIn}
-use Rattle.ipc_model.specs.declared.call.Call.{Call}
-use Rattle.ipc_model.specs.declared.call.Call.TheVariants as call
+use Rattle.ipc_model.specs.calls.PlainStep.{ActsIn}
+use Rattle.ipc_model.specs.declared.plain_call.PlainCall.{PlainCall}
+use Rattle.ipc_model.specs.declared.plain_call.PlainCall.TheVariants as call
 use Rattle.kernel.specs.Choosing.{Prefers, prefers_closed, prefers_receive}
 use Rattle.kernel.proofs.dispatch.exchange.Goals as goal
 
@@ -16,20 +16,20 @@ returns-in_ok-reply-in-Send-clause-shown c =
     let acts =
     subst (λ (message : List ℕ). ActsIn old space (names_in old space) (call.Send message) reply new effects)
     c.as_slice.ensures c.in_ok-reply-in-Send.ensures.acts in
-    subst (λ (made : Call). Prefers old space made c.args.shown.now reply) (sym c.in-Send.is)
+    subst (λ (made : PlainCall). Prefers old space made c.args.shown.now reply) (sym c.in-Send.is)
     (prefers_closed old space (call.Send c.in-Send.message) c.args.shown.now reply new effects refl acts)
 
 pub returns-in_ok-reply-in-Receive-clause-acts : goal.returns-in_ok-reply-in-Receive-clause-acts
 returns-in_ok-reply-in-Receive-clause-acts c =
     let old = c.args.state.now.current in
-    subst (λ (made : Call). ActsIn old c.args.space
+    subst (λ (made : PlainCall). ActsIn old c.args.space
     (names_in old c.args.space) made c.in_ok-reply-in-Receive.reply c.receive.new.state.current
     c.receive.new.effects) (sym c.in-Receive.is) c.in_ok-reply-in-Receive.ensures.acts
 
 pub returns-in_ok-reply-in-Receive-clause-shown : goal.returns-in_ok-reply-in-Receive-clause-shown
 returns-in_ok-reply-in-Receive-clause-shown c =
     let old = c.args.state.now.current in
-    subst (λ (made : Call). Prefers old c.args.space made c.args.shown.now c.in_ok-reply-in-Receive.reply)
+    subst (λ (made : PlainCall). Prefers old c.args.space made c.args.shown.now c.in_ok-reply-in-Receive.reply)
     (sym c.in-Receive.is)
     (prefers_receive old c.args.space c.in-Receive.limit c.in-Receive.large c.in-Receive.name c.in-Receive.waited
     c.args.shown.now c.in_ok-reply-in-Receive.reply

@@ -1,6 +1,6 @@
 use Rattle.std.proofs.Common.{refl, sym, subst}
-use Rattle.ipc_model.specs.declared.call.Call.{Call}
-use Rattle.ipc_model.specs.declared.call.Call.TheVariants as call
+use Rattle.ipc_model.specs.declared.plain_call.PlainCall.{PlainCall}
+use Rattle.ipc_model.specs.declared.plain_call.PlainCall.TheVariants as call
 use Rattle.kernel.specs.Choosing.{Prefers, prefers_closed, prefers_request, prefers_extract, prefers_create}
 use Rattle.kernel.specs.Trials.{acted}
 use Rattle.kernel.proofs.dispatch.hand_over.Goals as goal
@@ -14,7 +14,7 @@ returns-in_ok-reply-in-RequestNotification-clause-shown c =
     c.in-RequestNotification.sync c.in-RequestNotification.notify c.in-RequestNotification.disposition)
     c.in_ok-reply-in-RequestNotification.reply c.request_notification.new.state.current
     c.request_notification.new.effects c.in_ok-reply-in-RequestNotification.ensures.tries in
-    subst (λ (made : Call). Prefers c.args.state.now.current c.args.space made c.args.shown.now
+    subst (λ (made : PlainCall). Prefers c.args.state.now.current c.args.space made c.args.shown.now
     c.in_ok-reply-in-RequestNotification.reply) (sym c.in-RequestNotification.is)
     (prefers_request c.args.state.now.current c.args.space c.in-RequestNotification.name
     c.in-RequestNotification.variant c.in-RequestNotification.sync c.in-RequestNotification.notify
@@ -28,7 +28,7 @@ returns-in_ok-reply-in-InsertRight-clause-shown c =
     (call.InsertRight c.in-InsertRight.name c.in-InsertRight.right_name c.in-InsertRight.disposition)
     c.in_ok-reply-in-InsertRight.reply c.insert_right.new.state.current c.insert_right.new.effects
     c.in_ok-reply-in-InsertRight.ensures.tries in
-    subst (λ (made : Call). Prefers c.args.state.now.current c.args.space made c.args.shown.now
+    subst (λ (made : PlainCall). Prefers c.args.state.now.current c.args.space made c.args.shown.now
     c.in_ok-reply-in-InsertRight.reply) (sym c.in-InsertRight.is)
     (prefers_closed c.args.state.now.current c.args.space
     (call.InsertRight c.in-InsertRight.name c.in-InsertRight.right_name c.in-InsertRight.disposition)
@@ -41,7 +41,7 @@ returns-in_ok-reply-in-ExtractRight-clause-shown c =
     (call.ExtractRight c.in-ExtractRight.name c.in-ExtractRight.disposition) c.in_ok-reply-in-ExtractRight.reply
     c.extract_right.new.state.current c.extract_right.new.effects c.in_ok-reply-in-ExtractRight.ensures.acts
     in
-    subst (λ (made : Call). Prefers c.args.state.now.current c.args.space made c.args.shown.now
+    subst (λ (made : PlainCall). Prefers c.args.state.now.current c.args.space made c.args.shown.now
     c.in_ok-reply-in-ExtractRight.reply) (sym c.in-ExtractRight.is)
     (prefers_extract c.args.state.now.current c.args.space c.in-ExtractRight.name c.in-ExtractRight.disposition
     c.args.shown.now c.in_ok-reply-in-ExtractRight.reply did.0 did.1 did.2
@@ -54,7 +54,7 @@ returns-in_ok-reply-in-SpaceCreate-clause-shown c =
     (call.SpaceCreate c.in-SpaceCreate.name c.in-SpaceCreate.disposition) c.in_ok-reply-in-SpaceCreate.reply
     c.space_create.new.state.current c.space_create.new.effects c.in_ok-reply-in-SpaceCreate.ensures.tries
     in
-    subst (λ (made : Call). Prefers c.args.state.now.current c.args.space made c.args.shown.now
+    subst (λ (made : PlainCall). Prefers c.args.state.now.current c.args.space made c.args.shown.now
     c.in_ok-reply-in-SpaceCreate.reply) (sym c.in-SpaceCreate.is)
     (prefers_create c.args.state.now.current c.args.space c.in-SpaceCreate.name c.in-SpaceCreate.disposition
     c.args.shown.now c.in_ok-reply-in-SpaceCreate.reply did.0 did.1 did.2

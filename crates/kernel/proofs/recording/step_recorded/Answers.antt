@@ -1,12 +1,10 @@
-use Rattle.std.proofs.Common.{rules, sym, ◌∙◌}
 use Rattle.ipc_laws.specs.RecordedSteps.{answered_whole}
+use Rattle.kernel.specs.Keeping.{kept_by, state_of}
 use Rattle.kernel.proofs.recording.step_recorded.Goals as goal
 
-pub write-requires-clause-whole : goal.write-requires-clause-whole
-write-requires-clause-whole g c =
-    answered_whole c.args.state.now.current c.args.space c.args.call.now c.in_ok-reply.reply c.step.new.state.current
-    c.requires.lawful c.in_ok-reply.ensures.step
-    (sym c.has_record.ensures ∙ c.if-not-has_record.false)
-
-pub returns-clause-written : goal.returns-clause-written
-returns-clause-written g c = λ recorded. search rules
+pub keep_recorded-requires-clause-whole : goal.keep_recorded-requires-clause-whole
+keep_recorded-requires-clause-whole g c = λ recorded.
+    let old = state_of c.args.state.now.current c.args.kept.now in
+    answered_whole old c.args.space c.args.call.now c.in_ok-done.done.reply
+    (state_of c.answer_call.new.state.current (kept_by c.in_ok-done.done.keeping c.args.kept.now c.args.space))
+    c.requires.lawful c.in_ok-done.ensures.step recorded

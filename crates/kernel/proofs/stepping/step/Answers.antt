@@ -1,6 +1,6 @@
 use Rattle.std.proofs.Common.{sym, ap, ◌∙◌}
 use Rattle.codes.specs.declared.kern_return.KernReturn.TheVariants.{InvalidTask}
-use Rattle.ipc_model.specs.calls.Refusals.{refused_of}
+use Rattle.ipc_model.specs.calls.PlainRefusals.{refused_of}
 use Rattle.kernel.specs.Choosing.{prefers_closed, reads_closed}
 use Rattle.kernel.specs.Stepping.{of_some, refused_by_number, step_gone, prefers_gone, step_alone, prefers_step}
 use Rattle.kernel.proofs.stepping.step.Goals as goal

@@ -1,6 +1,6 @@
 use Rattle.std.proofs.Common.{ℕ, List, ◌∙◌, ap}
 use Rattle.ipc_model.specs.calls.PortCalls.{names_in}
-use Rattle.ipc_model.specs.declared.call.Reply.TheVariants as reply
+use Rattle.ipc_model.specs.declared.plain_reply.PlainReply.TheVariants as reply
 use Rattle.port_calls.proofs.Listed.{members_reported}
 use Rattle.port_calls.proofs.reads.get_set_status.Goals as goal
 

@@ -1,5 +1,5 @@
 use Rattle.std.proofs.Common.{◌≡◌, map, take}
-use Rattle.ipc_model.specs.state.State.{type_of}
+use Rattle.ipc_model.specs.state.Ipc.{type_of}
 use Rattle.port_calls.proofs.reads.named_types.Given as goal
 
 abbrev pub invariant-loop-name : goal.invariant-loop-name

@@ -1,7 +1,7 @@
 use Rattle.std.proofs.Common.{◌≡◌, ℕ, Option, is_some, is_none, sym, ◌∙◌, ap, arith}
 use Rattle.std.specs.FinMap as finmap
 use Rattle.ipc_model.specs.calls.PortCalls.{names_in}
-use Rattle.ipc_model.specs.state.State.{State}
+use Rattle.ipc_model.specs.state.Ipc.{Ipc}
 use Rattle.port_calls.proofs.Asking.{as_many_names, room_left}
 use Rattle.port_calls.proofs.requests.replace_target.Goals as goal
 
@@ -14,7 +14,7 @@ give_back-requires c = record {
       (ap (λ (o : Option ℕ). is_some o) (sym c.target_under-former.ensures) ∙ asked) in
       let same : finmap.len (names_in c.set_request.new.state.current c.args.space)
       ≡ finmap.len (names_in c.args.state.now.current c.args.space) =
-      ap (λ (s : State). finmap.len (names_in s c.args.space)) c.in_ok-set_request.ensures.state
+      ap (λ (s : Ipc). finmap.len (names_in s c.args.space)) c.in_ok-set_request.ensures.state
       ∙ as_many_names c.args.state.now.current c.args.space c.args.asked.name c.args.asked.variant c.args.asked.sync
       c.args.target in
       omega (arith, left, same);

@@ -5,7 +5,7 @@ use Rattle.std.specs.FinMap.{len-empty}
 use Rattle.ipc_model.specs.declared.entry.Entry.{Entry}
 use Rattle.ipc_model.specs.rights.CopyOut.{MayArrive, names_after}
 use Rattle.ipc_model.specs.calls.PortCalls.{names_in}
-use Rattle.ipc_model.specs.state.State.{State, Names, with_names}
+use Rattle.ipc_model.specs.state.Ipc.{Ipc, Names, with_names}
 use Rattle.rights.specs.Passed.{Running}
 use Rattle.rights.specs.Passed.{added_there, names_added, added_again}
 use Rattle.port_calls.proofs.space_calls.add_child.Goals as goal
@@ -14,23 +14,23 @@ abbrev without : Names
 without = finmap.empty
 
 -- a space that was added without names
-module _ (state after : State) (number : ℕ) (names : Names) (none : names ≡ without)
+module _ (state after : Ipc) (number : ℕ) (names : Names) (none : names ≡ without)
     (added : after ≡ with_names state number names) where
   is_added : after ≡ with_names state number without
   is_added = added ∙ ap (with_names state number) none
 
   has_none : names_in after number ≡ without
-  has_none = ap (λ (s : State). names_in s number) is_added ∙ names_added state number without
+  has_none = ap (λ (s : Ipc). names_in s number) is_added ∙ names_added state number without
 
   is_there : finmap.get after.spaces number ≡ Some without
-  is_there = ap (λ (s : State). finmap.get s.spaces number) is_added ∙ added_there state number without
+  is_there = ap (λ (s : Ipc). finmap.get s.spaces number) is_added ∙ added_there state number without
 
   has_few : finmap.len (names_in after number) ≡ 0
   has_few = ap (λ (n : Names). finmap.len n) has_none ∙ len-empty nat_cmp Entry
 
-  gets : (new : State) (others : Names) → new ≡ with_names after number others → new ≡ with_names state number others
+  gets : (new : Ipc) (others : Names) → new ≡ with_names after number others → new ≡ with_names state number others
   gets new others is =
-      is ∙ ap (λ (s : State). with_names s number others) is_added ∙ added_again state number without others
+      is ∙ ap (λ (s : Ipc). with_names s number others) is_added ∙ added_again state number without others
 
 pair_same : {A B : Type 0} {a c : A} {b d : B} → a ≡ c → b ≡ d → ◌≡◌ {A = A × B} (a, b) (c, d)
 pair_same e f = cc (e, f)

@@ -1,6 +1,6 @@
 use Rattle.std.proofs.Common.{◌≡◌, ◌++◌, map, drop}
 use Rattle.ipc_model.specs.calls.PortCalls.{names_in}
-use Rattle.ipc_model.specs.state.State.{members_of}
+use Rattle.ipc_model.specs.state.Ipc.{members_of}
 use Rattle.port_set.proofs.member.members.Given as goal
 
 -- the names so far with those that are left

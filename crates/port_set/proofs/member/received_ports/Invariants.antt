@@ -2,7 +2,7 @@ use Rattle.std.proofs.Common.{◌≡◌, ◌++◌, drop}
 use Rattle.std.specs.Prelude.{filter_map}
 use Rattle.ipc_model.specs.calls.Actions.{received_serials}
 use Rattle.ipc_model.specs.calls.PortCalls.{names_in}
-use Rattle.ipc_model.specs.state.State.{received_port}
+use Rattle.ipc_model.specs.state.Ipc.{received_port}
 use Rattle.port_set.proofs.member.received_ports.Given as goal
 
 -- the ports so far with those of the names that are left

@@ -3,19 +3,19 @@ use Rattle.std.specs.FinMap as finmap
 use Rattle.codes.specs.declared.kern_return.KernReturn.TheVariants.{Success}
 use Rattle.ipc_laws.specs.ReceiveArgumentLaws.{as_many_names}
 use Rattle.ipc_model.specs.calls.PortCalls.{names_in}
-use Rattle.ipc_model.specs.declared.call.Reply.TheVariants as reply
+use Rattle.ipc_model.specs.declared.plain_reply.PlainReply.TheVariants as reply
 use Rattle.ipc_model.specs.declared.message.CarriedRight.{CarriedRight}
 use Rattle.ipc_model.specs.declared.message.RightKind.{RightKind}
 use Rattle.ipc_model.specs.messages.Receiving.{destination_consumed, message_size, received_encoding}
 use Rattle.ipc_model.specs.rights.CopyOut.{Arrives}
-use Rattle.ipc_model.specs.state.State.{State}
+use Rattle.ipc_model.specs.state.Ipc.{Ipc}
 use Rattle.rights.specs.Passed.{Running}
 use Rattle.receiving.specs.TakingLaws.{whole_received}
 use Rattle.receiving.proofs.receiving.take_whole.Goals as goal
 
 pub oldest_encoding-requires-clause-given : goal.oldest_encoding-requires-clause-given
 oldest_encoding-requires-clause-given c = λ port message later live first.
-    let same = ap (λ (s : State). finmap.get s.ports c.args.source.port) c.in_ok-arrive.ensures.ok in
+    let same = ap (λ (s : Ipc). finmap.get s.ports c.args.source.port) c.in_ok-arrive.ensures.ok in
     let many = as_many_names _ _ _ _ c.in_ok-arrive.ensures.arrives in
     ap length c.as_slice.ensures.value ∙ many ∙ ap length (c.requires.rights port message later (sym same ∙ live) first)
 
@@ -23,7 +23,7 @@ pub returns-clause-received : goal.returns-clause-received
 returns-clause-received c = λ port message later live first.
     let old = c.args.state.now.current in
     let serial = c.args.source.port in
-    let same = ap (λ (s : State). finmap.get s.ports serial) c.in_ok-arrive.ensures.ok in
+    let same = ap (λ (s : Ipc). finmap.get s.ports serial) c.in_ok-arrive.ensures.ok in
     let outline = c.requires.outline port message later live first in
     let encoding =
     c.in_ok-encoding.ensures port message later (same ∙ live) first ∙ ap
@@ -45,7 +45,7 @@ returns-clause-wanted c = λ port message later live first last arrives.
     let old = c.args.state.now.current in
     let names = names_in old c.args.space in
     let serial = c.args.source.port in
-    let same = ap (λ (s : State). finmap.get s.ports serial) c.in_ok-arrive.ensures.ok in
+    let same = ap (λ (s : Ipc). finmap.get s.ports serial) c.in_ok-arrive.ensures.ok in
     let outline = c.requires.outline port message later live first in
     let encoding =
     c.in_ok-encoding.ensures port message later (same ∙ live) first ∙ ap

@@ -1,6 +1,6 @@
 use Rattle.std.proofs.Common.{◌≡◌, Option, IfSome, length, refl, subst, ap, arith}
 use Rattle.ipc_model.specs.declared.call.Call.{Call}
-use Rattle.ipc_model.specs.declared.call.Reply.{Reply}
+use Rattle.ipc_model.specs.declared.reply.Reply.{Reply}
 use Rattle.ipc_model.specs.encodings.Encodings.{call_encoding, reply_encoding, IsCanonicalCall, IsRecordedReply}
 use Rattle.record.proofs.read.read_record.Goals as goal
 

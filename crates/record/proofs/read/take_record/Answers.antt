@@ -1,5 +1,5 @@
 use Rattle.std.proofs.Common.{arith, sym, ◌∙◌}
-use Rattle.ipc_laws.specs.EncodingLaws.{kept_apart}
+use Rattle.ipc_laws.specs.RecordEncodings.{kept_apart}
 use Rattle.ipc_model.specs.encodings.Encodings.{call_encoding, reply_encoding}
 use Rattle.record.proofs.read.take_record.Goals as goal
 

@@ -1,7 +1,7 @@
 use Rattle.std.proofs.Common.{length, ap, arith, length-append}
 use Rattle.words.specs.Words.{word}
 use Rattle.ipc_model.specs.encodings.Encodings.{call_encoding, canonical_call}
-use Rattle.ipc_laws.specs.CanonicalLaws.{canonical_call_long}
+use Rattle.ipc_laws.specs.CanonicalRecords.{canonical_call_long}
 use Rattle.record.proofs.write.push_call_frame.Goals as goal
 
 pub set_length-requires-clause-fits : goal.set_length-requires-clause-fits

@@ -13,7 +13,8 @@ returns-in-Err-NotCanonical-clause-damaged c = λ _ state is.
 pub returns-in-Ok-from_snapshot-clause-image : goal.returns-in-Ok-from_snapshot-clause-image
 returns-in-Ok-from_snapshot-clause-image c =
     rows_are_image c.args.version c.args.encoding.now c.in-Ok.snapshot c.in-Ok-from_snapshot.kernel
-    c.in-Ok.ensures.found.0 c.in-Ok-from_snapshot.ensures.same c.in-Ok-from_snapshot.ensures.lawful
+    c.in-Ok.ensures.found.0 c.in-Ok.ensures.found.1 c.in-Ok-from_snapshot.ensures.same c.show_image.ensures.lawful
+    c.show_image.ensures.acyclic c.show_image.ensures.short
     (subst (All (HasLimit c.args.version)) c.as_slice.ensures (c.if-not-have_limits.ensures.0 refl))
 
 pub returns-then-not-have_limits-clause-damaged : goal.returns-then-not-have_limits-clause-damaged

@@ -23,4 +23,5 @@ returns-clause-holds c =
       acyclic = c.show_image.ensures.acyclic;
       short = c.show_image.ensures.short;
       limits = λ serial port at. tt;
+      kept = tt;
     }

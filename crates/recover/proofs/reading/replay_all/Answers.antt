@@ -5,7 +5,7 @@ use Rattle.ipc_model.specs.state.State.{State}
 use Rattle.journal.specs.Readers.{place_of}
 use Rattle.journal.specs.Reading.{Place, Leads, IsLast, IsNothing}
 use Rattle.journal.specs.Windows.{IsOver}
-use Rattle.recover.specs.Replayed.{Replays}
+use Rattle.recover.specs.Replayed.{ReplaysFrom}
 use Rattle.disk.proofs.Moments.{unchanged_then}
 use Rattle.recover.proofs.Streams.{IsLeft, all_replayed, left_on, none_left, unread}
 use Rattle.recover.proofs.Surveys.{some_is}
@@ -38,7 +38,7 @@ returns-in_default-clause-state g c = λ honest.
     let stays = rw c.in_default.is at (rw c.in_ok-now.ensures.ok.1 at c.next-next.ensures.stays) in
     let left =
     subst (λ (at : Place). IsLeft c.args.version segment first at c.args.kernel c.loop-now.state) (sym stays) (inv.left honest) in
-    subst (λ (s : State). Replays c.args.version segment first c.args.kernel s here.number here.at) (sym c.in_ok-now.ensures.ok.0)
+    subst (λ (s : State). ReplaysFrom c.args.version segment first c.args.kernel s here.number here.at) (sym c.in_ok-now.ensures.ok.0)
     (all_replayed c.args.version segment first here c.args.kernel c.loop-now.state left (subst (λ l. IsLast l here) same last))
 
 -- the record isn't a step

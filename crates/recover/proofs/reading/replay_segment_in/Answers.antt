@@ -10,7 +10,7 @@ use Rattle.ipc_model.specs.store.Recovery.{version_of}
 use Rattle.ipc_model.specs.store.Store.{EncodesSegment}
 use Rattle.disk.proofs.Moments.{reads_nothing}
 use Rattle.journal.specs.Reading.{Place}
-use Rattle.recover.specs.Replayed.{Replays, ReplaysAll}
+use Rattle.recover.specs.Replayed.{ReplaysFrom, ReplaysAll}
 use Rattle.recover.proofs.Faults.{counts_memory, counts_ok, counts_passed, memory_no_damage, none_in_error, of_memory}
 use Rattle.recover.proofs.Streams.{first_place, never_read, replayed_all}
 use Rattle.recover.proofs.reading.replay_segment_in.Goals as goal
@@ -28,7 +28,7 @@ returns-in_err-kernel-clause-damaged g c = λ honest reported.
     (subst (λ (s : Slot). version_of (slot_of seen s) ≡ version_number c.args.version) at (c.requires.says honest))
     (λ state count end replays. (rw c.in_ok-base.ensures.ok.0 at c.in_err-kernel.ensures.damaged honest
     (cc (p.1, p.2, reported))) state count end
-    (subst (λ (place : Place). Replays c.args.version segment place c.args.kernel state count end)
+    (subst (λ (place : Place). ReplaysFrom c.args.version segment place c.args.kernel state count end)
     (sym (rw c.in_ok-base.ensures.ok.1 at c.new-made.ensures.place honest)) replays)))
 
 pub returns-clause-state : goal.returns-clause-state
@@ -39,8 +39,8 @@ returns-clause-state g c = λ honest.
     let last = c.replay_all.new.reader in
     let e = c.args.epoch in
     let v = c.args.version in
-    let replays : Replays v segment (first_place 16) c.args.kernel c.in_ok-kernel.kernel last.number last.window.at =
-    subst (λ (place : Place). Replays v segment place c.args.kernel c.in_ok-kernel.kernel last.number last.window.at)
+    let replays : ReplaysFrom v segment (first_place 16) c.args.kernel c.in_ok-kernel.kernel last.number last.window.at =
+    subst (λ (place : Place). ReplaysFrom v segment place c.args.kernel c.in_ok-kernel.kernel last.number last.window.at)
     (rw c.in_ok-base.ensures.ok.1 at c.new-made.ensures.place honest)
     (rw c.in_ok-base.ensures.ok.0 at c.in_ok-kernel.ensures.state honest) in
     let all =

@@ -1,7 +1,7 @@
 use Rattle.std.proofs.Common.{◌≡◌, length, is_some, true}
 use Rattle.std.specs.FinMap as finmap
 use Rattle.ipc_model.specs.calls.PortCalls.{names_in}
-use Rattle.ipc_model.specs.state.State.{with_names}
+use Rattle.ipc_model.specs.state.Ipc.{with_names}
 use Rattle.rights.proofs.OnTheWay.{OnTheWay}
 use Rattle.rights.proofs.arrivals.arrive.Given as goal
 

@@ -1,5 +1,5 @@
 use Rattle.std.proofs.Common.{refl}
-use Rattle.ipc_model.specs.state.State.{Names}
+use Rattle.ipc_model.specs.state.Ipc.{Names}
 use Rattle.rights.proofs.Arriving.{unmoved}
 use Rattle.rights.proofs.copy_out.put_right.Goals as goal
 

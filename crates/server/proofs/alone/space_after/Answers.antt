@@ -4,10 +4,10 @@ use Rattle.server.proofs.alone.space_after.Goals as goal
 
 pub returns-then-is_success : goal.returns-then-is_success
 returns-then-is_success c =
-    λ call. ap (λ (b : Bool). if b then c.args.attached else c.args.space)
-    (sym c.if-is_success.true ∙ c.is_success.ensures call)
+    ap (λ (b : Bool). if b then c.args.attached else c.args.space)
+    (sym c.if-is_success.true ∙ c.is_success.ensures)
 
 pub returns-else-is_success : goal.returns-else-is_success
 returns-else-is_success c =
-    λ call. ap (λ (b : Bool). if b then c.args.attached else c.args.space)
-    (sym c.if-is_success.false ∙ c.is_success.ensures call)
+    ap (λ (b : Bool). if b then c.args.attached else c.args.space)
+    (sym c.if-is_success.false ∙ c.is_success.ensures)

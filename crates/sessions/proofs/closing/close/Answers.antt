@@ -1,4 +1,5 @@
 use Rattle.std.proofs.Common.{◌≤◌, ℕ, List, sym, subst}
+use Rattle.ipc_laws.specs.OnceLaws.{made_once}
 use Rattle.history.specs.Entries.{Begins, records_of}
 use Rattle.history.specs.declared.entry.Entry.{Entry}
 use Rattle.kernel_keeper.specs.Tokens.{SessionValue}
@@ -16,6 +17,15 @@ returns-in_default-clause-unmatched g c honest =
       stands =
           λ slots may. subst (λ (n : ℕ). StandsFor g.L.Founding.base n (records_of store_keeper.entries) slots)
           (sym c.stored-stored.ensures.stored) (parts.left honest slots may);
+    }
+
+pub returns-clause-once : goal.returns-clause-once
+returns-clause-once g c lawful =
+    let history = c.in-Some.ensures.matched.history in
+    record {
+      end = history.state;
+      run = history.run;
+      once = made_once g.L.Founding.base (records_of c.in-Some.past.entries) history.state lawful history.run;
     }
 
 pub returns-clause-seen : goal.returns-clause-seen

@@ -1,7 +1,7 @@
 use Rattle.std.proofs.Common.{◌≡◌, All, List, true, sym, ◌∙◌, ap, subst}
 use Rattle.std.proofs.lemmas.List.Elements.{All-head, All-tail}
 use Rattle.ipc_model.specs.declared.message.Message.{Message}
-use Rattle.ipc_model.specs.state.State.{State, lives}
+use Rattle.ipc_model.specs.state.Ipc.{Ipc, lives}
 use Rattle.snapshot.specs.declared.rows.LivePort.{LivePort}
 use Rattle.snapshot_loading.specs.Filling.{filled_all, queued_all}
 use Rattle.snapshot_loading.specs.FillLaws.{all_queued_alike, linked_messages}
@@ -36,7 +36,7 @@ loop-row-preserved c =
           ∙ ap (λ (rows : List LivePort). filled_all rows now) (sym is)
           ∙ c.loop-row.invariant.left;
       alike =
-          λ s. ap (λ (state : State). lives state s) c.in_ok-queue_messages.ensures
+          λ s. ap (λ (state : Ipc). lives state s) c.in_ok-queue_messages.ensures
           ∙ all_queued_alike row.serial c.as_slice.result.now now s ∙ c.loop-row.invariant.alike s;
       linked =
           All-tail (λ (r : LivePort). is_linked_row (looks_of first) r ≡ true) row beyond

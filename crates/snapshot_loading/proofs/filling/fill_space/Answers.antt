@@ -1,7 +1,7 @@
 use Rattle.std.proofs.Common.{[], List, sym, subst}
 use Rattle.std.specs.FinMap.{empty}
 use Rattle.std.proofs.lemmas.List.Elements.{All-head}
-use Rattle.ipc_model.specs.state.State.{with_names}
+use Rattle.ipc_model.specs.state.Ipc.{with_names}
 use Rattle.ipc_state.specs.Running.{Running}
 use Rattle.snapshot.specs.declared.rows.NamedEntry.{NamedEntry}
 use Rattle.snapshot_loading.specs.FillLaws.{MayName, may_name_first}

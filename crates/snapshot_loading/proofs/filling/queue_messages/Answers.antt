@@ -2,7 +2,7 @@ use Rattle.std.proofs.Common.{◌≡◌, All, List, true, sym, ◌∙◌, ap, su
 use Rattle.std.proofs.lemmas.List.Elements.{All-head, All-tail}
 use Rattle.ipc_model.specs.declared.message.Message.{Message}
 use Rattle.ipc_model.specs.effects.Effects.{queued}
-use Rattle.ipc_model.specs.state.State.{lives}
+use Rattle.ipc_model.specs.state.Ipc.{lives}
 use Rattle.ipc_state.specs.Live.{carries_live}
 use Rattle.ipc_state.specs.Running.{Running}
 use Rattle.snapshot_loading.specs.Filling.{queued_all}

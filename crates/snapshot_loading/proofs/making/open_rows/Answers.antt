@@ -1,5 +1,5 @@
 use Rattle.std.proofs.Common.{List, sym, ◌∙◌, ◌≡◌, ◌≤◌, ap, subst}
-use Rattle.ipc_model.specs.state.State.{State}
+use Rattle.ipc_model.specs.state.Ipc.{Ipc}
 use Rattle.ipc_state.specs.Running.{Running}
 use Rattle.snapshot.specs.declared.rows.LivePort.{LivePort}
 use Rattle.snapshot.specs.declared.rows.Space.{Space}
@@ -17,7 +17,7 @@ open_ports-requires c =
 pub set_next_serial-requires : goal.set_next_serial-requires
 set_next_serial-requires c =
     let old = c.args.state.now.current in
-    subst (λ (state : State). state.next ≤ c.args.snapshot.now.next_serial)
+    subst (λ (state : Ipc). state.next ≤ c.args.snapshot.now.next_serial)
     (sym (c.in_ok-open_ports.ensures ∙ ap (λ (rows : List LivePort). opened_all rows old) c.as_slice.ensures))
     (past_all c.args.snapshot.now c.requires.shaped old c.requires.nothing)
 
@@ -31,8 +31,8 @@ fill_spaces-requires c =
     let now : c.set_next_serial.new.self.current
     ≡ record (opened_all snapshot.ports nothing) { next = snapshot.next_serial } = ap
     (λ (r : Running). r.current) c.set_next_serial.ensures ∙ ap
-    (λ (s : State). record s { next = snapshot.next_serial }) opens in
-    subst (λ (state : State). MaySpace c.as_slice-2.result.now state) (sym now)
+    (λ (s : Ipc). record s { next = snapshot.next_serial }) opens in
+    subst (λ (state : Ipc). MaySpace c.as_slice-2.result.now state) (sym now)
     (subst (λ (rows : List Space). MaySpace rows
     (record (opened_all snapshot.ports nothing) { next = snapshot.next_serial })) (sym c.as_slice-2.ensures)
     (may_space snapshot c.requires.shaped))
@@ -47,7 +47,7 @@ returns c =
     let now : c.set_next_serial.new.self.current
     ≡ record (opened_all snapshot.ports nothing) { next = snapshot.next_serial } = ap
     (λ (r : Running). r.current) c.set_next_serial.ensures ∙ ap
-    (λ (s : State). record s { next = snapshot.next_serial }) opens in
+    (λ (s : Ipc). record s { next = snapshot.next_serial }) opens in
     c.in_ok-fill_spaces.ensures ∙ ap
     (λ (rows : List Space). spaced_all rows c.set_next_serial.new.self.current) c.as_slice-2.ensures
     ∙ ap (spaced_all snapshot.spaces) now ∙ skeleton_is snapshot

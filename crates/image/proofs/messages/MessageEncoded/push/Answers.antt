@@ -3,7 +3,7 @@ use Rattle.image.specs.Parts.{added, after_complex, after_destination, after_id,
 use Rattle.ipc_model.specs.messages.Receiving.{message_size}
 use Rattle.ipc_model.specs.rights.Dispositions.{number_of_kind}
 use Rattle.ipc_model.specs.encodings.Images.{carried_encoding, reply_right_encoding}
-use Rattle.ipc_model.specs.encodings.Encodings.{number_of_bool}
+use Rattle.ipc_model.specs.encodings.PlainCalls.{number_of_bool}
 use Rattle.words.specs.Words.{word}
 use Rattle.image.proofs.messages.MessageEncoded.push.Goals as goal
 

@@ -3,7 +3,7 @@ use Rattle.image.specs.Parts.{after_head, message_apart, message_found, none_and
 use Rattle.ipc_laws.specs.EncodingLaws.{word_once}
 use Rattle.ipc_model.specs.messages.Receiving.{message_size}
 use Rattle.ipc_model.specs.encodings.Images.{carried_encoding}
-use Rattle.ipc_model.specs.encodings.Encodings.{IsMessageSize}
+use Rattle.ipc_model.specs.encodings.PlainCalls.{IsMessageSize}
 use Rattle.image.proofs.messages.MessageEncoded.take.Goals as goal
 
 pub returns-in_default-clause-only : goal.returns-in_default-clause-only

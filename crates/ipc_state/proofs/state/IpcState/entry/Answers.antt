@@ -1,5 +1,5 @@
 use Rattle.std.proofs.Common.{ap, ◌∙◌}
-use Rattle.ipc_model.specs.state.State.{entry_at}
+use Rattle.ipc_model.specs.state.Ipc.{entry_at}
 use Rattle.ipc_state.specs.Running.{Running}
 use Rattle.ipc_state.specs.There.{entry_named}
 use Rattle.ipc_state.proofs.state.IpcState.entry.Goals as goal

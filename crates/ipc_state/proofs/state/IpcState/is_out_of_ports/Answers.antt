@@ -1,5 +1,5 @@
 use Rattle.std.proofs.Common.{◌==◌, ◌||◌, ◌-◌, ◌^◌, Bool, ℕ, ap, sym, ◌∙◌}
-use Rattle.ipc_model.specs.state.State.{ports_are_used_up}
+use Rattle.ipc_model.specs.state.Ipc.{ports_are_used_up}
 use Rattle.ipc_state.specs.Running.{Running}
 use Rattle.ipc_state.proofs.state.IpcState.is_out_of_ports.Goals as goal
 

@@ -1,6 +1,6 @@
 use Rattle.std.proofs.Common.{ℕ, ◌+◌, Option, List, ◌++◌, append_assoc, append-nil, ap, sym, ◌∙◌, arith}
 use Rattle.ipc_model.specs.calls.PortCalls.{names_in}
-use Rattle.ipc_model.specs.state.State.{entry_at}
+use Rattle.ipc_model.specs.state.Ipc.{entry_at}
 use Rattle.ipc_model.specs.declared.entry.Entry.{Entry}
 use Rattle.ipc_state.specs.SetNames.{from_all, from_next, from_none, member_at, members_from}
 use Rattle.ipc_state.specs.There.{entry_named}

@@ -1,6 +1,6 @@
 use Rattle.std.proofs.Common.{Some, arith}
 use Rattle.std.specs.FinMap.{insert}
-use Rattle.ipc_model.specs.state.State.{Names}
+use Rattle.ipc_model.specs.state.Ipc.{Names}
 use Rattle.ipc_state.proofs.Kept.{name_changed, put_looks}
 use Rattle.ipc_state.proofs.state.IpcState.put_name.Goals as goal
 

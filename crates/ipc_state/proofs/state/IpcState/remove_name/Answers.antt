@@ -1,6 +1,6 @@
 use Rattle.std.proofs.Common.{None, arith}
 use Rattle.std.specs.FinMap.{remove}
-use Rattle.ipc_model.specs.state.State.{Names}
+use Rattle.ipc_model.specs.state.Ipc.{Names}
 use Rattle.ipc_state.proofs.Kept.{name_changed, gone_looks}
 use Rattle.ipc_state.proofs.state.IpcState.remove_name.Goals as goal
 

@@ -1,12 +1,12 @@
 use Rattle.std.proofs.Common.{◌≡◌, ℕ, ◌+◌, ◌<◌, None, ap, sym, ◌∙◌, arith}
 use Rattle.std.specs.FinMap.{get, remove}
 use Rattle.ipc_model.specs.calls.PortCalls.{names_in}
-use Rattle.ipc_model.specs.state.State.{State, without_name}
+use Rattle.ipc_model.specs.state.Ipc.{Ipc, without_name}
 use Rattle.ipc_state.specs.Running.{Running}
 use Rattle.ipc_state.proofs.Kept.{all_gone, one_gone, same_alongside}
 use Rattle.ipc_state.proofs.state.IpcState.remove_space.Goals as goal
 
-went : (state : State) (old new : Running) (space name next : ℕ) → new ≡ record old { current = state } → next ≡ name
+went : (state : Ipc) (old new : Running) (space name next : ℕ) → new ≡ record old { current = state } → next ≡ name
     → ((q : ℕ) → q < name + 1 → get (names_in state space) q ≡ None) → (q : ℕ) → q < next + 1
     → get (names_in new.current space) q ≡ None
 went state old new space name next is same gone q less =

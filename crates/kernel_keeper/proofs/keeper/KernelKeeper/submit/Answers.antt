@@ -135,5 +135,5 @@ returns-in-Err-clause-full g c = λ acknowledged.
 pub returns-in-Ok-clause-wakes : goal.returns-in-Ok-clause-wakes
 returns-in-Ok-clause-wakes g c =
     let a = c.apply-past in
-    subst (λ (v : KernelKeeperValue). Wakes v.core.half.kernel a.new.self.half.kernel (names a.new.places))
+    subst (λ (v : KernelKeeperValue). Wakes v.core.half.kernel.ipc a.new.self.half.kernel.ipc (names a.new.places))
     c.self.view_is (rw c.in-Ok.is at a.ensures.wakes)

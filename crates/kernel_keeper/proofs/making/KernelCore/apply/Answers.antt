@@ -61,4 +61,4 @@ pub returns-clause-wakes : goal.returns-clause-wakes
 returns-clause-wakes g c =
     let a = c.apply_with_witness-kept in
     subst (λ (v : KernelCoreValue). IfOk a.result.2
-    (λ ticket. Wakes v.half.kernel a.new.half.kernel (names a.new.places))) c.self.view_is a.ensures.wakes
+    (λ ticket. Wakes v.half.kernel.ipc a.new.half.kernel.ipc (names a.new.places))) c.self.view_is a.ensures.wakes

@@ -1,6 +1,6 @@
 use Rattle.std.proofs.Common.{◌+◌, ◌∙◌, ap, arith}
 use Rattle.std.specs.FinMap as map
-use Rattle.ipc_model.specs.state.State.{new_port}
+use Rattle.ipc_model.specs.state.Ipc.{new_port}
 use Rattle.live_ports.specs.PortTable.{TrackedPorts}
 use Rattle.live_ports.specs.Seen.{as_seen}
 use Rattle.live_ports.specs.SeenLaws.{len_seen, seen_added}

@@ -1,7 +1,7 @@
 use Rattle.std.proofs.Common.{refl, sym, ◌∙◌, ap, subst}
 use Rattle.std.specs.FinMap as map
 use Rattle.live_ports.specs.Tables.{former_ports, AreMarked}
-use Rattle.ipc_model.specs.state.State.{new_port}
+use Rattle.ipc_model.specs.state.Ipc.{new_port}
 use Rattle.live_ports.proofs.Slotted.{former_born, marked_born, marked_noted, present_born}
 use Rattle.live_ports.proofs.tables.Tables.add.Goals as goal
 

@@ -1,6 +1,6 @@
 use Rattle.std.proofs.Common.{ap, ◌∙◌}
 use Rattle.ipc_model.specs.declared.entry.Entry.{Entry}
-use Rattle.ipc_model.specs.state.State.{name_of_port}
+use Rattle.ipc_model.specs.state.Ipc.{name_of_port}
 use Rattle.tracked_map.specs.Tracked.{Tracked}
 use Rattle.port_space.proofs.Answering.{name_is}
 use Rattle.port_space.proofs.Standing.{small_bounded}

@@ -1,6 +1,6 @@
 use Rattle.std.proofs.Common.{◌≡◌, ℕ, Option, option_and_then, refl, sym, ◌∙◌, ap, subst, arith}
 use Rattle.std.specs.FinMap.{get, insert}
-use Rattle.ipc_model.specs.state.State.{port_held}
+use Rattle.ipc_model.specs.state.Ipc.{port_held}
 use Rattle.port_space.specs.Alongside.{with_port, without_port}
 use Rattle.ipc_model.specs.declared.entry.Entry.{Entry}
 use Rattle.tracked_map.specs.Tracked.{Tracked}

@@ -1,6 +1,6 @@
 use Rattle.std.proofs.Common.{◌≡◌, ℕ, ◌<◌, false}
 use Rattle.ipc_model.specs.effects.Effects.{map_values}
-use Rattle.ipc_model.specs.state.State.{is_number}
+use Rattle.ipc_model.specs.state.Ipc.{is_number}
 use Rattle.ports.specs.Indexes.{no_senders_of, target_at}
 use Rattle.ports.specs.Requests.{no_senders_forgotten, requests}
 use Rattle.ports.proofs.ports.Ports.forget_no_senders.Given as goal

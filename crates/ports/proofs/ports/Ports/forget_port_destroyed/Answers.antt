@@ -1,6 +1,6 @@
 use Rattle.std.proofs.Common.{◌<◌, ap, sym, ◌∙◌, subst}
 use Rattle.ipc_model.specs.effects.Effects.{map_values}
-use Rattle.ipc_model.specs.state.State.{is_number}
+use Rattle.ipc_model.specs.state.Ipc.{is_number}
 use Rattle.live_ports.specs.PortTable.{TrackedPorts}
 use Rattle.ports.specs.Indexes.{destroyed_of, target_at}
 use Rattle.ports.specs.Requests.{destroyed_cleared, destroyed_forgotten, all_forgotten, cleared_fewer, cleared_passed, cleared_settles, none_requests, forgets_destroyed, requests, table_is}

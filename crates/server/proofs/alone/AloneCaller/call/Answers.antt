@@ -16,11 +16,11 @@ returns-then-self-clause-fails g c =
 pub returns-in-Ok-clause-answers : goal.returns-in-Ok-clause-answers
 returns-in-Ok-clause-answers g c =
     let attached =
-    ap (λ (n : ℕ). if succeeded c.args.call c.in-Ok.reply then n else c.self.inside.space)
+    ap (λ (n : ℕ). if succeeded c.in-Ok.reply then n else c.self.inside.space)
     c.attached_by-attached.ensures in
     let after = c.space_after-self-inside.result in
     rw (← c.self.view_is) (record {
-      stored = (c.in-Ok.ensures.answers, c.space_after-self-inside.ensures c.args.call ∙ attached, c.if-self.false);
+      stored = (c.in-Ok.ensures.answers, c.space_after-self-inside.ensures ∙ attached, c.if-self.false);
       unrecorded = λ none.
           let same = c.in-Ok.ensures.unrecorded none in
           λ i. record { kernel = same.0 i; store = same.1 i; space = after; failed = c.self.inside.failed };

@@ -1,6 +1,6 @@
 use Rattle.std.proofs.Common.{◌≡◌, Some, ap, sym, subst, ◌∙◌}
 use Rattle.std.specs.FinMap.{empty, get}
-use Rattle.ipc_model.specs.state.State.{Names}
+use Rattle.ipc_model.specs.state.Ipc.{Names}
 use Rattle.spaces.specs.Counting.{closed_counted}
 use Rattle.spaces.specs.Indexes.{AreIndexed, same_indexed, closed_alike}
 use Rattle.spaces.specs.Noted.{AreNoted, alike_noted, before_noted}

@@ -1,7 +1,7 @@
 use Rattle.std.proofs.Common.{ap, subst}
 use Rattle.spaces.specs.Indexes.{IsNextAt, next_at}
 use Rattle.spaces.specs.Slots.{SpaceMap, TrackedSpaces}
-use Rattle.ipc_model.specs.state.State.{received_port}
+use Rattle.ipc_model.specs.state.Ipc.{received_port}
 use Rattle.spaces.proofs.spaces.Spaces.next_receiver.Goals as goal
 
 pub returns : goal.returns

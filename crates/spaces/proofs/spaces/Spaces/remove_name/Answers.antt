@@ -1,7 +1,7 @@
 use Rattle.std.proofs.Common.{None, is_some, ap, ◌∙◌}
 use Rattle.std.specs.Cmp.{nat_cmp_total}
 use Rattle.std.specs.FinMap.{get, remove, get-remove}
-use Rattle.ipc_model.specs.state.State.{Names}
+use Rattle.ipc_model.specs.state.Ipc.{Names}
 use Rattle.spaces.specs.Indexes.{indexed_before, indexed_after}
 use Rattle.spaces.specs.Noted.{before_noted, one_noted}
 use Rattle.spaces.specs.Slots.{TrackedSpaces}

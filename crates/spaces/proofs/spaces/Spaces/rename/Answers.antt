@@ -1,6 +1,6 @@
 use Rattle.std.proofs.Common.{ap, sym, ◌∙◌}
 use Rattle.std.specs.FinMap.{get, insert}
-use Rattle.ipc_model.specs.state.State.{Names}
+use Rattle.ipc_model.specs.state.Ipc.{Names}
 use Rattle.spaces.specs.Laws.{both}
 use Rattle.spaces.specs.Slots.{SpaceMap, TrackedSpaces, names_changed}
 use Rattle.spaces.specs.Renamed.{renamed, none_removed, not_renamed, room_left}

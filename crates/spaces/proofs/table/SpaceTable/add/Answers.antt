@@ -1,7 +1,7 @@
 use Rattle.std.proofs.Common.{ℕ, ◌+◌, cond, Option, None, is_some, ap, sym, subst, ◌∙◌}
 use Rattle.std.specs.Cmp.{nat_cmp_total}
 use Rattle.std.specs.FinMap.{empty, get, insert, len, len-insert}
-use Rattle.ipc_model.specs.state.State.{Names}
+use Rattle.ipc_model.specs.state.Ipc.{Names}
 use Rattle.tracked_map.specs.Slots.{picked}
 use Rattle.tracked_map.specs.Touched.{AreTouched}
 use Rattle.spaces.specs.Slots.{SpaceSlots, TrackedSpaces, was, is}

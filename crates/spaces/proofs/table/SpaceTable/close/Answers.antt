@@ -1,6 +1,6 @@
 use Rattle.std.proofs.Common.{ℕ, ◌-◌, Option, None, Some, refl, ap, sym, subst, ◌∙◌, arith}
 use Rattle.std.specs.FinMap.{get, remove, len}
-use Rattle.ipc_model.specs.state.State.{Names}
+use Rattle.ipc_model.specs.state.Ipc.{Names}
 use Rattle.tracked_map.specs.Slots.{picked, get_picked}
 use Rattle.tracked_map.specs.Touched.{AreTouched}
 use Rattle.spaces.specs.Slots.{SpaceSlot, SpaceSlots, TrackedSpaces, was, is}

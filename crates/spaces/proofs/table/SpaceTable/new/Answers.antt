@@ -1,7 +1,7 @@
 use Rattle.std.proofs.Common.{ap, sym, subst, ◌∙◌}
 use Rattle.std.specs.Ordering.{nat_cmp}
 use Rattle.std.specs.FinMap.{len, len-empty}
-use Rattle.ipc_model.specs.state.State.{Names}
+use Rattle.ipc_model.specs.state.Ipc.{Names}
 use Rattle.spaces.specs.Numbers.{AreTaken}
 use Rattle.spaces.specs.Laws as laws
 use Rattle.spaces.proofs.table.SpaceTable.new.Goals as goal

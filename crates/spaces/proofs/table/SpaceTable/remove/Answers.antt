@@ -1,6 +1,6 @@
 use Rattle.std.proofs.Common.{option_map, refl, ap, sym, subst, ◌∙◌}
 use Rattle.std.specs.FinMap.{remove, len}
-use Rattle.ipc_model.specs.state.State.{Names}
+use Rattle.ipc_model.specs.state.Ipc.{Names}
 use Rattle.tracked_map.specs.Slots.{picked}
 use Rattle.tracked_map.specs.Touched.{AreTouched, exchanged}
 use Rattle.spaces.specs.Slots.{SpaceSlot, SpaceSlots, TrackedSpaces, was, is, rolled_back_slot, names_changed}

@@ -38,6 +38,7 @@ returns-clause-cut c =
       acyclic = c.show_image.ensures.acyclic;
       short = c.show_image.ensures.short;
       limits = λ serial port at. tt;
+      kept = tt;
     } in
     let made : c.new.result.epoch ≡ c.self.inside.epoch + 1 = ap (λ (v : CutValue). v.epoch) c.new.ensures in
     let log : c.new.result.log ≡ c.self.inside.log.length =

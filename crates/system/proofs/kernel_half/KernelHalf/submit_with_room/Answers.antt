@@ -79,5 +79,5 @@ returns-clause-given g c =
 pub returns-clause-wakes : goal.returns-clause-wakes
 returns-clause-wakes g c =
     let a = c.apply_with_witness-witness in
-    subst (λ (k : KernelValue). Wakes k.kernel a.new.kernel (names a.new.places)) c.self.view_is
+    subst (λ (k : KernelValue). Wakes k.kernel.ipc a.new.kernel.ipc (names a.new.places)) c.self.view_is
     (rw c.in-Ok.is at a.ensures.wakes)

@@ -1,7 +1,7 @@
 use Rattle.std.proofs.Common.{◌≡◌, true, subst, ap}
 use Rattle.std.specs.Prelude.{IfNone, Option}
 use Rattle.ipc_model.specs.calls.Step.{Step, has_record}
-use Rattle.ipc_model.specs.declared.call.Reply.{Reply}
+use Rattle.ipc_model.specs.declared.reply.Reply.{Reply}
 use Rattle.ipc_model.specs.state.State.{State}
 use Rattle.system.proofs.kernel_half.KernelHalf.submit_without_room.Goals as goal
 

@@ -1,4 +1,5 @@
-use Rattle.ipc_model.specs.declared.call.Reply.TheVariants as reply
+use Rattle.ipc_model.specs.declared.plain_reply.PlainReply.TheVariants.{Done}
+use Rattle.ipc_model.specs.declared.reply.Reply.TheVariants as reply
 use Rattle.system.specs.declared.event.Event.TheVariants as event
 use Rattle.system.specs.declared.event.Outcome.TheVariants as outcome
 use Rattle.std.proofs.Common.{inl, inr, refl, sym, subst}
@@ -14,7 +15,7 @@ use Rattle.system.proofs.system.System.append_event.Goals as goal
 pub returns-in-Ok-true-clause-steps : goal.returns-in-Ok-true-clause-steps
 returns-in-Ok-true-clause-steps g c = λ base w stands.
     steps_of g.D.Disk.honest g.D.Disk.view base w event.Append outcome.Done
-    (reply.Done 0) c.args.self.now c.append.new.self
+    (reply.Plain (Done 0)) c.args.self.now c.append.new.self
     (shows_append g.D.Disk.honest g.D.Disk.view base w c.args.self.now c.append.new.self stands
     (match_true _ _ c.in-Ok-true.field-0 c.in-Ok-true.field-0-test c.in-Ok-true.ensures.done))
 
@@ -22,7 +23,7 @@ pub returns-in-Ok-false-clause-steps : goal.returns-in-Ok-false-clause-steps
 returns-in-Ok-false-clause-steps g c = λ base w stands.
     let none = match_false _ _ c.in-Ok-false.field-0 c.in-Ok-false.field-0-test c.in-Ok-false.ensures.done in
     steps_of g.D.Disk.honest g.D.Disk.view base w event.Append outcome.NotNow
-    (reply.Done 0) c.args.self.now c.append.new.self
+    (reply.Plain (Done 0)) c.args.self.now c.append.new.self
     (shows_no_append g.D.Disk.honest g.D.Disk.view base w c.args.self.now c.append.new.self stands none.0 none.1 none.2)
 
 pub returns-in-Err-clause-steps : goal.returns-in-Err-clause-steps
@@ -33,13 +34,13 @@ returns-in-Err-clause-steps g c = λ base w stands.
     elim c.in-Err.ensures.faults as (λ _. Shown c.in-Err.fault) [
       | inl failed ↦ subst Shown (sym failed.0)
           (steps_of g.D.Disk.honest g.D.Disk.view base w event.Append (outcome.Store Failed)
-          (reply.Done 0) c.args.self.now c.append.new.self
+          (reply.Plain (Done 0)) c.args.self.now c.append.new.self
           (shows_failed g.D.Disk.honest g.D.Disk.view base w world.append c.args.self.now c.append.new.self stands refl
           failed.1 failed.2))
       | inr now ↦ elim now as (λ _. Shown c.in-Err.fault) [
         | inl device ↦ subst Shown (sym device.0)
             (steps_of g.D.Disk.honest g.D.Disk.view base w event.Append (outcome.Store Device)
-            (reply.Done 0) c.args.self.now c.append.new.self
+            (reply.Plain (Done 0)) c.args.self.now c.append.new.self
             (shows_append_fails g.D.Disk.honest g.D.Disk.view base w c.args.self.now c.append.new.self stands device.1))
         | inr full ↦ absurd (never_full g.D.Disk.honest g.D.Disk.view base w c.args.self.now c.append.new.self stands
             full.1)

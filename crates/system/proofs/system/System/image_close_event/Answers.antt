@@ -1,4 +1,5 @@
-use Rattle.ipc_model.specs.declared.call.Reply.TheVariants as reply
+use Rattle.ipc_model.specs.declared.plain_reply.PlainReply.TheVariants.{Done}
+use Rattle.ipc_model.specs.declared.reply.Reply.TheVariants as reply
 use Rattle.system.specs.declared.event.Event.TheVariants as event
 use Rattle.system.specs.declared.event.Outcome.TheVariants as outcome
 use Rattle.std.proofs.Common.{inl, inr, refl, sym, subst}
@@ -14,7 +15,7 @@ use Rattle.system.proofs.system.System.image_close_event.Goals as goal
 pub returns-in-Ok-true-clause-steps : goal.returns-in-Ok-true-clause-steps
 returns-in-Ok-true-clause-steps g c = λ base w stands.
     steps_of g.D.Disk.honest g.D.Disk.view base w event.ImageClose outcome.Done
-    (reply.Done 0) c.args.self.now c.close_image.new.self
+    (reply.Plain (Done 0)) c.args.self.now c.close_image.new.self
     (shows_image_close g.D.Disk.honest g.D.Disk.view base w c.args.self.now c.close_image.new.self stands
     (match_true _ _ c.in-Ok-true.field-0 c.in-Ok-true.field-0-test c.in-Ok-true.ensures.done)
     c.close_image.ensures.rest)
@@ -22,7 +23,7 @@ returns-in-Ok-true-clause-steps g c = λ base w stands.
 pub returns-in-Ok-false-clause-steps : goal.returns-in-Ok-false-clause-steps
 returns-in-Ok-false-clause-steps g c = λ base w stands.
     steps_of g.D.Disk.honest g.D.Disk.view base w event.ImageClose outcome.NotNow
-    (reply.Done 0) c.args.self.now c.close_image.new.self
+    (reply.Plain (Done 0)) c.args.self.now c.close_image.new.self
     (shows_no_image_close g.D.Disk.honest g.D.Disk.view base w c.args.self.now c.close_image.new.self stands
     (match_false _ _ c.in-Ok-false.field-0 c.in-Ok-false.field-0-test c.in-Ok-false.ensures.done)
     c.close_image.ensures.rest)
@@ -36,18 +37,18 @@ returns-in-Err-clause-steps g c = λ base w stands.
       | inl known ↦ elim known as (λ _. Shown c.in-Err.fault) [
         | inl failed ↦ subst Shown (sym failed.0)
             (steps_of g.D.Disk.honest g.D.Disk.view base w event.ImageClose (outcome.Store Failed)
-            (reply.Done 0) c.args.self.now c.close_image.new.self
+            (reply.Plain (Done 0)) c.args.self.now c.close_image.new.self
             (failed_step g.D.Disk.honest g.D.Disk.view base w world.image_close c.args.self.now c.close_image.new.self
             stands refl failed.1 c.close_image.ensures.rest failed.2))
         | inr device ↦ subst Shown (sym device.0)
             (steps_of g.D.Disk.honest g.D.Disk.view base w event.ImageClose (outcome.Store Device)
-            (reply.Done 0) c.args.self.now c.close_image.new.self
+            (reply.Plain (Done 0)) c.args.self.now c.close_image.new.self
             (shows_image_close_fails g.D.Disk.honest g.D.Disk.view base w c.args.self.now c.close_image.new.self stands
             device.1 c.close_image.ensures.rest))
       ]
       | inr short ↦ subst Shown (sym short.0)
           (steps_of g.D.Disk.honest g.D.Disk.view base w event.ImageClose (outcome.Store NoMemory)
-          (reply.Done 0) c.args.self.now c.close_image.new.self
+          (reply.Plain (Done 0)) c.args.self.now c.close_image.new.self
           (shows_shortage g.D.Disk.honest g.D.Disk.view base w c.args.self.now c.close_image.new.self stands short.1
           short.2 c.close_image.ensures.rest short.3))
     ]

@@ -1,7 +1,7 @@
 use Rattle.std.proofs.Common.{◌≡◌, None, false, refl, sym, ap, subst, ◌∙◌}
 use Rattle.checkpoint_phases.specs.Passed.{IsKept}
 use Rattle.ipc_model.specs.state.Circular.{Acyclic}
-use Rattle.ipc_model.specs.state.Lawful.{Lawful}
+use Rattle.ipc_model.specs.state.LawfulState.{LawfulState}
 use Rattle.ipc_model.specs.world.World.{first_world}
 use Rattle.system.specs.Core.{StandsFor, SystemValue, first_system}
 use Rattle.system.specs.Order.{IsInOrder}
@@ -51,7 +51,7 @@ returns-clause-stands g c =
     subst (StandsFor g.D.Disk.honest g.D.Disk.view opened.kernel
     (first_world opened.segment.epoch opened.segment.records)) (sym is)
     (first_stands g.D.Disk.honest g.D.Disk.view opened.kernel opened.kernel opened.disk opened.segment refl
-    (subst (λ o. Lawful o.kernel) c.opened.view_is c.show_image.ensures.lawful)
-    (subst (λ o. Acyclic o.kernel) c.opened.view_is c.show_image.ensures.acyclic)
+    (subst (λ o. LawfulState o.kernel) c.opened.view_is c.show_image.ensures.lawful)
+    (subst (λ o. Acyclic o.kernel.ipc) c.opened.view_is c.show_image.ensures.acyclic)
     (subst (λ o. g.D.Disk.honest → IsKept (g.D.Disk.view o.disk) o.segment o.kernel) c.opened.view_is
     c.opened.invariant))

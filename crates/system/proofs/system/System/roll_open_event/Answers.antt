@@ -1,4 +1,5 @@
-use Rattle.ipc_model.specs.declared.call.Reply.TheVariants as reply
+use Rattle.ipc_model.specs.declared.plain_reply.PlainReply.TheVariants.{Done}
+use Rattle.ipc_model.specs.declared.reply.Reply.TheVariants as reply
 use Rattle.system.specs.declared.event.Event.TheVariants as event
 use Rattle.system.specs.declared.event.Outcome.TheVariants as outcome
 use Rattle.std.proofs.Common.{inl, inr, refl, sym, subst}
@@ -14,7 +15,7 @@ use Rattle.system.proofs.system.System.roll_open_event.Goals as goal
 pub returns-in-Ok-true-clause-steps : goal.returns-in-Ok-true-clause-steps
 returns-in-Ok-true-clause-steps g c = λ base w stands.
     steps_of g.D.Disk.honest g.D.Disk.view base w event.RollOpen outcome.Done
-    (reply.Done 0) c.args.self.now c.roll_open.new.self
+    (reply.Plain (Done 0)) c.args.self.now c.roll_open.new.self
     (shows_roll_open g.D.Disk.honest g.D.Disk.view base w c.args.self.now c.roll_open.new.self stands
     (match_true _ _ c.in-Ok-true.field-0 c.in-Ok-true.field-0-test c.in-Ok-true.ensures.done)
     c.roll_open.ensures.rest)
@@ -22,7 +23,7 @@ returns-in-Ok-true-clause-steps g c = λ base w stands.
 pub returns-in-Ok-false-clause-steps : goal.returns-in-Ok-false-clause-steps
 returns-in-Ok-false-clause-steps g c = λ base w stands.
     steps_of g.D.Disk.honest g.D.Disk.view base w event.RollOpen outcome.NotNow
-    (reply.Done 0) c.args.self.now c.roll_open.new.self
+    (reply.Plain (Done 0)) c.args.self.now c.roll_open.new.self
     (shows_no_roll_open g.D.Disk.honest g.D.Disk.view base w c.args.self.now c.roll_open.new.self stands
     (match_false _ _ c.in-Ok-false.field-0 c.in-Ok-false.field-0-test c.in-Ok-false.ensures.done)
     c.roll_open.ensures.rest)
@@ -35,12 +36,12 @@ returns-in-Err-clause-steps g c = λ base w stands.
     elim c.in-Err.ensures.faults as (λ _. Shown c.in-Err.fault) [
       | inl failed ↦ subst Shown (sym failed.0)
           (steps_of g.D.Disk.honest g.D.Disk.view base w event.RollOpen (outcome.Store Failed)
-          (reply.Done 0) c.args.self.now c.roll_open.new.self
+          (reply.Plain (Done 0)) c.args.self.now c.roll_open.new.self
           (failed_step g.D.Disk.honest g.D.Disk.view base w world.roll_open c.args.self.now c.roll_open.new.self stands
           refl failed.1 c.roll_open.ensures.rest failed.2))
       | inr device ↦ subst Shown (sym device.0)
           (steps_of g.D.Disk.honest g.D.Disk.view base w event.RollOpen (outcome.Store Device)
-          (reply.Done 0) c.args.self.now c.roll_open.new.self
+          (reply.Plain (Done 0)) c.args.self.now c.roll_open.new.self
           (shows_roll_open_fails g.D.Disk.honest g.D.Disk.view base w c.args.self.now c.roll_open.new.self stands
           device.1 c.roll_open.ensures.rest))
     ]

@@ -1,4 +1,5 @@
-use Rattle.ipc_model.specs.declared.call.Reply.TheVariants as reply
+use Rattle.ipc_model.specs.declared.plain_reply.PlainReply.TheVariants.{Done}
+use Rattle.ipc_model.specs.declared.reply.Reply.TheVariants as reply
 use Rattle.system.specs.declared.event.Event.TheVariants as event
 use Rattle.system.specs.declared.event.Outcome.TheVariants as outcome
 use Rattle.std.proofs.Common.{Err, ap}
@@ -15,13 +16,13 @@ returns-in-Ok-clause-steps g c = λ base w stands.
 pub returns-in-Err-EpochFull-clause-steps : goal.returns-in-Err-EpochFull-clause-steps
 returns-in-Err-EpochFull-clause-steps g c = λ base w stands.
     steps_of g.D.Disk.honest g.D.Disk.view base w (event.Submit c.args.space c.args.call.now) outcome.EpochFull
-    (reply.Done 0) c.args.self.now c.submit.new.self
+    (reply.Plain (Done 0)) c.args.self.now c.submit.new.self
     (shows_full g.D.Disk.honest g.D.Disk.view base w c.args.self.now c.submit.new.self c.args.space c.args.call.now
     stands (c.in-Err-EpochFull.ensures.full (ap Err c.in-Err-EpochFull.field-0-is)) c.in-Err-EpochFull.ensures.err)
 
 pub returns-in-Err-NoMemory-clause-steps : goal.returns-in-Err-NoMemory-clause-steps
 returns-in-Err-NoMemory-clause-steps g c = λ base w stands.
     steps_of g.D.Disk.honest g.D.Disk.view base w (event.Submit c.args.space c.args.call.now) outcome.NoMemory
-    (reply.Done 0) c.args.self.now c.submit.new.self
+    (reply.Plain (Done 0)) c.args.self.now c.submit.new.self
     (shows_no_memory g.D.Disk.honest g.D.Disk.view base w c.args.self.now c.submit.new.self c.args.space c.args.call.now
     stands c.in-Err-NoMemory.ensures.err)

@@ -4,4 +4,4 @@ use Rattle.system.specs.Halves.{TicketValue}
 use Rattle.system.proofs.ticket.Ticket.is_success.Goals as goal
 
 pub returns : goal.returns
-returns c call = c.is_success.ensures call ∙ ap (λ (t : TicketValue). succeeded call t.answer) c.self.view_is
+returns c = c.is_success.ensures ∙ ap (λ (t : TicketValue). succeeded t.answer) c.self.view_is

@@ -1,0 +1,108 @@
+ghost use Rattle.std.specs.Prelude.{◌≡◌, ◌<◌, ◌++◌, length, Some, IfOk, IfSome, OnOk};
+ghost use Rattle.codes.specs.declared.call_number.TheConstants.{NUMBERED};
+ghost use Rattle.ipc_model.specs.declared.call.Call.{Call};
+ghost use Rattle.ipc_model.specs.declared.call.Call.TheVariants as variants;
+ghost use Rattle.ipc_model.specs.declared.plain_call.PlainCall.{PlainCall};
+ghost use Rattle.ipc_model.specs.encodings.PlainCalls as plain_calls;
+ghost use Rattle.ipc_model.specs.encodings.Encodings.{call_encoding, canonical_call, IsCanonicalCall};
+ghost use Rattle.words.specs.Words.{word};
+
+use crate::encode::{push_canonical_plain_call, push_plain_call};
+use crate::read::read_plain_call;
+use crate::word_rows::push_words;
+use codes::NUMBERED;
+use ipc_model::{Call, NumberedCall};
+use std::alloc::{AllocError, Global};
+use words::take_word;
+
+/// Adds the number and the arguments of a call. If an allocation fails, some of them may have been added.
+pub fn push_call(out: &mut Vec<u8>, call: &Call) -> Result<(), AllocError>
+    ensures ok { OnOk result (out.new.items ≡ out.old.items ++ call_encoding call.now) }
+{
+    match call {
+        Call::Plain(call) => push_plain_call(out, call),
+        Call::Numbered(numbered) => {
+            push_words(out, &[NUMBERED, numbered.request])?;
+            push_plain_call(out, &numbered.call)
+        }
+        Call::Unnumberable => push_words(out, &[NUMBERED]),
+    }
+}
+
+/// Adds the number and the arguments of a call as a record keeps it: of a send the message with 0 in place of what a
+/// send ignores. If an allocation fails, some of them may have been added.
+pub fn push_canonical_call(alloc: Global, out: &mut Vec<u8>, call: &Call) -> Result<(), AllocError>
+    ensures ok { OnOk result (out.new.items ≡ out.old.items ++ call_encoding (canonical_call call.now)) }
+{
+    match call {
+        Call::Plain(call) => push_canonical_plain_call(alloc, out, call),
+        Call::Numbered(numbered) => {
+            push_words(out, &[NUMBERED, numbered.request])?;
+            push_canonical_plain_call(alloc, out, &numbered.call)
+        }
+        Call::Unnumberable => push_words(out, &[NUMBERED]),
+    }
+}
+
+/// The call of number 22 whose arguments in a record these are.
+fn read_numbered_call(alloc: Global, arguments: &[u8]) -> Result<Option<Call>, AllocError>
+    ensures found { IfOk result (λ found. IfSome found
+        (λ call. (word NUMBERED ++ arguments.now ≡ call_encoding call) × IsCanonicalCall call)) }
+    ensures only { (call : Call) → IsCanonicalCall call → word NUMBERED ++ arguments.now ≡ call_encoding call
+        → IfOk result (λ found. found ≡ Some call) }
+{
+    let Some((request, content)) = take_word(arguments) else {
+        return Ok(unnumberable_of(arguments));
+    };
+    let Some(call) = read_plain_call(alloc, content)? else {
+        return Ok(None);
+    };
+    Ok(Some(Call::Numbered(NumberedCall { request, call })))
+}
+
+/// The call of number 22 in a record whose arguments are these, fewer than four bytes.
+fn unnumberable_of(arguments: &[u8]) -> Option<Call>
+    requires { length arguments.now < 4 }
+    ensures found { IfSome result (λ call. (word NUMBERED ++ arguments.now ≡ call_encoding call)
+        × IsCanonicalCall call) }
+    ensures only { (call : Call) → IsCanonicalCall call → word NUMBERED ++ arguments.now ≡ call_encoding call
+        → result ≡ Some call }
+{
+    if arguments.is_empty() {
+        Some(Call::Unnumberable)
+    } else {
+        None
+    }
+}
+
+/// The call with a number of its own that these bytes encode, if they encode one as a record has it.
+fn read_own_call(alloc: Global, content: &[u8]) -> Result<Option<Call>, AllocError>
+    ensures found { IfOk result (λ found. IfSome found
+        (λ call. (content.now ≡ call_encoding call) × IsCanonicalCall call)) }
+    ensures only { (call : PlainCall) → plain_calls.IsCanonicalCall call → content.now ≡ plain_calls.call_encoding call
+        → IfOk result (λ found. found ≡ Some (variants.Plain call)) }
+{
+    let found = read_plain_call(alloc, content)?;
+    match found {
+        Some(call) => Ok(Some(Call::Plain(call))),
+        None => Ok(None),
+    }
+}
+
+/// The call that these bytes encode, if they encode a call as a record has it. It can run out of memory only for the
+/// message of a send.
+pub fn read_call(alloc: Global, content: &[u8]) -> Result<Option<Call>, AllocError>
+    ensures found { IfOk result (λ found. IfSome found
+        (λ call. (content.now ≡ call_encoding call) × IsCanonicalCall call)) }
+    ensures only { (call : Call) → IsCanonicalCall call → content.now ≡ call_encoding call
+        → IfOk result (λ found. found ≡ Some call) }
+{
+    let Some((number, arguments)) = take_word(content) else {
+        return Ok(None);
+    };
+    if number == NUMBERED {
+        read_numbered_call(alloc, arguments)
+    } else {
+        read_own_call(alloc, content)
+    }
+}
