@@ -70,11 +70,13 @@ fn serve_round<R: Ahead, W: Write, A: Asker>(
         (R.remaining reader.new) (W.contents writer.new) result)) }
 {
     let taken = take_frames(alloc, reader, asker, all_pending);
+    asker.end_turn();
     acknowledge_all(alloc, writer, asker, reply, all_pending)?;
     Ok(taken?)
 }
 
-/// Takes the frames that were read ahead, or the next one. Returns whether the input goes on.
+/// Takes the frames that were read ahead, or the next one. Returns whether the input goes on. Those after the first are
+/// taken in one turn, which the caller ends.
 fn take_frames<R: Ahead, A: Asker>(
     alloc: Global,
     reader: &mut R,
@@ -92,6 +94,9 @@ fn take_frames<R: Ahead, A: Asker>(
         let Some(request) = read_frame(alloc, reader)? else {
             return Ok(false);
         };
+        if reader.has_frame() {
+            asker.begin_turn();
+        }
         let pending = take_frame(alloc, asker, &request);
         let waits = waits(&pending);
         all_pending.push_back_reserved(pending);
