@@ -20,6 +20,8 @@ mod history_blocks;
 #[cfg(test)]
 mod history_threads;
 #[cfg(test)]
+mod numbered;
+#[cfg(test)]
 mod pieces;
 #[cfg(test)]
 mod service;
