@@ -53,6 +53,14 @@ pub trait Asker {
     /// How the store may fail before a ticket's reply is given, and what it is afterwards.
     ghost fails: { Self → Self.Ticket → StoreFault → Self → Type 0 };
 
+    /// Several calls are made now, and nothing else in between.
+    fn begin_turn(&mut self)
+        ensures { self.new ≡ self.old };
+
+    /// They were made.
+    fn end_turn(&mut self)
+        ensures { self.new ≡ self.old };
+
     /// Makes a call. If the call finds nothing to do and may wait, its wait begins. `None`: it isn't made, since memory
     /// or room for its record ran out, or its task has gone.
     fn submit(&mut self, call: &Call, may_wait: bool) -> Option<Self::Ticket>

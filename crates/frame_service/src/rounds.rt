@@ -3,7 +3,7 @@ ghost use Rattle.std.specs.VecDeque.{deque_capacity, deque_len};
 ghost use Rattle.codes.specs.declared.limits.TheConstants.{MAX_FRAME_CONTENT};
 ghost use Rattle.frame_service.specs.declared.service.ServeFault.TheVariants as serve_fault;
 ghost use Rattle.std.specs.Io.KnownBytes.{Keeps};
-ghost use Rattle.frame_service.specs.Asking.{EndsAsked, EndsOne, EndsRound, EndsAcknowledging, IsLeft, TookFrames};
+ghost use Rattle.frame_service.specs.Asking.{EndsAsked, EndsOne, EndsRound, EndsAcknowledging, IsLeft, IsTaken, TookFrames};
 ghost use Rattle.frame_service.specs.declared.rounds.TheConstants.{MOST_PENDING_FRAMES};
 
 use crate::acknowledging::tell;
@@ -69,12 +69,32 @@ fn serve_round<R: Ahead, W: Write, A: Asker>(
         EndsRound A.answer A.makes A.lacks A.acknowledges A.fails asker.old [] asker.new input before
         (R.remaining reader.new) (W.contents writer.new) result)) }
 {
-    let taken = take_frames(alloc, reader, asker, all_pending);
+    let taken = take_turn(alloc, reader, asker, all_pending);
     acknowledge_all(alloc, writer, asker, reply, all_pending)?;
     Ok(taken?)
 }
 
-/// Takes the frames that were read ahead, or the next one. Returns whether the input goes on.
+/// Takes the frames that were read ahead, or the next one. Returns whether the input goes on. If there are several, they
+/// are taken in one turn of the asker.
+fn take_turn<R: Ahead, A: Asker>(
+    alloc: Global,
+    reader: &mut R,
+    asker: &mut A,
+    all_pending: &mut VecDeque<PendingFrame<A::Ticket>>,
+) -> Result<bool, WireFault>
+    requires none { (all_pending.old.items ≡ []) × (deque_len all_pending.old ≡ 0) }
+    requires capacity { MOST_PENDING_FRAMES ≤ deque_capacity all_pending.old }
+    ensures capacity { MOST_PENDING_FRAMES ≤ deque_capacity all_pending.new }
+    ensures took { IfSome (R.remaining reader.old) (λ input.
+        TookFrames A.answer A.makes A.lacks A.acknowledges A.fails asker.old asker.new all_pending.new.items input
+        (R.remaining reader.new) result) }
+{
+    let taken = take_frames(alloc, reader, asker, all_pending);
+    asker.end_turn();
+    taken
+}
+
+/// Takes them in a turn that doesn't end here.
 fn take_frames<R: Ahead, A: Asker>(
     alloc: Global,
     reader: &mut R,
@@ -92,7 +112,7 @@ fn take_frames<R: Ahead, A: Asker>(
         let Some(request) = read_frame(alloc, reader)? else {
             return Ok(false);
         };
-        let pending = take_frame(alloc, asker, &request);
+        let pending = take_next(alloc, reader, asker, &request);
         let waits = waits(&pending);
         all_pending.push_back_reserved(pending);
         if waits {
@@ -103,6 +123,27 @@ fn take_frames<R: Ahead, A: Asker>(
         }
     }
     Ok(true)
+}
+
+/// Takes a frame in hand: in a turn, if another one was read ahead.
+fn take_next<R: Ahead, A: Asker>(
+    alloc: Global,
+    reader: &R,
+    asker: &mut A,
+    request: &Frame,
+) -> PendingFrame<A::Ticket>
+    ensures { IsTaken A.answer A.makes A.lacks asker.old request.now.content result asker.new }
+{
+    begin_turn_if(asker, reader.has_frame());
+    take_frame(alloc, asker, request)
+}
+
+fn begin_turn_if<A: Asker>(asker: &mut A, is_one: bool)
+    ensures { asker.new ≡ asker.old }
+{
+    if is_one {
+        asker.begin_turn();
+    }
 }
 
 /// Whether a frame in hand has calls that are to be made again after a wait.

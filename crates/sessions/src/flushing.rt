@@ -1,7 +1,7 @@
 //! The loop that stores calls.
 
 use crate::gate::{Gate, LoopStep};
-use crate::shared::{PATIENCE_MILLISECONDS, Shared};
+use crate::shared::{RETRY_MILLISECONDS, Shared};
 use disk::Disk;
 use kernel_keeper::{Founding, Load};
 use std::sync::Wait;
@@ -127,7 +127,7 @@ impl<L: Founding, D: Disk, G: Gate> Shared<L, D, G> {
         let _ = self.store_changed.wait_timeout_while(
             rt,
             self.store_keeper.lock(rt),
-            Duration::from_millis(PATIENCE_MILLISECONDS),
+            Duration::from_millis(RETRY_MILLISECONDS),
             |store_keeper| store_keeper.epoch() != epoch && !store_keeper.has_failed(),
         );
     }

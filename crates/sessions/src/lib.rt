@@ -11,6 +11,7 @@ mod lines;
 mod replies;
 mod seat;
 mod shared;
+mod turn;
 mod waiters;
 
 pub use closing::{Book, Unmatched, close};
@@ -22,3 +23,4 @@ pub use kernel_keeper::{
 pub use seat::{Peer, Seat};
 pub use shared::{NotMade, Shared};
 pub use stored_mark::NewMark;
+pub use turn::Turn;

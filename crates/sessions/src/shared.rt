@@ -8,13 +8,14 @@ ghost use Rattle.kernel_keeper.specs.Tokens.{Did, KeepsRead};
 
 use crate::guarded::{KernelGuarded, Waited};
 use crate::replies::{Replies, Side};
-use crate::seat::{Bell, Peer, Seat};
+use crate::seat::{Peer, Seat};
+use crate::turn::{News, Turn};
 use disk::Disk;
-use ipc_model::{Call, PlainCall, Reply};
+use ipc_model::{Call, Reply};
 use kernel_keeper::{Admission, EntryBlock, Founding, KernelKeeper, Past, Session};
 use std::alloc::Global;
 use std::sync::ledger::Book;
-use std::sync::{Arc, Condvar, Mutex, MutexGuard, Wait};
+use std::sync::{Arc, Condvar, Mutex, Wait};
 use std::thread;
 use std::time::{Clock, Duration};
 use store_fault::StoreFault;
@@ -23,7 +24,7 @@ use stored_mark::{Mark, Stored, Storing};
 use system::{Opened, SubmitFault, Ticket};
 
 /// How many milliseconds a thread waits before it tries again after it ran out of memory.
-pub(crate) const PATIENCE_MILLISECONDS: u64 = 10;
+pub(crate) const RETRY_MILLISECONDS: u64 = 10;
 
 /// Why a call wasn't made. Nothing changed.
 #[derive(Clone, Copy)]
@@ -144,8 +145,11 @@ impl<L: Founding, D: Disk, G: Drop> Shared<L, D, G> {
         ensures err { OnErr result.1 (Did L.base session looked result.0) }
         ensures reads { KeepsRead session.past result.0.past }
     {
-        let guarded = self.lock_guarded(rt);
-        self.make(guarded, session, call, None)
+        let mut turn = self.begin_turn(rt);
+        let (session, made) = turn.guarded.submit(session, call, None);
+        turn.keep_rung();
+        self.end_turn(turn);
+        (session, made)
     }
 
     /// Makes a call of a session as `submit` does, for the task of this seat. A receive isn't made for a task that has
@@ -167,47 +171,29 @@ impl<L: Founding, D: Disk, G: Drop> Shared<L, D, G> {
         ensures err { OnErr result.1 (Did L.base session looked result.0) }
         ensures reads { KeepsRead session.past result.0.past }
     {
-        let mut guarded = self.lock_guarded(rt);
-        // With the lock held, since whatever is sent now is sent after this check.
-        if is_receive(call) && seat.peer().is_gone() {
-            guarded.leave_line(session.number());
-            drop(guarded);
-            session.show_looked();
-            return (session, Err(NotMade::Gone));
-        }
-        let bell = if may_wait { Some(seat.bell()) } else { None };
-        let (session, made) = self.make(guarded, session, call, bell);
-        (session, made.map_err(NotMade::Fault))
+        let mut turn = self.begin_turn(rt);
+        let (session, made) = turn.submit(session, call, seat, may_wait);
+        self.end_turn(turn);
+        (session, made)
     }
 
-    /// Locks what lies under the kernel's lock, once a call may be made.
-    fn lock_guarded<R: Wait>(&self, rt: &R) -> MutexGuard<'_, KernelGuarded<L>> {
-        self.epochs.wait_while(rt, self.guarded.lock(rt), |guarded| guarded.awaits_epoch())
+    /// Takes the kernel's lock, once a call may be made, for several calls.
+    pub fn begin_turn<R: Wait>(&self, rt: &R) -> Turn<'_, L> {
+        let guarded = self.guarded.lock(rt);
+        Turn::new(
+            self.epochs
+                .wait_while(rt, guarded, |guarded| guarded.awaits_epoch()),
+        )
     }
 
-    /// Makes a call, and notifies the loops of what they have to do.
-    fn make(
-        &self,
-        guarded: MutexGuard<'_, KernelGuarded<L>>,
-        session: Session<L>,
-        call: &Call,
-        bell: Option<&Bell>,
-    ) -> (Session<L>, Result<Ticket, SubmitFault>)
-        ensures given { IfOk result.1 (λ ticket. Did L.base session (called call.now ticket.answer) result.0
-            × (ticket.seen ≡ result.0.task.seen)) }
-        ensures err { OnErr result.1 (Did L.base session looked result.0) }
-        ensures reads { KeepsRead session.past result.0.past }
-    {
-        let mut guarded = guarded;
-        let before = guarded.keeper.made();
-        let had_due = guarded.has_turns_due();
-        let made = guarded.submit(session, call, bell);
-        let has_more = before < guarded.keeper.made();
-        let are_over = had_due && !guarded.has_turns_due();
-        let has_image_due = has_more && guarded.has_image_due();
-        let rung = guarded.take_rung();
-        drop(guarded);
-        // After the lock is free, since the call whose turn has come takes it first.
+    /// Frees the kernel's lock, and notifies the loops of what they have to do.
+    pub fn end_turn(&self, turn: Turn<'_, L>) {
+        let News {
+            has_more,
+            are_over,
+            has_image_due,
+            rung,
+        } = turn.end();
         if let Some(bell) = rung {
             bell.ring();
         }
@@ -220,7 +206,6 @@ impl<L: Founding, D: Disk, G: Drop> Shared<L, D, G> {
         if has_image_due {
             self.images_due.notify_all();
         }
-        made
     }
 
     /// Waits at a session's seat until the turn of its call has come, or this time is over, or nothing is stored any
@@ -257,7 +242,7 @@ impl<L: Founding, D: Disk, G: Drop> Shared<L, D, G> {
 
     /// Waits a while.
     pub(crate) fn pause<R: Wait + Clock>(&self, rt: &R) {
-        thread::sleep(rt, Duration::from_millis(PATIENCE_MILLISECONDS));
+        thread::sleep(rt, Duration::from_millis(RETRY_MILLISECONDS));
     }
 
     /// Gives the waiting call of the session with this number its turn: for a caller that knows that its task has gone.
@@ -281,12 +266,26 @@ impl<L: Founding, D: Disk, G: Drop> Shared<L, D, G> {
         ensures err { OnErr result.1 (result.0 ≡ session) }
         ensures reads { KeepsRead session.past result.0.past }
     {
-        let stored = self.await_reply(rt, ticket.seen());
+        let mut session = session;
+        let stored = self.stored_for(rt, &mut session, ticket.seen());
         let (session, acknowledged) = session.redeem(ticket, stored);
         match acknowledged {
             Ok(reply) => (session, Ok(reply)),
             Err(_) => (session, Err(self.fault(rt).unwrap_or(StoreFault::Failed))),
         }
+    }
+
+    /// What is known to be stored, once `seen` records are, or nothing is stored any more. What the session knows is
+    /// asked first, which takes no lock.
+    fn stored_for<R: Wait>(&self, rt: &R, session: &mut Session<L>, seen: u64) -> Stored<L>
+        ensures { session.new ≡ session.old }
+    {
+        let known = session.stored(&self.mark);
+        if seen <= known.count() {
+            return known;
+        }
+        drop(known);
+        self.await_reply(rt, seen)
     }
 
     /// Waits until `seen` records are stored, or nothing is stored any more. Returns what is known to be stored.
@@ -345,12 +344,5 @@ impl<L: Founding, D: Disk, G: Drop> Shared<L, D, G> {
         self.images_due.notify_all();
         self.store_changed.notify_all();
         self.end_replies(rt);
-    }
-}
-
-fn is_receive(call: &Call) -> bool {
-    match call {
-        Call::Plain(PlainCall::Receive { .. }) => true,
-        _ => false,
     }
 }

@@ -11,7 +11,7 @@ use codes::KernReturn;
 use disk::Disk;
 use frame_service::Asker;
 use ipc_model::{Call, Reply};
-use sessions::{Founding, Peer, Seat, Session, Shared, Waited};
+use sessions::{Founding, Peer, Seat, Session, Shared, Turn, Waited};
 use std::marker::Model;
 use std::sync::Wait;
 use std::time::Clock;
@@ -27,6 +27,9 @@ pub struct Connected<'a, L: Founding, D: Disk, G, R, P> {
 
     // `None` while a call is being made.
     session: Option<Session<L>>,
+
+    // While several calls are made, from the second on.
+    turn: Option<Turn<'a, L>>,
 }
 
 impl<'a, L: Founding, D: Disk, G, R, P> Model for Connected<'a, L, D, G, R, P> {
@@ -54,6 +57,7 @@ impl<'a, L: Founding, D: Disk, G, R, P> Connected<'a, L, D, G, R, P> {
             shared,
             seat,
             session: Some(session),
+            turn: None,
         }
     }
 }
@@ -105,11 +109,35 @@ impl<'a, L: Founding, D: Disk, G: Drop, R: Wait + Clock, P: Peer> Asker
         let Some(session) = self.session.take() else {
             unreachable!()
         };
-        let (session, made) = self
-            .shared
-            .submit_for(self.rt, session, call, &self.seat, may_wait);
+        if let Some(turn) = self.turn.take_if(|turn| turn.awaits_epoch()) {
+            self.shared.end_turn(turn);
+        }
+        let (session, made) = match &mut self.turn {
+            Some(turn) => turn.submit(session, call, &self.seat, may_wait),
+            None => self
+                .shared
+                .submit_for(self.rt, session, call, &self.seat, may_wait),
+        };
         self.session = Some(session);
         made.ok()
+    }
+
+    /// Takes the kernel's lock for them, if it isn't held.
+    fn begin_turn(&mut self)
+        ensures { self.new ≡ self.old }
+    {
+        if self.turn.is_none() {
+            self.turn = Some(self.shared.begin_turn(self.rt));
+        }
+    }
+
+    /// Frees the kernel's lock.
+    fn end_turn(&mut self)
+        ensures { self.new ≡ self.old }
+    {
+        if let Some(turn) = self.turn.take() {
+            self.shared.end_turn(turn);
+        }
     }
 
     fn is_done(&self, ticket: &Ticket) -> bool

@@ -1,0 +1,115 @@
+//! Several calls under one hold of the kernel's lock.
+ghost use Rattle.std.specs.Prelude.{◌≡◌, IfOk, OnErr};
+ghost use Rattle.ipc_model.specs.history.History.{called, looked};
+ghost use Rattle.kernel_keeper.specs.Tokens.{Did, KeepsRead};
+
+use crate::guarded::KernelGuarded;
+use crate::seat::{Bell, Peer, Seat};
+use crate::shared::NotMade;
+use history::Founding;
+use ipc_model::{Call, PlainCall};
+use kernel_keeper::Session;
+use std::sync::MutexGuard;
+use system::Ticket;
+
+/// The lock of the kernel, held while a session makes several calls, so that it isn't handed over between them.
+///
+/// Nothing that waits for another thread may be done meanwhile: neither is a reply awaited, nor a turn.
+#[derive(Drop)]
+pub struct Turn<'a, L: Founding> {
+    pub(crate) guarded: MutexGuard<'a, KernelGuarded<L>>,
+
+    // How many records had been made when it began, and whether turns were due that the loop that stores waits for.
+    before: u64,
+    had_due: bool,
+
+    // The bell of a call whose turn has come. It is rung when the lock is free, since that call takes it first.
+    rung: Option<Bell>,
+}
+
+/// What others wait for, once a turn is over.
+pub(crate) struct News {
+    pub(crate) has_more: bool,
+    pub(crate) are_over: bool,
+    pub(crate) has_image_due: bool,
+    pub(crate) rung: Option<Bell>,
+}
+
+impl<'a, L: Founding> Turn<'a, L> {
+    pub(crate) fn new(guarded: MutexGuard<'a, KernelGuarded<L>>) -> Self {
+        let before = guarded.keeper.made();
+        let had_due = guarded.has_turns_due();
+        Turn {
+            guarded,
+            before,
+            had_due,
+            rung: None,
+        }
+    }
+
+    /// Whether the next call has to wait for an epoch, which doesn't begin while the lock is held.
+    pub fn awaits_epoch(&self) -> bool {
+        self.guarded.awaits_epoch()
+    }
+
+    /// Makes a call of a session, for the task of this seat, as `Shared::submit_for` does.
+    pub fn submit<P: Peer>(
+        &mut self,
+        session: Session<L>,
+        call: &Call,
+        seat: &Seat<P>,
+        may_wait: bool,
+    ) -> (Session<L>, Result<Ticket, NotMade>)
+        ensures given { IfOk result.1 (λ ticket. Did L.base session (called call.now ticket.answer) result.0
+            × (ticket.seen ≡ result.0.task.seen)) }
+        ensures err { OnErr result.1 (Did L.base session looked result.0) }
+        ensures reads { KeepsRead session.past result.0.past }
+    {
+        // With the lock held, since whatever is sent now is sent after this check.
+        if is_receive(call) && seat.peer().is_gone() {
+            self.guarded.leave_line(session.number());
+            session.show_looked();
+            return (session, Err(NotMade::Gone));
+        }
+        let bell = if may_wait { Some(seat.bell()) } else { None };
+        let (session, made) = self.guarded.submit(session, call, bell);
+        self.keep_rung();
+        (session, made.map_err(NotMade::Fault))
+    }
+
+    /// Keeps the bell of a call whose turn has come.
+    pub(crate) fn keep_rung(&mut self) {
+        let Some(bell) = self.guarded.take_rung() else {
+            return;
+        };
+        if let Some(earlier) = self.rung.replace(bell) {
+            earlier.ring();
+        }
+    }
+
+    /// Frees the lock, and returns what others wait for.
+    pub(crate) fn end(self) -> News {
+        let Turn {
+            guarded,
+            before,
+            had_due,
+            rung,
+        } = self;
+        let has_more = before < guarded.keeper.made();
+        let news = News {
+            has_more,
+            are_over: had_due && !guarded.has_turns_due(),
+            has_image_due: has_more && guarded.has_image_due(),
+            rung,
+        };
+        drop(guarded);
+        news
+    }
+}
+
+fn is_receive(call: &Call) -> bool {
+    match call {
+        Call::Plain(PlainCall::Receive { .. }) => true,
+        _ => false,
+    }
+}
