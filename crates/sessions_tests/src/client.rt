@@ -2,14 +2,12 @@
 //! carries nothing of a server.
 
 use disk::MemDisk;
-use socket_server::serve_opened;
-use std::alloc::AllocGlobal;
+use socket_server::{Host, serve_opened};
 use std::io::{Read, Write};
 use std::net::{Net, TcpListener, TcpStream};
 use std::os::unix::net::UnixStream;
 use std::rt::Files;
-use std::sync::Wait;
-use std::thread::{Threads, sleep};
+use std::thread::sleep;
 use std::time::{Clock, Duration};
 use std::{env, fs, process};
 use system::open;
@@ -62,18 +60,7 @@ pub(crate) const MESSAGE: [u8; 48] = [
 ];
 
 /// Serves a new store at a path. It outlives its clients.
-pub(crate) fn serve<
-    R: Threads
-        + Wait
-        + Net<Listener = TcpListener, Stream = TcpStream>
-        + Files
-        + Clock
-        + AllocGlobal
-        + Copy
-        + Send
-        + Sync
-        + 'static,
->(rt: R, path: &str) {
+pub(crate) fn serve<R: Host + Net<Listener = TcpListener, Stream = TcpStream>>(rt: R, path: &str) {
     let mut output = Vec::new(rt.alloc());
     match open(rt.alloc(), MemDisk::new(rt.alloc())) {
         Ok(opened) => drop(serve_opened(rt, path, opened, &mut output)),

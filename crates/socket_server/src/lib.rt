@@ -2,9 +2,11 @@
 #![tactic(auto)]
 
 mod bound;
+mod host;
 mod program;
 mod threads;
 mod watch;
 
+pub use host::Host;
 pub use program::{serve_disk, serve_locked, serve_opened};
 pub use server::SocketEnd;

@@ -5,6 +5,7 @@ ghost use Rattle.socket_server.specs.Reporting.{HasReported, HasReportedOf, read
 ghost use Rattle.wire.specs.Writing.{AppendsPart};
 
 use crate::bound::bind;
+use crate::host::Host;
 use crate::threads::{accept, start_loops};
 use crate::watch::start_watch;
 use codes::MAX_RECORDS;
@@ -17,10 +18,8 @@ use std::marker::Brand;
 use std::net::{Net, TcpListener, TcpStream};
 use std::os::unix::net::UnixListener;
 use std::rt::Files;
+use std::sync::Arc;
 use std::sync::ledger::Blank;
-use std::sync::{Arc, Wait};
-use std::thread::Threads;
-use std::time::Clock;
 use store_fault::StoreFault;
 use system::{Opened, open};
 use wire::{WireFault, write_bytes};
@@ -31,16 +30,7 @@ use wire::{WireFault, write_bytes};
 pub fn serve_locked<
     K: Drop,
     D: Disk + Drop + Send + 'static,
-    R: Threads
-        + Wait
-        + Net<Listener = TcpListener, Stream = TcpStream>
-        + Files
-        + Clock
-        + AllocGlobal
-        + Copy
-        + Send
-        + Sync
-        + 'static,
+    R: Host + Net<Listener = TcpListener, Stream = TcpStream>,
     O: Write,
 >(rt: R, path: &str, locked: Result<(K, D), SocketEnd>, output: &mut O) -> SocketEnd
     ensures ended { IfErr locked (λ end. (result ≡ end) × Keeps (O.contents output.old) (O.contents output.new)) }
@@ -61,16 +51,7 @@ pub fn serve_locked<
 /// can't be opened is that of `recover::open`, and then nothing is written. It ends only after a fault.
 pub fn serve_disk<
     D: Disk + Drop + Send + 'static,
-    R: Threads
-        + Wait
-        + Net<Listener = TcpListener, Stream = TcpStream>
-        + Files
-        + Clock
-        + AllocGlobal
-        + Copy
-        + Send
-        + Sync
-        + 'static,
+    R: Host + Net<Listener = TcpListener, Stream = TcpStream>,
     O: Write,
 >(rt: R, path: &str, disk: D, output: &mut O) -> SocketEnd
     ensures reported { HasReportedOf D.honest (D.view disk).seen (O.contents output.old) (O.contents output.new)
@@ -89,16 +70,7 @@ pub fn serve_disk<
 /// thread of its own as a session of the store's history. It ends only after a fault.
 pub fn serve_opened<
     D: Disk + Drop + Send + 'static,
-    R: Threads
-        + Wait
-        + Net<Listener = TcpListener, Stream = TcpStream>
-        + Files
-        + Clock
-        + AllocGlobal
-        + Copy
-        + Send
-        + Sync
-        + 'static,
+    R: Host + Net<Listener = TcpListener, Stream = TcpStream>,
     O: Write,
 >(rt: R, path: &str, opened: Opened<D>, output: &mut O) -> SocketEnd
     ensures reported { HasReported (O.contents output.old) (O.contents output.new) result }
@@ -142,15 +114,7 @@ fn first_block(alloc: Global) -> Option<Arc<EntryBlock, Global>> {
 fn serve_history<
     L: Founding + Send + Sync + 'static,
     D: Disk + Drop + Send + 'static,
-    R: Threads
-        + Wait
-        + Net<Listener = TcpListener, Stream = TcpStream>
-        + Clock
-        + AllocGlobal
-        + Copy
-        + Send
-        + Sync
-        + 'static,
+    R: Host + Net<Listener = TcpListener, Stream = TcpStream>,
     O: Write,
 >(
     rt: R,
@@ -184,15 +148,7 @@ fn serve_history<
 fn serve_shared<
     L: Founding + Send + Sync + 'static,
     D: Disk + Drop + Send + 'static,
-    R: Threads
-        + Wait
-        + Net<Listener = TcpListener, Stream = TcpStream>
-        + Clock
-        + AllocGlobal
-        + Copy
-        + Send
-        + Sync
-        + 'static,
+    R: Host + Net<Listener = TcpListener, Stream = TcpStream>,
     O: Write,
 >(
     rt: R,

@@ -1,5 +1,6 @@
 //! The threads: one that stores, one that makes images, one for each connection.
 
+use crate::host::Host;
 use crate::watch::Watch;
 use codes::CHECKPOINT_RECORDS;
 use disk::Disk;
@@ -10,22 +11,18 @@ use std::io::{self, BufReader, BufWriter};
 use std::net::{Net, Shutdown, TcpListener, TcpStream};
 use std::os::unix::net::{UnixListener, UnixStream};
 use std::sync::{Arc, Wait};
-use std::thread::{self, Threads};
+use std::thread;
 use std::time::{Clock, Duration};
 use store_fault::StoreFault;
 
 /// How many seconds a peer may leave unread what it was sent before its connection is closed.
-const PATIENCE_SECONDS: u64 = 5;
+const UNREAD_SECONDS: u64 = 5;
 
 /// How many bytes of a connection are read at once.
 const READ_BYTES: usize = 65_536;
 
 /// Serves each connection in a thread of its own, until the store fails.
-pub(crate) fn accept<
-    L: Founding + Send + Sync + 'static,
-    D: Disk + Drop + Send + 'static,
-    R: Threads + Wait + AllocGlobal + Clock + Copy + Send + Sync + 'static,
->(
+pub(crate) fn accept<L: Founding + Send + Sync + 'static, D: Disk + Drop + Send + 'static, R: Host>(
     rt: R,
     listener: &UnixListener,
     shared: &Arc<Shared<L, D, OpenGate>, Global>,
@@ -51,11 +48,7 @@ pub(crate) fn accept<
 }
 
 /// Begins to serve a connection. If there is no session, thread or memory for it, it is closed.
-fn begin<
-    L: Founding + Send + Sync + 'static,
-    D: Disk + Drop + Send + 'static,
-    R: Threads + Wait + Clock + AllocGlobal + Copy + Send + Sync + 'static,
->(
+fn begin<L: Founding + Send + Sync + 'static, D: Disk + Drop + Send + 'static, R: Host>(
     rt: R,
     stream: UnixStream,
     shared: &Arc<Shared<L, D, OpenGate>, Global>,
@@ -94,7 +87,7 @@ fn serve_stream<L: Founding, D: Disk, R: Wait + Clock + AllocGlobal>(
     watch: &Watch,
     admission: Admission<L>,
 ) -> io::Result<()> {
-    stream.set_write_timeout(Some(Duration::from_secs(PATIENCE_SECONDS)))?;
+    stream.set_write_timeout(Some(Duration::from_secs(UNREAD_SECONDS)))?;
     let mut reader = BufReader::with_capacity(rt.alloc(), READ_BYTES, stream)?;
     let mut writer = BufWriter::new(rt.alloc(), stream)?;
     let accepted = Accepted { stream, watch };
@@ -110,14 +103,7 @@ fn serve_stream<L: Founding, D: Disk, R: Wait + Clock + AllocGlobal>(
 pub(crate) fn start_loops<
     L: Founding + Send + Sync + 'static,
     D: Disk + Drop + Send + 'static,
-    R: Threads
-        + Wait
-        + Net<Listener = TcpListener, Stream = TcpStream>
-        + Clock
-        + Copy
-        + Send
-        + Sync
-        + 'static,
+    R: Host + Net<Listener = TcpListener, Stream = TcpStream>,
 >(
     rt: R,
     alloc: Global,

@@ -1,24 +1,24 @@
 //! Watches the other sides of all connections, so that a waiting call learns at once that its task has gone.
 
+use crate::host::Host;
 use disk::Disk;
 use mio::event::Events;
 use mio::unix::SourceFd;
 use mio::{Interest, Poll, Registry, Token};
 use sessions::{Founding, OpenGate, Shared};
-use std::alloc::{AllocGlobal, Global};
-use std::io;
+use std::alloc::Global;
 use std::net::Net;
 use std::os::fd::AsRawFd;
 use std::os::unix::net::UnixStream;
 use std::sync::{Arc, Wait};
-use std::thread::{self, Threads};
 use std::time::{Clock, Duration};
+use std::{io, thread};
 
 /// How many closed connections one wait reports at most.
 const MOST_AT_ONCE: usize = 64;
 
 /// How many milliseconds the watcher waits before it goes on after a failure.
-const PATIENCE_MILLISECONDS: u64 = 20;
+const RETRY_MILLISECONDS: u64 = 20;
 
 /// The sockets that are watched. Each is watched until it is closed.
 #[derive(Drop)]
@@ -44,7 +44,7 @@ impl Watch {
 pub(crate) fn start_watch<
     L: Founding + Send + Sync + 'static,
     D: Disk + Drop + Send + 'static,
-    R: Threads + Wait + Net + Clock + AllocGlobal + Copy + Send + Sync + 'static,
+    R: Host + Net,
 >(rt: R, shared: &Arc<Shared<L, D, OpenGate>, Global>) -> io::Result<Arc<Watch, Global>> {
     let poll = Poll::new(&rt)?;
     let registry = poll.registry().try_clone()?;
@@ -69,7 +69,7 @@ fn turn_to_gone<L: Founding, D: Disk, R: Wait + Clock>(
     shared: &Shared<L, D, OpenGate>,
 ) {
     if poll.poll(events, None).is_err() {
-        thread::sleep(rt, Duration::from_millis(PATIENCE_MILLISECONDS));
+        thread::sleep(rt, Duration::from_millis(RETRY_MILLISECONDS));
     }
     for event in events.iter() {
         if let Ok(session) = u32::try_from(event.token().0) {
