@@ -5,7 +5,7 @@ use Rattle.command_line.specs.declared.about.Question.TheVariants.{Help, Version
 
 -- after its name: the version, and the toolchain that it was proved with
 abbrev pub version_lines : List ℕ
-version_lines = codes " 0.1.0\nproved with rattle-kit-13f logic dac8208d650f15bf\n"
+version_lines = codes " 0.1.0\nproved with Rattle logic dac8208d650f15bf\n"
 
 abbrev pub printed : List ℕ → List ℕ → Question → List ℕ
 printed name help Help = help

@@ -70,6 +70,6 @@ fn send_version<W: Write>(output: &mut W, name: &str) -> Result<(), WireFault>
     write_bytes(output, name.as_bytes())?;
     send(
         output,
-        " 0.1.0\nproved with rattle-kit-13f logic dac8208d650f15bf\n",
+        " 0.1.0\nproved with Rattle logic dac8208d650f15bf\n",
     )
 }
