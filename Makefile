@@ -50,11 +50,12 @@ stress: bin
 shortage: bin
 	@stress/shortage
 
-# The tests of the clients in C and Python, against the server in bin/ where there is one, and against a stand-in.
+# The tests of the clients in C and Python, against the server in bin/, or against a stand-in where there is none.
 clients:
 	@clients/test
 
-# Programs that use the clients, while their server is killed. It proves the programs first.
+# Programs that use the clients, for a minute while their server is killed once a second. It proves the programs first, and
+# fetches the Mach Interface Generator with apt-get where it isn't installed.
 examples: bin
 	@examples/run
 

@@ -1,12 +1,10 @@
 #!/usr/bin/env python3
 """A stand-in for the server, for tests of the clients: the machine of stress/machine.py on a Unix socket.
 
-    clients/standin.py SOCKET [--state FILE] [--cut RATE SEED]
+    clients/standin.py SOCKET [FILE]
 
-It has what clients see of a server on a socket, waiting and numbered requests too. With --state each change is in FILE
-before it is answered, and one that is killed and started again goes on from there; a power failure isn't thought of. With
---cut it ends connections at random: before a call is done, after it, within its reply, or while it waits. RATE is how many
-of a thousand frames are treated so.
+It has what clients see of a server on a socket, waiting and numbered requests too. Each change is in FILE before it is
+answered, and one that is killed and started again goes on from there; a power failure isn't thought of.
 """
 
 import argparse
@@ -14,7 +12,6 @@ import contextlib
 import os
 import pathlib
 import pickle
-import random
 import selectors
 import socket
 import struct
@@ -29,7 +26,7 @@ from machine import MACH_RCV_IN_SET, MACH_RCV_INVALID_NAME, MACH_RCV_TIMED_OUT  
 from machine import MACH_SEND_TIMED_OUT, RCV_MSG, RCV_TIMEOUT, SEND_MSG, SEND_TIMEOUT  # noqa: E402
 
 LONGEST = 65_532
-# What a receipt's refusals become after a wait.
+# What a receive's refusals become after a wait.
 AFTER_A_WAIT = {MACH_RCV_INVALID_NAME: 0x10004009, MACH_RCV_IN_SET: 0x10004006}
 
 
@@ -37,8 +34,17 @@ def words(*values):
     return struct.pack(f"<{len(values)}I", *values)
 
 
+def is_closed(its_socket):
+    """Whether the other side has closed it. To write nothing fails then, whatever is to be read yet."""
+    try:
+        its_socket.send(b"")
+    except OSError:
+        return True
+    return False
+
+
 class Connection(machine.Connection):
-    """A socket, what was read of it, and a call that waits: its half and what is behind it, and when the wait is over."""
+    """A socket, what was read of it, and a call that waits: its half and the one after it, and when the wait is over."""
 
     def __init__(self, of_machine, its_socket):
         super().__init__(of_machine)
@@ -50,7 +56,7 @@ class Connection(machine.Connection):
 
 
 class Standin:
-    def __init__(self, path, file, rate, seed):
+    def __init__(self, path, file):
         self.machine = machine.Machine()
         self.file, self.stored = file, 0
         if file and os.path.exists(file):
@@ -59,7 +65,6 @@ class Standin:
             self.stored = self.machine.records
         with contextlib.suppress(FileNotFoundError):
             os.unlink(path)
-        self.random, self.rate = random.Random(seed), rate / 1000
         self.selector = selectors.DefaultSelector()
         self.connections = {}
         self.listener = socket.socket(socket.AF_UNIX)
@@ -107,21 +112,10 @@ class Standin:
         return None
 
     def serve(self, connection, frame):
-        cut = self.random.choice(["before", "after", "within", "waiting"]) if self.random.random() < self.rate else None
-        waiting = [it for it in self.connections.values() if it.halves]
-        if cut == "before":
-            return self.end(connection)
-        if cut == "waiting" and waiting:
-            self.end(self.random.choice(waiting))
         reply = self.begin(connection, frame)
-        if cut == "after":
-            return self.end(connection)
-        if cut == "within" and reply is not None:
-            self.write(connection, reply, len(reply) // 2)
-            return self.end(connection)
         if reply is not None:
             self.write(connection, reply)
-        return self.again()
+        self.again()
 
     def store(self):
         """Writes the state down where it changed."""
@@ -132,10 +126,10 @@ class Standin:
         os.rename(f"{self.file}.new", self.file)
         self.stored = self.machine.records
 
-    def write(self, connection, reply, most=None):
+    def write(self, connection, reply):
         self.store()
         try:
-            connection.socket.sendall((words(len(reply)) + reply)[: most and most + 4])
+            connection.socket.sendall(words(len(reply)) + reply)
         except OSError:
             self.end(connection)
 
@@ -166,7 +160,11 @@ class Standin:
         connection.has_waited = False
 
     def attempt(self, connection):
-        """The reply of the half that is made now, or of the one behind it, or None where it waits."""
+        """The reply of the half that is made now, or of the one after it, or None where it waits. A client that has gone gets
+        no message, so one that was sent after that stays."""
+        if connection.has_waited and is_closed(connection.socket):
+            self.end(connection)
+            return None
         code, size, member, text = self.machine.mach_msg(connection.space, connection.halves[0][0])
         is_over = connection.end is not None and time.monotonic() >= connection.end
         if code in (MACH_SEND_TIMED_OUT, MACH_RCV_TIMED_OUT) and not is_over:
@@ -198,10 +196,9 @@ class Standin:
 def main():
     words = argparse.ArgumentParser(description="A stand-in for the server, for tests of the clients.")
     words.add_argument("socket")
-    words.add_argument("--state", metavar="FILE")
-    words.add_argument("--cut", nargs=2, type=int, metavar=("RATE", "SEED"), default=(0, 0))
+    words.add_argument("file", nargs="?")
     given = words.parse_args()
-    Standin(given.socket, given.state, *given.cut).run()
+    Standin(given.socket, given.file).run()
 
 
 if __name__ == "__main__":

@@ -1,8 +1,8 @@
 """Mach 3 IPC over the socket of a server: ports, rights and messages, as in Loepere, Mach 3 Kernel Interfaces (1992).
 
 A Task is a connection in one space; its methods are Mach's calls. A Message is built of ports and bytes, sent and
-received. A call that is refused raises an exception that has the name of its code in Mach's headers. README.md beside
-this file has examples.
+received. A call that is refused raises an exception that has the name of its code in Mach's headers. README.md in
+this folder has examples.
 """
 
 from __future__ import annotations
@@ -279,7 +279,7 @@ def _items(body: bytes) -> Iterator[Item]:
         length = (number * bits + 7) // 8
         content = body[place : place + length]
         if not word >> 28 & 1 or len(content) != length:
-            raise ValueError("the body isn't a row of items in line")
+            raise ValueError("the body isn't a sequence of items in line")
         if MOVE_RECEIVE <= type_ <= MAKE_SEND_ONCE:
             yield Ports(type_, *struct.unpack(f"<{number}I", content))
         else:
@@ -293,7 +293,7 @@ class Message:
 
     To send: `remote` is the destination and `disposition` how its right is taken; `local` is a right to reply by, with
     `local_disposition`. As received: `remote` is the right to reply by, of the type `disposition`, or 0; `local` is the
-    port that the message came to. The body is bytes, or a row of items, which a message with rights has to have.
+    port that the message came to. The body is bytes, or a sequence of items, which a message with rights has to have.
     """
 
     remote: int = PORT_NULL
@@ -312,11 +312,11 @@ class Message:
 
     @property
     def items(self) -> List[Item]:
-        """The items of the body. ValueError where it isn't a row of items."""
+        """The items of the body. ValueError where it isn't a sequence of items."""
         try:
             return list(_items(self.body))
         except struct.error:
-            raise ValueError("the body isn't a row of items in line") from None
+            raise ValueError("the body isn't a sequence of items in line") from None
 
     @property
     def ports(self) -> List[int]:
@@ -387,12 +387,12 @@ class Task:
     """A connection to the server at `path`, in a space.
 
     A Task is for one thread at a time; `another` gives one more in the same space. Timeouts are seconds, and None waits
-    for ever. A connection that is cut raises MACH_SEND_INTERRUPTED or MACH_RCV_INTERRUPTED, and the next call connects
+    forever. A connection that is cut raises MACH_SEND_INTERRUPTED or MACH_RCV_INTERRUPTED, and the next call connects
     anew.
 
     With `once` each call that changes something has one effect and one answer however often the connection is cut: it
-    goes as a numbered request, and is asked again until it is answered or `patience` seconds are over. One program at a
-    time may use a space so.
+    goes as a numbered request, and is asked again until it is answered or `patience` seconds are over. `repeats` is how
+    many calls of this Task were. One program at a time may use a space so.
     """
 
     def __init__(
@@ -401,10 +401,15 @@ class Task:
         self.path = path
         self.space = space
         self.patience = patience
+        self.repeats = 0
         self._numbers: Optional[_Numbers] = None
         self._socket: Optional[socket.socket] = None
         if once:
-            self._numbers = self._numbers_of_space()
+            try:
+                self._numbers = self._numbers_of_space()
+            except BaseException:
+                self.close()
+                raise
         else:
             self._open()
 
@@ -423,7 +428,7 @@ class Task:
     def another(self) -> Task:
         """A Task in the same space and mode, for another thread."""
         made = Task.__new__(Task)
-        made.__dict__.update(self.__dict__, _socket=None)
+        made.__dict__.update(self.__dict__, _socket=None, repeats=0)
         return made
 
     # Frames.
@@ -482,10 +487,14 @@ class Task:
     def _exchange_repeated(self, frame: bytes) -> bytes:
         """The reply to a frame that may be sent again."""
         patience = _Time(self.patience)
+        is_again = False
         while True:
             try:
-                return self._exchange(frame)
+                reply = self._exchange(frame)
+                self.repeats += is_again
+                return reply
             except (MACH_SEND_INTERRUPTED, MACH_RCV_INTERRUPTED):
+                is_again = True
                 if not patience.pause():
                     raise
 
@@ -494,7 +503,7 @@ class Task:
         return MIG_REPLY_MISMATCH()
 
     def _code_of(self, number: int, reply: bytes) -> bytes:
-        """What stands behind the number and the code of a reply, where the code is 0."""
+        """What stands after the number and the code of a reply, where the code is 0."""
         code, results = self._code_and_results(number, reply)
         if code:
             raise _refusal(code)
@@ -531,6 +540,8 @@ class Task:
         while unused - used > 1:
             middle = (used + unused) // 2
             used, unused = (used, middle) if self._is_new(middle) else (middle, unused)
+        if used == 0xFFFFFFFE:
+            raise KERN_INVALID_ARGUMENT("the space has used all numbers")
         numbers = _Numbers()
         # The next number is left to a request that a program before this one may have on its way to the server yet.
         numbers.last = used + 1
@@ -539,6 +550,8 @@ class Task:
     def _make_numbered(self, numbers: _Numbers, number: int, arguments: bytes) -> Tuple[int, bytes]:
         """The code and the results of a call that is made as the next request."""
         with numbers.turn:
+            if numbers.last == 0xFFFFFFFF:
+                raise KERN_RESOURCE_SHORTAGE("the space has used all numbers")
             numbers.last += 1
             try:
                 code, results = self._ask(numbers.last, number, arguments)
@@ -583,7 +596,7 @@ class Task:
             raise
 
     def names(self) -> Dict[int, int]:
-        """All names of the space, rising, with what each stands for."""
+        """All names of the space, ascending, with what each stands for."""
         count, *rows = self._call(1, wanted=None)
         if len(rows) != 2 * count:
             raise self._mismatch()
@@ -631,7 +644,7 @@ class Task:
         return PortStatus(*found[:6], *map(bool, found[6:]))
 
     def get_set_status(self, name: int) -> List[int]:
-        """The members of a set, rising."""
+        """The members of a set, ascending."""
         count, *members = self._call(14, name, wanted=None)
         if len(members) != count:
             raise self._mismatch()
@@ -679,12 +692,15 @@ class Task:
 
     def _marked(self) -> Optional[int]:
         """A name that was drawn by lot and put into the space. A space's end has no numbered request, since its number is
-        kept in the space; and behind a cut the space's number may be another's. So it is known by this name then."""
+        kept in the space; and after a cut the space's number may be another's. So it is known by this name then."""
         mark = random.randrange(0x80000000, PORT_DEAD)
         try:
-            return self.allocate(DEAD_NAME, mark)
+            self._code_of(4, self._exchange_repeated(struct.pack("<3I", 4, DEAD_NAME, mark)))
+        except KERN_NAME_EXISTS:
+            pass  # it was made before a cut
         except KERN_NO_SPACE:
             return None
+        return mark
 
     # Messages.
 
@@ -704,7 +720,7 @@ class Task:
         self, name: int, timeout: Optional[float] = None, limit: int = _LARGEST_MESSAGE, large: bool = False
     ) -> Message:
         """Receives a message of at most `limit` bytes from a port or a set, and waits for one. One that is larger is
-        destroyed, or stays with `large`; MACH_RCV_TOO_LARGE tells its size and port."""
+        destroyed, or stays with `large`; MACH_RCV_TOO_LARGE has its size and port."""
         if self._numbers:
             return self._receive_once(name, timeout, limit, large)
         option = _RCV_MSG | (0 if timeout is None else _RCV_TIMEOUT) | (_RCV_LARGE if large else 0)
@@ -789,11 +805,14 @@ class Task:
     def _await(self, name: int, wait: _Time) -> None:
         """Waits until there is a message, and leaves it: none fits into a limit of 0."""
         patience = _Time(self.patience)
+        is_again = False
         while True:
             left = wait.left()
             option = _RCV_MSG | _RCV_LARGE | (0 if left is None else _RCV_TIMEOUT)
             try:
-                self._message(*self._mach_msg(option, 0, name, left))
+                code, results = self._mach_msg(option, 0, name, left)
+                self.repeats += is_again
+                self._message(code, results)
             except MACH_RCV_TOO_LARGE:
                 return
             except MACH_RCV_INTERRUPTED:
@@ -802,6 +821,7 @@ class Task:
             except MACH_SEND_INTERRUPTED as fault:
                 if not patience.pause():
                     raise MACH_RCV_INTERRUPTED(*fault.args) from None
+            is_again = True
 
 
 __all__ = ["Item"] + [

@@ -209,12 +209,9 @@ class Once(OfTask):
     """Single effects, where connections may be cut at any moment."""
 
     def setUp(self):
-        try:
-            with Task(SOCKET, once=True) as first:
-                port = first.allocate()
-                space, self.port = first.space_create(port, MOVE_RECEIVE)
-        except KERN_INVALID_ARGUMENT:
-            self.skipTest("the server has no numbered requests")
+        with Task(SOCKET, once=True) as first:
+            port = first.allocate()
+            space, self.port = first.space_create(port, MOVE_RECEIVE)
         self.task = Task(SOCKET, space, once=True)
 
     def test_calls(self):
@@ -245,6 +242,24 @@ class Once(OfTask):
         with self.assertRaises(MACH_RCV_TOO_LARGE):
             self.task.receive(self.port, limit=32)
         self.assertEqual(self.task.send_receive(Message(self.port, MAKE_SEND, id=7), self.port).id, 7)
+
+    def test_overtaken(self):
+        """A second program that numbers its calls in the same space, against the rule: the first one's next call fails."""
+        with Task(SOCKET, self.task.space, once=True) as other:
+            names = [other.allocate() for _ in range(3)]
+        with self.assertRaises(MACH_RCV_INTERRUPTED):
+            self.task.destroy(names[0])
+        self.task.destroy(names[0])
+
+    def test_used_numbers(self):
+        """A space that has used up its numbers can't be used so any more."""
+        self.task._numbers.last = 0xFFFFFFFD
+        self.assertEqual(self.task.allocate(name=0x700), 0x700)
+        with self.assertRaises(KERN_INVALID_ARGUMENT):
+            Task(SOCKET, self.task.space, once=True)
+        self.assertEqual(self.task.allocate(name=0x701), 0x701)
+        with self.assertRaises(KERN_RESOURCE_SHORTAGE):
+            self.task.allocate()
 
 
 def load_tests(loader, tests, pattern):

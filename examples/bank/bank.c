@@ -1,15 +1,14 @@
 /*
- * bank SOCKET SECONDS TELLER
+ * bank SECONDS TELLER
  *
  * Opens accounts with money, each in a space of its own, and runs the program TELLER for each of them. For so many seconds
- * tellers are killed at random and started again. Then it counts the money: no unit may be lost, and none be there twice.
- * The server may be killed and started again meanwhile, from the line `bank: open` to the line `bank: closed` on.
+ * tellers are killed at random and started again; the server may be killed too. Then it counts the money: no purse may be
+ * lost, and none be there twice. The status is 1 where one is.
  */
 
 #include "../begin.h"
 #include "purse.h"
 
-#include <errno.h>
 #include <signal.h>
 #include <stdio.h>
 #include <stdlib.h>
@@ -17,11 +16,18 @@
 #include <time.h>
 #include <unistd.h>
 
-enum { ACCOUNTS = 4, PURSES = 6 };
+enum { ACCOUNTS = 4, PURSES = 6, FIRST_RIGHTS = PURSES + ACCOUNTS - 1 };
 
 struct account {
     machipc_task_t task;
     pid_t teller;
+};
+
+/* What all accounts have. Each has one purse of each worth at first, from one unit to PURSES. */
+struct count {
+    unsigned units;
+    unsigned purses[PURSES + 1]; /* by their worth */
+    unsigned payments;
 };
 
 static const char *program;
@@ -34,18 +40,7 @@ static void must(kern_return_t code, const char *what) {
     }
 }
 
-/* A call on the server, which may just be starting again, is made until it is answered. What isn't asked as one of single
-   effects may be done twice so; each call here may be. */
-#define UNTIL_ANSWERED(call) \
-    do { \
-        kern_return_t answer; \
-        while ((answer = (call)) == MACH_SEND_INTERRUPTED || answer == MACH_RCV_INTERRUPTED) { \
-            nanosleep(&(struct timespec){.tv_nsec = 10000000}, NULL); \
-        } \
-        must(answer, #call); \
-    } while (0)
-
-/* Sends a right to an account; its teller's space gets it with the next payment that is collected. */
+/* Sends a right to an account; its teller's space gets it when it is collected. */
 static void give_right(mach_port_t account, mach_port_t right, mach_msg_type_name_t disposition) {
     struct {
         mach_msg_header_t head;
@@ -58,14 +53,12 @@ static void give_right(mach_port_t account, mach_port_t right, mach_msg_type_nam
     must(mach_msg(&message.head, MACH_SEND_MSG, sizeof message, 0, MACH_PORT_NULL, 0, MACH_PORT_NULL), "a right is given");
 }
 
-/* Opens the accounts: ports, to which the others get send rights, and whose receive rights go into spaces of their own.
-   Gives how much money there is. */
-static unsigned open_accounts(struct account *accounts) {
+/* Opens the accounts: ports, to which the others get send rights, and whose receive rights go into spaces of their own. */
+static void open_accounts(struct account *accounts) {
     mach_port_t ports[ACCOUNTS];
-    unsigned sum = 0;
     for (int i = 0; i < ACCOUNTS; i++) {
         must(mach_port_allocate(mach_task_self(), MACH_PORT_RIGHT_RECEIVE, &ports[i]), "an account");
-        must(mach_port_set_qlimit(mach_task_self(), ports[i], PURSES + ACCOUNTS), "its queue");
+        must(mach_port_set_qlimit(mach_task_self(), ports[i], FIRST_RIGHTS), "its queue");
         must(mach_port_insert_right(mach_task_self(), ports[i], ports[i], MACH_MSG_TYPE_MAKE_SEND), "its right");
     }
     for (int i = 0; i < ACCOUNTS; i++) {
@@ -78,14 +71,12 @@ static unsigned open_accounts(struct account *accounts) {
             mach_port_t purse;
             must(purse_make(units, &purse), "a purse");
             give_right(ports[i], purse, MACH_MSG_TYPE_MOVE_RECEIVE);
-            sum += units;
         }
         must(machipc_task_begin(ports[i], MACH_MSG_TYPE_MOVE_RECEIVE, &accounts[i].task), "a space");
     }
     for (int i = 0; i < ACCOUNTS; i++) {
         must(mach_port_deallocate(mach_task_self(), ports[i]), "the bank's own right");
     }
-    return sum;
 }
 
 static void start_teller(struct account *account) {
@@ -122,49 +113,58 @@ static unsigned run_tellers(struct account *accounts, unsigned seconds) {
 }
 
 /* Collects what is in an account's queue yet, and counts what its space has and how many payments came. */
-static unsigned count_account(const struct account *account, unsigned *payments) {
+static void count_account(const struct account *account, struct count *count) {
+    mach_port_t port = account->task.bootstrap;
     struct holdings holdings;
     mach_port_status_t status;
-    unsigned sum = 0;
-    UNTIL_ANSWERED(go_to(account->task.space));
-    do {
-        UNTIL_ANSWERED(mach_port_get_receive_status(mach_task_self(), account->task.bootstrap, &status));
-        if (status.mps_msgcount > 0) {
-            purse_collect(account->task.bootstrap, 0); /* done or cut: the count says */
-        }
-    } while (status.mps_msgcount > 0);
-    UNTIL_ANSWERED(holdings_read(account->task.bootstrap, &holdings));
+    kern_return_t code;
+    must(machipc_once(account->task.space), "an account's space");
+    while ((code = purse_collect(port, 0)) == KERN_SUCCESS) {
+    }
+    must(code == MACH_RCV_TIMED_OUT ? KERN_SUCCESS : code, "the last payments");
+    must(mach_port_get_receive_status(mach_task_self(), port, &status), "an account's status");
+    must(holdings_read(port, &holdings), "what an account has");
     for (size_t i = 0; i < holdings.purses_count; i++) {
         unsigned units = 0;
-        UNTIL_ANSWERED(purse_units(holdings.purses[i], &units));
-        sum += units;
+        must(purse_units(holdings.purses[i], &units), "a purse");
+        count->units += units;
+        count->purses[units <= PURSES ? units : 0]++;
     }
     holdings_free(&holdings);
-    *payments += status.mps_seqno;
-    return sum;
+    count->payments += status.mps_seqno - FIRST_RIGHTS;
 }
 
-int main(int count, char **words) {
+/* Prints what was done. Whether no purse was lost or made twice. */
+static bool tell(const struct count *count, unsigned killed) {
+    unsigned lost = 0, doubled = count->purses[0];
+    for (unsigned units = 1; units <= PURSES; units++) {
+        unsigned there = count->purses[units];
+        lost += there < ACCOUNTS ? ACCOUNTS - there : 0;
+        doubled += there > ACCOUNTS ? there - ACCOUNTS : 0;
+    }
+    printf("bank: %u payments, %u kills of tellers; %u units before, %u after; %u purses lost, %u doubled\n", count->payments,
+           killed, ACCOUNTS * PURSES * (PURSES + 1) / 2, count->units, lost, doubled);
+    return lost == 0 && doubled == 0;
+}
+
+int main(int words_count, char **words) {
     struct account accounts[ACCOUNTS];
-    if (count != 4) {
-        fprintf(stderr, "bank SOCKET SECONDS TELLER\n");
+    struct count count = {0};
+    machipc_task_t task;
+    if (words_count != 3) {
+        fprintf(stderr, "bank SECONDS TELLER\n");
         return 2;
     }
-    program = words[3];
+    program = words[2];
     srand(1);
-    must(machipc_connect(words[1]), "the server");
-    must(go_to(MACHIPC_FIRST_SPACE), "the first space");
-    unsigned before = open_accounts(accounts);
-    printf("bank: open\n");
-    fflush(stdout);
-    unsigned killed = run_tellers(accounts, (unsigned) atoi(words[2]));
-    unsigned after = 0, payments = 0;
+    must(begin_task(&task), "the bank's task");
+    open_accounts(accounts);
+    unsigned killed = run_tellers(accounts, (unsigned) atoi(words[1]));
     for (int i = 0; i < ACCOUNTS; i++) {
-        after += count_account(&accounts[i], &payments);
+        count_account(&accounts[i], &count);
     }
-    printf("bank: closed\n%u units before, %u after, %u payments, %u tellers killed\n", before, after, payments, killed);
     for (int i = 0; i < ACCOUNTS; i++) {
         must(machipc_task_end(&accounts[i].task), "an account's end");
     }
-    return before != after;
+    return !tell(&count, killed);
 }

@@ -4,7 +4,7 @@
  * A purse is a port with one message in its queue, a coin, which is worth as many units as it has words of body. Whoever
  * holds the purse's receive right has the money. A payment is one message that carries that right to an account, which is
  * a port too; it is one call, so the purse is in the payer's space, in the account's queue or in the payee's space, and
- * in one of these alone. No process keeps money in its memory: what an account has is what its space holds.
+ * in only one of these. No process keeps money in its memory: what an account has is what its space holds.
  */
 
 #ifndef PURSE_H

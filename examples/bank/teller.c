@@ -3,7 +3,8 @@
  *
  * Works for one account, in the space that the environment names: it pays what the account has to others, a purse at a
  * time, and collects what they pay. It may be killed at any moment and started again, since it remembers nothing: what it
- * has to know it reads from its space. It ends with status 0 at a SIGTERM.
+ * has to know it reads from its space. Its calls aren't numbered: one whose connection was cut was made or not, and either
+ * is right, since a payment is one call. It ends with status 0 at a SIGTERM.
  */
 
 #include "../begin.h"
@@ -44,7 +45,7 @@ int main(void) {
     struct sigaction action = {.sa_handler = end};
     sigaction(SIGTERM, &action, NULL);
     srand((unsigned) getpid());
-    if (begin_task(&task) != KERN_SUCCESS) {
+    if (adopt_task(&task) != KERN_SUCCESS) {
         return 1;
     }
     while (!is_over) {

@@ -1,8 +1,9 @@
 /*
  * counter-client SECONDS
  *
- * Adds to the counter at its bootstrap port, 1 at a time, for so many seconds. It prints how many calls were made, and what
- * the counter was at the last. The status is 1 where a call failed.
+ * Adds to the counter at its bootstrap port, 1 at a time, for so many seconds. It prints how many additions were made, what
+ * the counter was at the last, how many calls were asked again after a cut, and the last code. The status is 1 where a call
+ * failed.
  */
 
 #include "counter.h"
@@ -33,6 +34,6 @@ int main(int count, char **words) {
     if (code == KERN_SUCCESS) {
         code = counter_read(task.bootstrap, &value);
     }
-    printf("%d %d %s\n", calls, value, mach_error_string(code));
+    printf("%d %d %lu %s\n", calls, value, machipc_repeats(), mach_error_string(code));
     return code != KERN_SUCCESS;
 }

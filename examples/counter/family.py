@@ -3,8 +3,8 @@
 
     machrun SOCKET examples/counter/family.py SECONDS FOLDER
 
-FOLDER has the programs. The status is 1 where the counter isn't what the clients' calls make: one call was lost then, or
-done twice.
+FOLDER has the programs. The status is 1 where the counter isn't what the clients' calls make: a call was lost then, or made
+twice.
 """
 
 import os
@@ -24,9 +24,11 @@ def main(seconds, folder):
         said = [it.communicate()[0].split() for it in clients]
         last = subprocess.run([*below, "0"], **pipes).stdout.split()
         counter.terminate()
-    calls, codes = sum(int(it[0]) for it in said), [it[2] for it in [*said, last]]
-    print(f"counter: {calls} calls by stubs of MIG, the counter is {last[1]}, codes {', '.join(codes)}")
-    return 0 if codes == ["KERN_SUCCESS"] * (CLIENTS + 1) and calls == int(last[1]) else 1
+    calls, repeats, value = sum(int(it[0]) for it in said), sum(int(it[2]) for it in said), int(last[1])
+    failed = sum(it[3] != "KERN_SUCCESS" for it in [*said, last])
+    print(f"counter: {CLIENTS} clients, {calls} additions by stubs of MIG, {repeats} calls asked again, the counter is {value};"
+          f" {max(0, calls - value)} lost, {max(0, value - calls)} doubled, {failed} clients failed")
+    return 1 if failed or calls != value else 0
 
 
 if __name__ == "__main__":

@@ -1,8 +1,10 @@
 /*
  * client NAME SECONDS
  *
- * Looks a service up and asks it again and again for so many seconds. Where the service goes, it is told, and looks it up
- * anew. It prints how often it was answered and had to look; the status is 1 where an answer was wrong.
+ * Looks a service up and asks it again and again for so many seconds. Where the service goes, a notice says so, and the
+ * client looks it up anew. It prints, in this order, how many requests were answered, answered wrongly, answered by a notice,
+ * and left without either; how often it looked the service up; and how many of its calls were asked again after a cut. The
+ * status is 1 where a request was answered wrongly or not at all.
  */
 
 #include "names.h"
@@ -13,7 +15,9 @@
 #include <stdlib.h>
 #include <time.h>
 
-static unsigned answered, wrong, looked_up, gone;
+enum { PATIENCE = 20000 }; /* milliseconds */
+
+static unsigned answered, wrong, gone, unanswered, looked_up;
 
 static void pause_for(long milliseconds) {
     nanosleep(&(struct timespec){.tv_nsec = milliseconds * 1000000}, NULL);
@@ -27,10 +31,14 @@ static kern_return_t ask(mach_port_t service, uint32_t number) {
     } message = {.sum = {.numbers = {number, 3 * number}}};
     message.head.msgh_remote_port = service;
     message.head.msgh_id = SUM;
-    kern_return_t code = names_ask(&message.head, sizeof message.sum, sizeof message, 2000);
+    kern_return_t code = names_ask(&message.head, sizeof message.sum, sizeof message, PATIENCE);
     if (code == KERN_SUCCESS) {
         answered++;
         wrong += message.head.msgh_size != sizeof message.sum || message.sum.numbers[0] != 4 * number;
+    } else if (code == MIG_SERVER_DIED) {
+        gone++;
+    } else {
+        unanswered++;
     }
     return code;
 }
@@ -52,7 +60,6 @@ int main(int count, char **words) {
         }
         kern_return_t code = ask(service, number);
         if (code == MIG_SERVER_DIED) {
-            gone++;
             mach_port_destroy(mach_task_self(), service);
             service = MACH_PORT_NULL;
         }
@@ -60,6 +67,6 @@ int main(int count, char **words) {
             pause_for(5);
         }
     }
-    printf("client: %u answers, %u wrong, %u looks, %u times the service was gone\n", answered, wrong, looked_up, gone);
-    return wrong != 0 || answered == 0;
+    printf("%u %u %u %u %u %lu\n", answered, wrong, gone, unanswered, looked_up, machipc_repeats());
+    return wrong != 0 || unanswered != 0;
 }

@@ -5,7 +5,8 @@
 
 FOLDER has the programs. The name service runs in this task's own space, since it receives at the port that all tasks under
 it know as their bootstrap port; services and clients run under a machrun of their own. Meanwhile the name service and the
-services are killed at random and started again. The status is 1 where a client got no answer, or a wrong one.
+services are killed at random and started again. It prints what the clients made of it. The status is 1 where a request got
+a wrong answer, or neither an answer nor a notice, or where no client got an answer.
 """
 
 import os
@@ -43,22 +44,29 @@ def main(seconds, folder):
     names = Kept([programs / "names"])
     services = [Kept([*below, programs / "service", it]) for it in SERVICES]
     words = [[*below, programs / "client", it, str(seconds)] for it in SERVICES for _ in range(CLIENTS_OF_EACH)]
-    clients = [subprocess.Popen([str(it) for it in each]) for each in words]
+    clients = [subprocess.Popen([str(it) for it in each], stdout=subprocess.PIPE, text=True) for each in words]
+    next_kill = time.monotonic() + 2
     while any(it.poll() is None for it in clients):
-        time.sleep(chance.uniform(0.2, 0.8))
-        if chance.random() < 0.2:
-            names.process.kill()
-            kills["names"] += 1
-        elif chance.random() < 0.4:
-            chance.choice(services).process.terminate()  # machrun hands it on, and tells of the service's end
-            kills["services"] += 1
+        time.sleep(0.05)
+        if time.monotonic() >= next_kill:
+            next_kill += chance.uniform(0.5, 2)
+            if chance.random() < 0.3:
+                names.process.kill()
+                kills["names"] += 1
+            else:
+                chance.choice(services).process.terminate()  # machrun hands it on, and ends the service's space
+                kills["services"] += 1
         for it in (names, *services):
             it.see()
     for it in (*services, names):
         it.stop()
     failed = sum(it.returncode != 0 for it in clients)
-    print(f"names: {len(clients)} clients, {failed} failed; {kills['names']} kills of the name service, {kills['services']} of services")
-    return 1 if failed else 0
+    rows = [[int(word) for word in it.stdout.read().split()] for it in clients]
+    answered, wrong, gone, unanswered, looks, repeats = (sum(column) for column in zip(*rows))
+    print(f"names: {len(clients)} clients, {answered} requests answered, {gone} answered by a notice that the service is gone,"
+          f" {looks} looks, {repeats} calls asked again; {kills['names']} kills of the name service, {kills['services']} of"
+          f" services; {unanswered} requests lost, {wrong} answered wrongly, {failed} clients failed")
+    return 1 if failed or not answered else 0
 
 
 if __name__ == "__main__":

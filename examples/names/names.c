@@ -50,14 +50,14 @@ kern_return_t names_check_in(mach_port_t names, const char *name, mach_port_t po
     exchange.request.ports_type = names_item(MACH_MSG_TYPE_MAKE_SEND, 32, 2);
     exchange.request.port = port;
     exchange.request.token = token;
-    kern_return_t code = names_ask(&exchange.request.head, sizeof exchange.request, sizeof exchange, 5000);
+    kern_return_t code = names_ask(&exchange.request.head, sizeof exchange.request, sizeof exchange, NAMES_PATIENCE);
     return code == KERN_SUCCESS ? exchange.reply.code : code;
 }
 
 kern_return_t names_look_up(mach_port_t names, const char *name, mach_port_t *port) {
     union exchange exchange;
     prepare(&exchange, names, NAMES_LOOK_UP, name);
-    kern_return_t code = names_ask(&exchange.request.head, NAMES_REQUEST_ALONE, sizeof exchange, 5000);
+    kern_return_t code = names_ask(&exchange.request.head, NAMES_REQUEST_ALONE, sizeof exchange, NAMES_PATIENCE);
     if (code != KERN_SUCCESS || exchange.reply.code != KERN_SUCCESS) {
         return code != KERN_SUCCESS ? code : exchange.reply.code;
     }

@@ -12,6 +12,9 @@
 
 enum { NAMES_CHECK_IN = 1000, NAMES_LOOK_UP, NAMES_REPLY = 100, NAME_LENGTH = 64 };
 
+/* How many milliseconds the name service's answer is waited for. */
+enum { NAMES_PATIENCE = 5000 };
+
 /* Codes of the name service's own. */
 enum { NAME_UNKNOWN = 1, NAME_TAKEN = 2, NAMES_FULL = 3, NAMES_BAD_REQUEST = 4 };
 
@@ -45,7 +48,8 @@ struct names_reply {
 /* The descriptor of an item in line. */
 mach_msg_type_t names_item(mach_msg_type_name_t type, unsigned bits, unsigned count);
 
-/* Checks a service in: send rights are made of the receive rights `port` and `token`. Codes are Mach's or those above. MIG_SERVER_DIED: the service took the request and ended before it answered. */
+/* Checks a service in: send rights are made of the receive rights `port` and `token`. Codes are Mach's or those above.
+   MIG_SERVER_DIED: the name service took the request and ended before it answered. */
 kern_return_t names_check_in(mach_port_t names, const char *name, mach_port_t port, mach_port_t token);
 
 /* Looks a name up and gives a send right, one user reference more if the caller had one. */

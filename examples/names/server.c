@@ -2,8 +2,8 @@
  * names
  *
  * The name service, in the space that the environment names; its port is the space's first one. It keeps the names in its
- * memory alone. When it was killed and is started again it gives all rights of the time before back: the services are told
- * by no-senders notices of their tokens, and check in again. When a service goes, the name service is told by a dead-name notice, and
+ * memory only. When it was killed and is started again it gives back all rights of the time before: the services get
+ * no-senders notices of their tokens, and check in again. When a service goes, the name service gets a dead-name notice, and
  * forgets the name.
  */
 
@@ -35,7 +35,7 @@ static struct entry *find(const char *name) {
     return NULL;
 }
 
-/* Asks to be told when the port dies. Where it is dead already, the notice comes at once. */
+/* Asks for a notice of the port's death. Where it is dead already, the notice comes at once. */
 static void watch(mach_port_t port) {
     mach_port_t previous = MACH_PORT_NULL;
     mach_port_request_notification(mach_task_self(), port, MACH_NOTIFY_DEAD_NAME, 1, notices, MACH_MSG_TYPE_MAKE_SEND_ONCE,

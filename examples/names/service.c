@@ -1,8 +1,8 @@
 /*
  * service NAME
  *
- * Adds numbers for whoever asks, under a name of the name service, which is its bootstrap port. When it is told that its
- * token has no senders, the name service has forgotten it, as after a new start; then it checks in again.
+ * Adds numbers for whoever asks, under a name of the name service, which is its bootstrap port. A notice that its
+ * token has no senders says that the name service has forgotten it, as after a new start; then it checks in again.
  */
 
 #include "names.h"
@@ -19,7 +19,7 @@ static void pause_for(long milliseconds) {
     nanosleep(&(struct timespec){.tv_nsec = milliseconds * 1000000}, NULL);
 }
 
-/* Asks to be told at the port when the token's senders are gone, those that were made until now too. */
+/* Asks for a notice at the port when the token's senders are gone, those that were made until now too. */
 static kern_return_t watch_token(void) {
     mach_port_t previous = MACH_PORT_NULL;
     mach_port_status_t status;

@@ -59,10 +59,10 @@ kern_return_t machipc_space_destroy(void);
 /*
  * Attaches to a space so that each call that changes something has one effect and one answer however often the
  * connection is cut: the call goes as a numbered request, and after a cut the library connects, attaches and asks again
- * with the same number, which the server answers from what it keeps. A receipt that waits does so by a call that takes
+ * with the same number, which the server answers from what it keeps. A receive that waits does so by a call that takes
  * nothing, and takes the message then by a numbered one; a send that waits for room is tried again, up to 50
  * milliseconds apart. Calls that change nothing are made again. Only one process at a time may use a space so, since a
- * space keeps the last request alone; the threads of the process take turns. A child of fork is in the same space
+ * space keeps only the last request; the threads of the process take turns. A child of fork is in the same space
  * without this mode.
  *
  * KERN_INVALID_TASK: there is no such space; KERN_INVALID_ARGUMENT: the server has no numbered requests, or the space has
@@ -73,10 +73,14 @@ kern_return_t machipc_once(machipc_space_t space);
 
 /*
  * How many milliseconds a call in the mode of machipc_once tries to reach the server again after a cut before it gives
- * up with MACH_SEND_INTERRUPTED or MACH_RCV_INTERRUPTED: 30,000 unless this is called, and 0xffffffff for ever. A call
+ * up with MACH_SEND_INTERRUPTED or MACH_RCV_INTERRUPTED: 30,000 unless this is called, and 0xffffffff forever. A call
  * that was given up may have been done or not.
  */
 void machipc_set_patience(uint32_t milliseconds);
+
+/* How many calls of the process were asked again after a cut and then answered, in the mode of machipc_once or at a task's
+   end. A call that was asked several times counts once. */
+unsigned long machipc_repeats(void);
 
 /* A task for others to run: a space, and the name there of the first right that it was given. */
 typedef struct machipc_task {
@@ -88,14 +92,15 @@ typedef struct machipc_task {
 /*
  * Begins a task: makes a space with one right of the caller's, as machipc_space_create does. With MACH_PORT_NULL it gets
  * the receive right of a new port instead, and nothing of the caller's. The caller stays in its own space; a process that
- * it starts gets the task by machipc_task_export before exec and machipc_adopt behind it, or by machipc_attach after
+ * it starts gets the task by machipc_task_export before exec and machipc_adopt after it, or by machipc_attach after
  * fork. The same codes as of machipc_space_create, and of mach_port_allocate.
  */
 kern_return_t machipc_task_begin(mach_port_t name, mach_msg_type_name_t disposition, machipc_task_t *task);
 
 /*
  * Ends a task: destroys its space, over a connection of its own, so that all who hold names for its ports or wait for its
- * replies are told. A task whose space is gone has ended: KERN_SUCCESS. The caller's space stays.
+ * replies get their notices. A task whose space is gone has ended: KERN_SUCCESS. The caller's space stays. A task is ended
+ * once, and by one side only, since another space may have its number afterwards.
  */
 kern_return_t machipc_task_end(const machipc_task_t *task);
 
@@ -115,8 +120,8 @@ kern_return_t machipc_adopt(machipc_task_t *task);
 
 /*
  * Destroys all names of the space but those given (`count` of them; keep may be NULL where count is 0), so that whoever
- * waits for an answer of the time before is told by a send-once or a dead-name notice. A name that goes meanwhile is
- * passed over. KERN_RESOURCE_SHORTAGE: out of memory.
+ * waits for an answer of the time before gets a send-once or a dead-name notice. A name that goes meanwhile is passed
+ * over. KERN_RESOURCE_SHORTAGE: out of memory.
  */
 kern_return_t machipc_sweep(const mach_port_t *keep, size_t count);
 

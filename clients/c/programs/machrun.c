@@ -24,11 +24,11 @@ static const char usage[] =
     "With --keep a command that fails is started again in the same space.\n";
 
 static volatile sig_atomic_t command;     /* its process, or 0 */
-static volatile sig_atomic_t was_stopped; /* a signal asked for the end */
+static volatile sig_atomic_t was_stopped; /* the signal that asked for the end, or 0 */
 
 /* Hands a signal on to the command; machrun itself stays until that has ended. */
 static void hand_on(int number) {
-    was_stopped = 1;
+    was_stopped = number;
     if (command != 0) {
         kill((pid_t) command, number);
     }
@@ -118,26 +118,35 @@ static void run_command(char **words) {
     _exit(error == ENOENT ? NOT_FOUND : NOT_RUN);
 }
 
-/* Starts the command and waits for its end, whose status it gives. A signal that comes between the fork and the parent's
-   knowing of it is handed on then. */
-static int run_once(char **words) {
+/* Starts the command, and gives its process. A signal that comes between the fork and the parent's knowing of it is handed
+   on then. After one that came before, as while the space was made, nothing is started: 0. */
+static pid_t start(char **words) {
     sigset_t signals, before;
     sigemptyset(&signals);
     for (int i = 0; i < HANDED_ON; i++) {
         sigaddset(&signals, handed_on[i]);
     }
     sigprocmask(SIG_BLOCK, &signals, &before);
-    pid_t child = fork();
-    if (child == 0) {
+    pid_t child = was_stopped ? 0 : fork();
+    if (child == 0 && !was_stopped) {
         unhandle_signals();
         sigprocmask(SIG_SETMASK, &before, NULL);
         run_command(words);
     }
     command = child > 0 ? child : 0;
     sigprocmask(SIG_SETMASK, &before, NULL);
+    return child;
+}
+
+/* Starts the command and waits for its end, whose status it gives. */
+static int run_once(char **words) {
+    pid_t child = start(words);
     if (child < 0) {
         fprintf(stderr, "machrun: fork: %s\n", strerror(errno));
         return FAILED;
+    }
+    if (child == 0) {
+        return 128 + was_stopped;
     }
     int ended = 0;
     while (waitpid(child, &ended, 0) < 0 && errno == EINTR) {

@@ -3,6 +3,18 @@
 #include "clock.h"
 #include "numbered.h"
 
+#include <stdatomic.h>
+
+static atomic_ulong repeats;
+
+void call_count_repeat(void) {
+    atomic_fetch_add(&repeats, 1);
+}
+
+unsigned long machipc_repeats(void) {
+    return atomic_load(&repeats);
+}
+
 bool call_was_cut(kern_return_t code) {
     return code == MACH_SEND_INTERRUPTED || code == MACH_RCV_INTERRUPTED;
 }
@@ -24,9 +36,12 @@ kern_return_t call_read(struct connection *connection, uint32_t number) {
 static kern_return_t exchange_repeated(struct connection *connection, const struct settings *settings) {
     struct clock_wait patience = clock_wait_for(settings->patience);
     bool was_out = false;
-    for (;;) {
+    for (bool is_again = false;; is_again = true) {
         kern_return_t code = connection_exchange(connection, settings);
         if (!call_was_cut(code)) {
+            if (is_again) {
+                call_count_repeat();
+            }
             return code;
         }
         was_out = was_out || code == MACH_RCV_INTERRUPTED;

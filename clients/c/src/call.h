@@ -42,6 +42,9 @@ kern_return_t call_read(struct connection *connection, uint32_t number);
 /* What the reply turned out to be: none of the call. The connection ends, since it can't be in step any more. */
 kern_return_t call_mismatch(struct connection *connection);
 
+/* Counts a call that was asked again (machipc_repeats). */
+void call_count_repeat(void);
+
 /* Makes the call in connection->call of this number as it stands, again after each cut, as long as the settings'
    patience goes. The reply is read up to its results. */
 kern_return_t call_repeated(struct connection *connection, const struct settings *settings, uint32_t number);

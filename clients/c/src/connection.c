@@ -31,7 +31,7 @@ static bool connect_to(struct connection *connection, const char *path) {
     return true;
 }
 
-/* Attaches the new socket to a space, by the reply's frame alone, since the call's may hold a call that is made again. */
+/* Attaches the new socket to a space, with only the reply's frame, since the call's may hold a call that is made again. */
 static kern_return_t attach(struct connection *connection, machipc_space_t space) {
     struct frame *frame = &connection->reply;
     frame_begin(frame, CALL_ATTACH);

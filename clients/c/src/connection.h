@@ -35,7 +35,7 @@ void connection_close(struct connection *connection);
 kern_return_t connection_open(struct connection *connection, const struct settings *settings);
 
 /* Sends the call's frame and reads the reply's, once. MACH_SEND_INTERRUPTED and MACH_RCV_INTERRUPTED: cut before the
-   frame was out, or behind; KERN_INVALID_TASK: as above. */
+   frame was out, or after; KERN_INVALID_TASK: as above. */
 kern_return_t connection_exchange(struct connection *connection, const struct settings *settings);
 
 #endif

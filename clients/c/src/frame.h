@@ -1,6 +1,6 @@
 /*
  * Frames: a length in four bytes and so many bytes of content, of words that have their lowest byte first. The first word
- * of a call is its number; of a reply the call's number, and the code behind it.
+ * of a call is its number; of a reply the call's number, and the code after it.
  */
 
 #ifndef MACHIPC_FRAME_H

@@ -54,7 +54,7 @@ mach_msg_return_t message_no_memory(mach_msg_option_t option) {
     return option & MACH_SEND_MSG ? MACH_SEND_NO_BUFFER : MACH_RCV_HEADER_ERROR | MACH_MSG_IPC_KERNEL;
 }
 
-/* A call that went out may have been made: the half that isn't told of is named. */
+/* A call that went out may have been made: the half that isn't known of is named. */
 static mach_msg_return_t interrupted(mach_msg_option_t option, kern_return_t code) {
     if (!(option & MACH_RCV_MSG)) {
         return MACH_SEND_INTERRUPTED;

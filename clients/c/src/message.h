@@ -18,7 +18,7 @@ struct message_call {
 /* Puts a call into connection->call. Without MACH_SEND_MSG it has no message. */
 void message_frame(struct connection *connection, const struct message_call *call);
 
-/* Reads what behind the code of a reply tells of a message: its size, its port, and where the code is MACH_MSG_SUCCESS
+/* Reads what a reply says of a message after its code: its size, its port, and where the code is MACH_MSG_SUCCESS
    and the call receives, the message, which goes to the caller. Gives the code, or MIG_REPLY_MISMATCH. */
 mach_msg_return_t message_result(struct connection *connection, const struct message_call *call, kern_return_t code);
 

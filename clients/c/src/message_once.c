@@ -1,6 +1,6 @@
 /*
  * mach_msg in the mode of machipc_once. Each half is a numbered request, which is one attempt and doesn't wait. Waiting
- * is done here: a send is tried again, and a receipt waits by a call with limit 0 and MACH_RCV_LARGE, which leaves each
+ * is done here: a send is tried again, and a receive waits by a call with limit 0 and MACH_RCV_LARGE, which leaves each
  * message where it is and only says that one is there.
  */
 
@@ -48,12 +48,15 @@ static mach_msg_return_t await(struct connection *connection, const struct setti
                                const struct message_call *call, const struct clock_wait *wait) {
     mach_msg_header_t nothing;
     struct clock_wait patience = clock_wait_for(settings->patience);
-    for (;;) {
+    for (bool is_again = false;; is_again = true) {
         struct message_call look = {.message = &nothing, .receive_name = call->receive_name};
         look.option = MACH_RCV_MSG | MACH_RCV_LARGE | (call->option & MACH_RCV_TIMEOUT);
         look.timeout = clock_wait_left(wait);
         message_frame(connection, &look);
         kern_return_t code = connection_exchange(connection, settings);
+        if (is_again && !call_was_cut(code)) {
+            call_count_repeat();
+        }
         if (code == KERN_SUCCESS) {
             code = call_read(connection, CALL_MACH_MSG);
             return code == MIG_REPLY_MISMATCH ? code : message_result(connection, &look, code);

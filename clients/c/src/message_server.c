@@ -1,4 +1,4 @@
-/* A server's loop: a request, what is made of it, and its reply together with the receipt of the next request. */
+/* A server's loop: a request, what is made of it, and its reply together with the receive of the next request. */
 
 #include <mach.h>
 #include <stdbool.h>
@@ -33,7 +33,7 @@ static mach_msg_return_t reply_and_receive(struct loop *loop) {
     return mach_msg(&reply->Head, option, reply->Head.msgh_size, loop->size, loop->port, 0, MACH_PORT_NULL);
 }
 
-/* What demux said of the request. A reply that is a header alone has no code, and is one of success. */
+/* What demux said of the request. A reply that is only a header has no code, and is one of success. */
 static kern_return_t code_of(const mig_reply_header_t *reply) {
     bool has_none = reply->Head.msgh_size != 0 && reply->Head.msgh_size < sizeof *reply;
     bool is_complex = (reply->Head.msgh_bits & MACH_MSGH_BITS_COMPLEX) != 0;

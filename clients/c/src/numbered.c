@@ -5,7 +5,7 @@
 
 #include <pthread.h>
 
-/* The turn: a space keeps its last request alone, so one is answered before the next is made, whatever the thread. */
+/* The turn: a space keeps only its last request, so one is answered before the next is made, whatever the thread. */
 static pthread_mutex_t turn = PTHREAD_MUTEX_INITIALIZER;
 static pthread_once_t prepared = PTHREAD_ONCE_INIT;
 static uint32_t last_request;            /* the greatest number that was used in the space */
@@ -84,7 +84,7 @@ static kern_return_t find_last(struct connection *connection, const struct setti
 }
 
 /* A number that is too low, or the same as another call's, is that of a second process in the space. Whether its call
-   was done before a cut, or not, isn't told any more. */
+   was done before a cut, or not, can't be found out any more. */
 static kern_return_t overtaken(struct connection *connection, const struct settings *settings) {
     find_last(connection, settings, &last_request);
     return MACH_RCV_INTERRUPTED;

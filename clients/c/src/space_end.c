@@ -1,7 +1,7 @@
 /*
  * The end of a space, which has no numbered request, since the space is where its number would be kept. After a cut
- * nobody tells whether the space was destroyed, and its number may be another space's by now. So a mark, a dead name that
- * was drawn by lot, is put into the space first: where the mark isn't found behind a cut, the space is gone.
+ * nothing says whether the space was destroyed, and its number may be another space's by now. So a mark, a dead name that
+ * was drawn by lot, is put into the space first: where the mark isn't found after a cut, the space is gone.
  */
 
 #include "space_end.h"

@@ -50,7 +50,7 @@ kern_return_t machipc_task_export(const machipc_task_t *task) {
     return is_done ? KERN_SUCCESS : KERN_RESOURCE_SHORTAGE;
 }
 
-/* Reads a number in decimal, or in hexadecimal behind 0x, of the environment. Whether there is one. */
+/* Reads a number in decimal, or in hexadecimal after 0x, of the environment. Whether there is one. */
 static bool import_number(const char *variable, uint32_t *number) {
     const char *text = getenv(variable);
     if (text == NULL || text[0] < '0' || text[0] > '9') {

@@ -25,7 +25,7 @@ static void read_frame(int peer) {
     }
 }
 
-/* Takes one connection behind the other, answers one frame of each and waits until the client ends it. */
+/* Takes one connection after the other, answers one frame of each and waits until the client ends it. */
 static void *be_server(void *nothing) {
     for (;;) {
         char end;

@@ -59,8 +59,9 @@ static void references(void) {
 static void receive_rights(void) {
     mach_port_t port = check_port(), set = 0, once = 0;
     mach_msg_type_name_t type = 0;
+    CHECK_CODE(mach_port_set_qlimit(SELF, port, MACH_PORT_QLIMIT_MAX + 1), KERN_INVALID_VALUE);
+    CHECK_OK(mach_port_set_qlimit(SELF, port, MACH_PORT_QLIMIT_MAX));
     CHECK_OK(mach_port_set_qlimit(SELF, port, 3));
-    CHECK_CODE(mach_port_set_qlimit(SELF, port, 1000000), KERN_INVALID_VALUE);
     CHECK_OK(mach_port_set_mscount(SELF, port, 7));
     CHECK_OK(mach_port_set_seqno(SELF, port, 8));
     CHECK_OK(mach_port_extract_right(SELF, port, MACH_MSG_TYPE_MAKE_SEND_ONCE, &once, &type));

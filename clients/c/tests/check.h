@@ -6,7 +6,7 @@
 #include <machipc.h>
 #include <stdbool.h>
 
-/* Counts a check, and tells of it where it fails. */
+/* Counts a check, and prints it where it fails. */
 void check(bool is_as_wanted, const char *file, int line, const char *what);
 void check_code(kern_return_t code, kern_return_t wanted, const char *file, int line, const char *what);
 

@@ -138,7 +138,7 @@ static void rights_in_messages(mach_port_t port) {
     mach_msg_destroy(NULL);
 }
 
-/* Descriptors that can't be are passed over, and nothing behind the end of the message is read. */
+/* Descriptors that can't be are passed over, and nothing after the end of the message is read. */
 static void bent_bodies(void) {
     mach_port_t port = check_port();
     struct carrier bent = carrier_of(MACH_PORT_NULL, port, MACH_MSG_TYPE_MOVE_RECEIVE);

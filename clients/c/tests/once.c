@@ -1,7 +1,6 @@
 /*
  * Calls in the mode of machipc_once, to a server that is killed or cuts connections meanwhile: each has one effect and one
- * answer. Its second word, if there is one, says how often the work is done. Status 77: the server has no numbered
- * requests.
+ * answer. Its second word, if there is one, says how often the work is done.
  */
 
 #include "check.h"
@@ -9,9 +8,11 @@
 #include <pthread.h>
 #include <stdio.h>
 #include <stdlib.h>
+#include <sys/wait.h>
 #include <time.h>
+#include <unistd.h>
 
-enum { PORTS = 20, MESSAGES = 40, SENDERS = 3, ROUNDS = 3, NO_REQUESTS = 77 };
+enum { PORTS = 20, MESSAGES = 40, SENDERS = 3, ROUNDS = 3 };
 
 struct note {
     mach_msg_header_t head;
@@ -94,7 +95,7 @@ static void messages(mach_port_t port) {
     CHECK(check_port_status(port).mps_seqno == 2 * MESSAGES && check_port_status(port).mps_msgcount == 0);
 }
 
-/* A message that is too large is destroyed once, and the one behind it stays. */
+/* A message that is too large is destroyed once, and the one after it stays. */
 static void too_large(mach_port_t port) {
     for (int i = 0; i < 3; i++) {
         struct note note = note_to(port, i);
@@ -142,6 +143,24 @@ static void threads(mach_port_t port) {
     CHECK(check_port_status(port).mps_msgcount == 0);
 }
 
+/* A second process that numbers its calls in the same space, against the rule: the first one's next call gets a code. */
+static void overtaken(machipc_space_t space) {
+    int ended = 0;
+    mach_port_t name = check_port(); /* this one's number is the space's last */
+    pid_t child = fork();
+    if (child == 0) {
+        bool is_done = machipc_once(space) == KERN_SUCCESS;
+        for (int i = 0; i < 3; i++) {
+            is_done = mach_reply_port() != MACH_PORT_NULL && is_done;
+        }
+        _exit(!is_done);
+    }
+    waitpid(child, &ended, 0);
+    CHECK(ended == 0);
+    CHECK_CODE(mach_port_destroy(SELF, name), MACH_RCV_INTERRUPTED);
+    CHECK_OK(mach_port_destroy(SELF, name));
+}
+
 static void work(const char *path) {
     machipc_task_t task = {0};
     mach_port_t ports[PORTS];
@@ -155,6 +174,7 @@ static void work(const char *path) {
     too_large(ports[2]);
     CHECK_OK(machipc_once(task.space)); /* as a task that starts again does: it finds the number that was used last */
     threads(ports[3]);
+    overtaken(task.space);
     CHECK_OK(machipc_sweep(&task.bootstrap, 1));
     CHECK_OK(machipc_space_destroy());
     mach_port_type_t type;
@@ -166,13 +186,10 @@ int main(int count, char **words) {
     if (count < 2 || connect_to(words[1]) != KERN_SUCCESS) {
         return 2;
     }
-    if (machipc_once(MACHIPC_FIRST_SPACE) == KERN_INVALID_ARGUMENT) {
-        printf("the server has no numbered requests\n");
-        return NO_REQUESTS;
-    }
     int rounds = count > 2 ? atoi(words[2]) : ROUNDS;
     for (int i = 0; i < rounds; i++) {
         work(words[1]);
     }
+    printf("%lu calls asked again, ", machipc_repeats());
     return check_status();
 }

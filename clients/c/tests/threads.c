@@ -1,10 +1,10 @@
-/* A connection for each thread, and a new one behind a fork. */
+/* A connection for each thread, and a new one after a fork. */
 
 #include "check.h"
 
 #include <pthread.h>
 #include <signal.h>
-#include <stdio.h>
+#include <sys/socket.h>
 #include <sys/wait.h>
 #include <time.h>
 #include <unistd.h>
@@ -91,33 +91,40 @@ static void *wait_long(void *port) {
     return NULL;
 }
 
-/* A process that waits in a second thread, forks and is killed; its child lives on. Then nobody waits any more, and the
-   server, which sees that after a while, gives nobody a message. */
-static void a_wait_that_ends_with_its_process(void) {
-    mach_port_t port = check_port();
-    int ends[2];
-    char byte;
-    CHECK(pipe(ends) == 0);
+/* A process that waits in a second thread forks and is killed. Its child says that it is there, and lives on until the
+   other end of the pair is closed. */
+static pid_t fork_one_that_waits(mach_port_t port, const int *pair) {
     pid_t parent = fork();
     if (parent == 0) {
         pthread_t thread;
         pthread_create(&thread, NULL, wait_long, &port);
         nanosleep(&(struct timespec){.tv_nsec = 200000000}, NULL);
         if (fork() == 0) {
-            close(ends[1]);
-            nanosleep(&(struct timespec){.tv_sec = 8}, NULL);
-            _exit(0);
+            char byte = 0;
+            close(pair[0]);
+            _exit(write(pair[1], &byte, 1) != 1 || read(pair[1], &byte, 1) != 0);
         }
-        kill(getpid(), SIGKILL);
+        pause();
     }
-    close(ends[1]);
-    CHECK(read(ends[0], &byte, 1) == 0); /* the parent is gone */
+    return parent;
+}
+
+/* Then nobody waits any more: the child has closed what it had of its parent's connections, and no message goes there. */
+static void a_wait_that_ends_with_its_process(void) {
+    mach_port_t port = check_port();
+    int pair[2];
+    char byte;
+    CHECK(socketpair(AF_UNIX, SOCK_STREAM, 0, pair) == 0);
+    pid_t parent = fork_one_that_waits(port, pair);
+    close(pair[1]);
+    CHECK(read(pair[0], &byte, 1) == 1);
+    kill(parent, SIGKILL);
     waitpid(parent, NULL, 0);
-    nanosleep(&(struct timespec){.tv_sec = 6}, NULL);
     mach_msg_header_t message = {.msgh_bits = MACH_MSGH_BITS(MACH_MSG_TYPE_MAKE_SEND, 0), .msgh_remote_port = port};
     CHECK_OK(mach_msg(&message, MACH_SEND_MSG, sizeof message, 0, MACH_PORT_NULL, 0, MACH_PORT_NULL));
     CHECK_OK(mach_msg(&message, MACH_RCV_MSG | MACH_RCV_TIMEOUT, 0, sizeof message, port, 1000, MACH_PORT_NULL));
     CHECK_OK(mach_port_destroy(SELF, port));
+    close(pair[0]);
 }
 
 static void *receive_for_ever(void *port) {

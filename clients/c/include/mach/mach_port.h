@@ -27,7 +27,7 @@ extern "C" {
 #endif
 
 /*
- * All names of the space, rising, and what each stands for. The caller gives both arrays back with free(). The two counts
+ * All names of the space, ascending, and what each stands for. The caller gives both arrays back with free(). The two counts
  * are the same. KERN_RESOURCE_SHORTAGE: no memory for the arrays.
  */
 kern_return_t mach_port_names(mach_port_t task, mach_port_array_t *names, mach_msg_type_number_t *names_count,
@@ -52,7 +52,7 @@ kern_return_t mach_port_allocate(mach_port_t task, mach_port_right_t right, mach
 kern_return_t mach_port_destroy(mach_port_t task, mach_port_t name);
 
 /* Gives one user reference of a send right or a dead name back, or a send-once right. KERN_INVALID_NAME;
-   KERN_INVALID_RIGHT: a receive right alone, or a set. */
+   KERN_INVALID_RIGHT: only a receive right, or a set. */
 kern_return_t mach_port_deallocate(mach_port_t task, mach_port_t name);
 
 /* How many user references the name has for a kind of right: 0 where it holds none. KERN_INVALID_VALUE: no kind of right;
@@ -77,12 +77,12 @@ kern_return_t mach_port_set_seqno(mach_port_t task, mach_port_t name, mach_port_
 /* What is known of a receive right. KERN_INVALID_NAME; KERN_INVALID_RIGHT: no receive right. */
 kern_return_t mach_port_get_receive_status(mach_port_t task, mach_port_t name, mach_port_status_t *status);
 
-/* The members of a set, rising. The caller gives the array back with free(). KERN_INVALID_NAME; KERN_INVALID_RIGHT: no
+/* The members of a set, ascending. The caller gives the array back with free(). KERN_INVALID_NAME; KERN_INVALID_RIGHT: no
    set. */
 kern_return_t mach_port_get_set_status(mach_port_t task, mach_port_t name, mach_port_array_t *members,
                                        mach_msg_type_number_t *count);
 
-/* Puts a receive right into a set, out of the one that it was in, or with MACH_PORT_NULL out of it alone.
+/* Puts a receive right into a set, out of the one that it was in, or with MACH_PORT_NULL only out of it.
    KERN_INVALID_NAME; KERN_INVALID_RIGHT: member is no receive right, or after no set; KERN_NOT_IN_SET: it is in none. */
 kern_return_t mach_port_move_member(mach_port_t task, mach_port_t member, mach_port_t after);
 

@@ -1,6 +1,6 @@
 /*
  * Messages in the layout of Mach 3 for 32 bits (Loepere, Mach 3 Kernel Interfaces, 1992, chapter "IPC Interface"), which
- * programs of 64 bits have too: a header of six words, and a body that is a row of items where the message is complex.
+ * programs of 64 bits have too: a header of six words, and a body that is a sequence of items where the message is complex.
  * Every number has its lowest byte first.
  */
 
@@ -113,7 +113,7 @@ typedef integer_t mach_msg_option_t;
 #define MACH_SEND_TIMEOUT 0x00000010
 #define MACH_RCV_TIMEOUT 0x00000100
 #define MACH_RCV_LARGE 0x00000800
-#define MACH_SEND_ALWAYS 0x00010000 /* of Mach kernels alone, as the next five: refused */
+#define MACH_SEND_ALWAYS 0x00010000 /* only of Mach kernels, as the next five: refused */
 #define MACH_SEND_NOTIFY 0x00000020
 #define MACH_SEND_INTERRUPT 0x00000040
 #define MACH_SEND_CANCEL 0x00000080
@@ -167,11 +167,11 @@ extern "C" {
  * With MACH_SEND_MSG it sends the send_size bytes at msg; with MACH_RCV_MSG it then receives at most rcv_size bytes into
  * msg, of the port or set rcv_name. A message that is larger answers MACH_RCV_TOO_LARGE: with MACH_RCV_LARGE it stays in
  * the queue, else it is destroyed; in either case its size stands in msgh_size and its port in msgh_local_port, so far
- * as rcv_size bytes reach. A send to a full queue waits for room, and a receipt for a message: for ever, or with
+ * as rcv_size bytes reach. A send to a full queue waits for room, and a receive for a message: forever, or with
  * MACH_SEND_TIMEOUT or MACH_RCV_TIMEOUT for `timeout` milliseconds, each half from its own beginning on. `notify` is
- * ignored. A send that is refused changes nothing, and nothing is received behind it.
+ * ignored. A send that is refused changes nothing, and nothing is received after it.
  *
- * Where the connection is cut, or none can be made: MACH_SEND_INTERRUPTED if the call has a send and no receipt, or if
+ * Where the connection is cut, or none can be made: MACH_SEND_INTERRUPTED if the call has a send and no receive, or if
  * the call didn't go out whole; else MACH_RCV_INTERRUPTED. A call that had gone out may have been made or not; that isn't
  * so with machipc_once. MIG_REPLY_MISMATCH: what came from the server is no reply.
  */
@@ -187,9 +187,9 @@ void mach_msg_destroy(mach_msg_header_t *msg);
 
 /*
  * Receives messages of rcv_name, at most max_size bytes each, hands each to demux and sends the reply that demux made,
- * for ever (Loepere, "mach_msg_server"). demux gives the reply in a buffer of max_size bytes, laid out as
+ * forever (Loepere, "mach_msg_server"). demux gives the reply in a buffer of max_size bytes, laid out as
  * mig_reply_header_t; MIG_NO_REPLY there says that no reply is sent. A reply that can't be sent is destroyed, and a
- * message above max_size is lost; it goes on in both cases. It ends with the code of a receipt that fails otherwise,
+ * message above max_size is lost; it goes on in both cases. It ends with the code of a receive that fails otherwise,
  * among them MACH_RCV_INTERRUPTED where the server can't be reached, or with KERN_RESOURCE_SHORTAGE where it is out of
  * memory. max_size below that of a mig_reply_header_t is MACH_RCV_TOO_LARGE.
  */

@@ -22,7 +22,7 @@ void mig_put_reply_port(mach_port_t port);
 /* Gives this port back, since a reply may still come to it; the thread's next reply gets a new one. */
 void mig_dealloc_reply_port(mach_port_t port);
 
-/* Copies a string of which at most length - 1 bytes are taken, with a zero behind it, and gives how many bytes were
+/* Copies a string of which at most length - 1 bytes are taken, with a zero after it, and gives how many bytes were
    written with that zero. A length of 0 writes nothing. */
 vm_size_t mig_strncpy(char *to, const char *from, vm_size_t length);
 

@@ -11,7 +11,7 @@
 
 #define MACH_NOTIFY_FIRST 64
 #define MACH_NOTIFY_PORT_DELETED (MACH_NOTIFY_FIRST + 1)   /* a name with a dead-name request was taken back */
-#define MACH_NOTIFY_MSG_ACCEPTED (MACH_NOTIFY_FIRST + 2)   /* of Mach kernels alone */
+#define MACH_NOTIFY_MSG_ACCEPTED (MACH_NOTIFY_FIRST + 2)   /* only of Mach kernels */
 #define MACH_NOTIFY_PORT_DESTROYED (MACH_NOTIFY_FIRST + 5) /* a receive right comes back instead of its port's death */
 #define MACH_NOTIFY_NO_SENDERS (MACH_NOTIFY_FIRST + 6)     /* the last send right of a port went */
 #define MACH_NOTIFY_SEND_ONCE (MACH_NOTIFY_FIRST + 7)      /* a send-once right went without a message */

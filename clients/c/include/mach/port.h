@@ -1,5 +1,5 @@
 /*
- * Names of ports, kinds of rights and what calls tell of them (Loepere, Mach 3 Kernel Interfaces, 1992, chapter "Port
+ * Names of ports, kinds of rights and what calls say of them (Loepere, Mach 3 Kernel Interfaces, 1992, chapter "Port
  * Manipulation Interface").
  */
 
@@ -47,6 +47,7 @@ typedef mach_port_type_t *mach_port_type_array_t;
 #define MACH_PORT_TYPE_SEND_RIGHTS (MACH_PORT_TYPE_SEND | MACH_PORT_TYPE_SEND_ONCE)
 #define MACH_PORT_TYPE_PORT_RIGHTS (MACH_PORT_TYPE_SEND_RIGHTS | MACH_PORT_TYPE_RECEIVE)
 #define MACH_PORT_TYPE_PORT_OR_DEAD (MACH_PORT_TYPE_PORT_RIGHTS | MACH_PORT_TYPE_DEAD_NAME)
+#define MACH_PORT_TYPE_ALL_RIGHTS (MACH_PORT_TYPE_PORT_OR_DEAD | MACH_PORT_TYPE_PORT_SET)
 
 typedef natural_t mach_port_urefs_t;      /* user references of a name */
 typedef integer_t mach_port_delta_t;      /* a change of user references */
@@ -70,5 +71,6 @@ typedef struct mach_port_status {
 } mach_port_status_t;
 
 #define MACH_PORT_QLIMIT_DEFAULT ((mach_port_msgcount_t) 5)
+#define MACH_PORT_QLIMIT_MAX ((mach_port_msgcount_t) 64) /* above that of a Mach kernel */
 
 #endif

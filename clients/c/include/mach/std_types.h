@@ -1,6 +1,6 @@
 /*
- * The types that messages are made of. All have 32 bits, on machines of 64 bits too, so that every program sends the
- * same bytes.
+ * Sizes and addresses in the caller's own memory, which stubs of the Mach Interface Generator use. They have as many bits
+ * as the machine has, and stand in no message: numbers of messages have 32 bits everywhere (mach/port.h, mach/message.h).
  */
 
 #ifndef _MACH_STD_TYPES_H_
