@@ -108,24 +108,6 @@ module _ {C T : Type 0} (answer : T → Reply) (makes : C → Call → T → C �
       × Tries mid receive m.receive_timeout
       (left_of None (Some (again receive)) m.send_timeout m.receive_timeout) pending new)
 
-  -- What a frame asks for was done as far as it can be now. Only a mach_msg waits.
-  abbrev pub TakesOne : C → Call → PendingFrame T → C → Type 0
-  TakesOne old c (Settled ready) new = AsksOne old c ready new
-  TakesOne old c (Waits rest) new = ⊥
-
-  abbrev pub TakesRequest : C → Request → PendingFrame T → C → Type 0
-  TakesRequest old (request.One c) pending new = TakesOne old c pending new
-  TakesRequest old (request.Message m) pending new = Proceeds old m m.send m.receive pending new
-  TakesRequest old (request.Answered code) pending new =
-      (pending ≡ Settled (Known (only_code code))) × (new ≡ old)
-
-  -- A frame of this content was taken in hand.
-  abbrev pub IsTaken : C → List ℕ → PendingFrame T → C → Type 0
-  IsTaken old content pending new =
-      ((asks : Request) × Asks content asks × TakesRequest old asks pending new)
-      ⊎ ((known : Reply) × (pending ≡ Settled (Known known))
-      × (IsRefused old content known new ⊎ LacksMemory old content known new))
-
   -- What waited was tried again, attempt after attempt, each with what the one before left.
   abbrev pub GoesOn : C → MessageRequest → List MessageRequest → Ready T → C → Type 0
   GoesOn old m [] ready new = Proceeds old m m.send m.receive (Settled ready) new
@@ -144,6 +126,30 @@ module _ {C T : Type 0} (answer : T → Reply) (makes : C → Call → T → C �
   GivesUp old m new =
       (count : ℕ) × (last : MessageRequest) × TriesInVain old m count last new
       × ((bound_of last ≡ None) ⊎ (2 ^ 64 - 1 ≤ count))
+
+-- and further: whether it is confined, and that it was confined
+module _ {C T : Type 0} (answer : T → Reply) (makes : C → Call → T → C → Type 0) (lacks : C → Call → C → Type 0)
+    (confined : C → Bool) (confines : C → C → Type 0) where
+  -- What a frame asks for was done as far as it can be now. Only a mach_msg waits.
+  abbrev pub TakesOne : C → Call → PendingFrame T → C → Type 0
+  TakesOne old c (Settled ready) new =
+      MatchBool (confined old && is_attach c) ((ready ≡ Known no_access) × (new ≡ old))
+      (AsksOne answer makes lacks old c ready new)
+  TakesOne old c (Waits rest) new = ⊥
+
+  abbrev pub TakesRequest : C → Request → PendingFrame T → C → Type 0
+  TakesRequest old (request.One c) pending new = TakesOne old c pending new
+  TakesRequest old (request.Message m) pending new = Proceeds answer makes lacks old m m.send m.receive pending new
+  TakesRequest old (request.Answered code) pending new =
+      (pending ≡ Settled (Known (only_code code))) × (new ≡ old)
+
+  -- A frame of this content was taken in hand.
+  abbrev pub IsTaken : C → List ℕ → PendingFrame T → C → Type 0
+  IsTaken old content pending new =
+      ((content ≡ confine_content) × (pending ≡ Settled (Known is_confined)) × confines old new)
+      ⊎ (((asks : Request) × Asks content asks × TakesRequest old asks pending new)
+      ⊎ ((known : Reply) × (pending ≡ Settled (Known known))
+      × (IsRefused old content known new ⊎ LacksMemory old content known new)))
 
 -- and further: that a ticket's reply was given, and that the store failed before
 module _ {C T : Type 0} (answer : T → Reply) (makes : C → Call → T → C → Type 0) (lacks : C → Call → C → Type 0)
@@ -181,16 +187,19 @@ module _ {C T : Type 0} (answer : T → Reply) (makes : C → Call → T → C �
   IsUnanswered old pending (Store fault) new = IsUnacknowledged old pending fault new
   IsUnanswered old pending (Wire fault) new = (fault ≡ Device) × IsGivenUp old pending new
 
+module _ {C T : Type 0} (answer : T → Reply) (makes : C → Call → T → C → Type 0) (lacks : C → Call → C → Type 0)
+    (acknowledges : C → T → C → Type 0) (fails : C → T → StoreFault → C → Type 0) (confined : C → Bool)
+    (confines : C → C → Type 0) where
   -- Frames are answered in the order in which they were taken. `all_pending` were in hand at the beginning, and `left`
   -- are at the end.
   abbrev pub Acted : C → List (PendingFrame T) → List (Act T) → List (PendingFrame T) → C → Type 0
   Acted old all_pending [] left new = (left ≡ all_pending) × (new ≡ old)
   Acted old all_pending (took content pending ∷ acts) left new =
-      (mid : C) × IsTaken answer makes lacks old content pending mid
+      (mid : C) × IsTaken answer makes lacks confined confines old content pending mid
       × Acted mid (all_pending ++ pending ∷ []) acts left new
   Acted old [] (acknowledged reply ∷ acts) left new = ⊥
   Acted old (pending ∷ all_pending) (acknowledged reply ∷ acts) left new =
-      (mid : C) × IsAcknowledged old pending reply mid × Acted mid all_pending acts left new
+      (mid : C) × IsAcknowledged answer makes lacks acknowledges fails old pending reply mid × Acted mid all_pending acts left new
 
 -- the frames that were taken, as they were read, and the replies that were given, as they are written
 abbrev pub frames_of : {T : Type 0} → List (Act T) → List ℕ
@@ -208,12 +217,13 @@ abbrev pub IsLeft : List ℕ → Option (List ℕ) → Type 0
 IsLeft rest left = (left ≡ Some rest) ⊎ ((fault : WireFault) × IsReadOf rest (Err fault) left)
 
 module _ {C T : Type 0} (answer : T → Reply) (makes : C → Call → T → C → Type 0) (lacks : C → Call → C → Type 0)
-    (acknowledges : C → T → C → Type 0) (fails : C → T → StoreFault → C → Type 0) where
+    (acknowledges : C → T → C → Type 0) (fails : C → T → StoreFault → C → Type 0) (confined : C → Bool)
+    (confines : C → C → Type 0) where
   -- So far: this rest of the input isn't taken, and what was sent is what was sent before and then the replies.
   pub record Went (old : C) (all_pending : List (PendingFrame T)) (now : C) (input before rest sent : List ℕ)
       (left : List (PendingFrame T)) : Type 0 where
     pub acts : List (Act T)
-    pub acted : Acted answer makes lacks acknowledges fails old all_pending acts left now
+    pub acted : Acted answer makes lacks acknowledges fails confined confines old all_pending acts left now
     pub read : input ≡ frames_of acts ++ rest
     pub acknowledged_is : sent ≡ before ++ replies_of acts
 
@@ -361,7 +371,7 @@ module _ {C T : Type 0} (answer : T → Reply) (makes : C → Call → T → C �
       (result : Result Bool WireFault) : Type 0 where
     pub acts : List (Act T)
     pub rest : List ℕ
-    pub acted : Acted answer makes lacks acknowledges fails old [] acts all_pending new
+    pub acted : Acted answer makes lacks acknowledges fails confined confines old [] acts all_pending new
     pub read : input ≡ frames_of acts ++ rest
     pub silent : replies_of acts ≡ []
     pub some : IsSome (length acts) result
