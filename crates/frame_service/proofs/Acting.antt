@@ -25,14 +25,15 @@ replies_both (acknowledged reply ∷ acts) more =
     ∙ sym (append_assoc (frame_encoding (reply_encoding reply)) (replies_of acts) (replies_of more))
 
 module _ {C T : Type 0} (answer : T → Reply) (makes : C → Call → T → C → Type 0) (lacks : C → Call → C → Type 0)
-    (acknowledges : C → T → C → Type 0) (fails : C → T → StoreFault → C → Type 0) where
+    (acknowledges : C → T → C → Type 0) (fails : C → T → StoreFault → C → Type 0) (confined : C → Bool)
+    (confines : C → C → Type 0) where
   pub acted_both : (old mid new : C) (queue between left : List (PendingFrame T)) (acts more : List (Act T))
-      → Acted answer makes lacks acknowledges fails old queue acts between mid
-      → Acted answer makes lacks acknowledges fails mid between more left new
-      → Acted answer makes lacks acknowledges fails old queue (acts ++ more) left new
+      → Acted answer makes lacks acknowledges fails confined confines old queue acts between mid
+      → Acted answer makes lacks acknowledges fails confined confines mid between more left new
+      → Acted answer makes lacks acknowledges fails confined confines old queue (acts ++ more) left new
   acted_both old mid new queue between left [] more first second =
-      subst (λ c. Acted answer makes lacks acknowledges fails c queue more left new) first.1
-      (subst (λ q. Acted answer makes lacks acknowledges fails mid q more left new) first.0 second)
+      subst (λ c. Acted answer makes lacks acknowledges fails confined confines c queue more left new) first.1
+      (subst (λ q. Acted answer makes lacks acknowledges fails confined confines mid q more left new) first.0 second)
   acted_both old mid new queue between left (took content pending ∷ acts) more first second =
       (first.0, first.1, acted_both first.0 mid new (queue ++ pending ∷ []) between left acts more first.2 second)
   acted_both old mid new [] between left (acknowledged reply ∷ acts) more first second = absurd first
@@ -42,9 +43,9 @@ module _ {C T : Type 0} (answer : T → Reply) (makes : C → Call → T → C �
   -- So far, and then further.
   pub went_both : (old mid new : C) (queue between left : List (PendingFrame T))
       (input before rest sent further out : List ℕ)
-      → Went answer makes lacks acknowledges fails old queue mid input before rest sent between
-      → Went answer makes lacks acknowledges fails mid between new rest sent further out left
-      → Went answer makes lacks acknowledges fails old queue new input before further out left
+      → Went answer makes lacks acknowledges fails confined confines old queue mid input before rest sent between
+      → Went answer makes lacks acknowledges fails confined confines mid between new rest sent further out left
+      → Went answer makes lacks acknowledges fails confined confines old queue new input before further out left
   went_both old mid new queue between left input before rest sent further out first second = record {
     acts = first.acts ++ second.acts;
     acted = acted_both old mid new queue between left first.acts second.acts first.acted second.acted;
@@ -60,8 +61,8 @@ module _ {C T : Type 0} (answer : T → Reply) (makes : C → Call → T → C �
 
   pub acts_both : (old mid new : C) (queue between left : List (PendingFrame T))
       (input before rest sent further out : List ℕ)
-      (first : Went answer makes lacks acknowledges fails old queue mid input before rest sent between)
-      (second : Went answer makes lacks acknowledges fails mid between new rest sent further out left)
+      (first : Went answer makes lacks acknowledges fails confined confines old queue mid input before rest sent between)
+      (second : Went answer makes lacks acknowledges fails confined confines mid between new rest sent further out left)
       → length (went_both old mid new queue between left input before rest sent further out first second).acts
       ≡ length first.acts + length second.acts
   unfolding went_both
@@ -70,7 +71,7 @@ module _ {C T : Type 0} (answer : T → Reply) (makes : C → Call → T → C �
 
   -- Nothing was done yet.
   pub begun : (old : C) (queue : List (PendingFrame T)) (input before : List ℕ)
-      → Went answer makes lacks acknowledges fails old queue old input before input before queue
+      → Went answer makes lacks acknowledges fails confined confines old queue old input before input before queue
   begun old queue input before =
       record { acts = []; acted = (refl, refl); read = refl; acknowledged_is = sym (append-nil before) }
 
@@ -78,7 +79,7 @@ module _ {C T : Type 0} (answer : T → Reply) (makes : C → Call → T → C �
   pub one_acknowledged : (old new : C) (pending : PendingFrame T) (all_pending : List (PendingFrame T)) (reply : Reply)
       (input before sent : List ℕ) → IsAcknowledged answer makes lacks acknowledges fails old pending reply new
       → sent ≡ before ++ frame_encoding (reply_encoding reply)
-      → Went answer makes lacks acknowledges fails old (pending ∷ all_pending) new input before input sent all_pending
+      → Went answer makes lacks acknowledges fails confined confines old (pending ∷ all_pending) new input before input sent all_pending
   one_acknowledged old new pending all_pending reply input before sent is out = record {
     acts = acknowledged reply ∷ [];
     acted = (new, is, (refl, refl));
@@ -91,7 +92,7 @@ module _ {C T : Type 0} (answer : T → Reply) (makes : C → Call → T → C �
       (count : ℕ) : Type 0 where
     pub acts : List (Act T)
     pub rest : List ℕ
-    pub acted : Acted answer makes lacks acknowledges fails old [] acts all_pending now
+    pub acted : Acted answer makes lacks acknowledges fails confined confines old [] acts all_pending now
     pub read : input ≡ frames_of acts ++ rest
     pub silent : replies_of acts ≡ []
     pub counted : length acts ≡ count
@@ -106,7 +107,7 @@ module _ {C T : Type 0} (answer : T → Reply) (makes : C → Call → T → C �
       (input content beyond : List ℕ) (left now : Option (List ℕ)) (count : ℕ)
       (so_far : Taking old mid all_pending input left count)
       → so_far.rest ≡ frame_encoding content ++ beyond → now ≡ Some beyond
-      → IsTaken answer makes lacks mid content pending new → more ≡ all_pending ++ pending ∷ []
+      → IsTaken answer makes lacks confined confines mid content pending new → more ≡ all_pending ++ pending ∷ []
       → Taking old new more input now (count + 1)
   one_taken old mid new all_pending more pending input content beyond left now count so_far front is taken pushed =
       let one : List (Act T) = took content pending ∷ [] in

@@ -48,15 +48,16 @@ pub at_known : (o : Option (List ℕ)) (bytes : List ℕ) (P : List ℕ → Type
 at_known o bytes P is holds = subst (λ p. IfSome p P) is holds
 
 module _ {C T : Type 0} (answer : T → Reply) (makes : C → Call → T → C → Type 0) (lacks : C → Call → C → Type 0)
-    (acknowledges : C → T → C → Type 0) (fails : C → T → StoreFault → C → Type 0) where
+    (acknowledges : C → T → C → Type 0) (fails : C → T → StoreFault → C → Type 0) (confined : C → Bool)
+    (confines : C → C → Type 0) where
   abbrev Takes : C → C → List (PendingFrame T) → List ℕ → Option (List ℕ) → ℕ → Type 0
-  Takes = Taking answer makes lacks acknowledges fails
+  Takes = Taking answer makes lacks acknowledges fails confined confines
 
   abbrev Took : C → C → List (PendingFrame T) → List ℕ → Option (List ℕ) → Result Bool WireFault → Type 0
-  Took = TookFrames answer makes lacks acknowledges fails
+  Took = TookFrames answer makes lacks acknowledges fails confined confines
 
   abbrev So : C → List (PendingFrame T) → C → List ℕ → List ℕ → List ℕ → List ℕ → List (PendingFrame T) → Type 0
-  So = Went answer makes lacks acknowledges fails
+  So = Went answer makes lacks acknowledges fails confined confines
 
   pub took_stops : (old mid : C) (all_pending : List (PendingFrame T)) (input : List ℕ) (left now : Option (List ℕ))
       (count : ℕ) (fault : WireFault) (result : Result Bool WireFault) → Takes old mid all_pending input left count
@@ -119,7 +120,7 @@ module _ {C T : Type 0} (answer : T → Reply) (makes : C → Call → T → C �
   some_taken old mid all_pending input before left taken = taken.some
 
   is_left : (rest : List ℕ) (left : Option (List ℕ)) (result : Result Bool WireFault)
-      → IsRead answer makes lacks acknowledges fails rest left result → IsLeft rest left
+      → IsRead answer makes lacks acknowledges fails confined confines rest left result → IsLeft rest left
   is_left rest left (Ok true) is = inl is
   is_left rest left (Ok false) is = inl (is.1 ∙ ap (λ (l : List ℕ). Some l) (sym is.0))
   is_left rest left (Err fault) is = inr (fault, is)
@@ -135,10 +136,10 @@ module _ {C T : Type 0} (answer : T → Reply) (makes : C → Call → T → C �
       at_known o sent (λ b. EndsOne answer makes lacks acknowledges fails mid pending new b written (Ok tt)) is one
       in (
         sent ++ frame_encoding (reply_encoding ends.0),
-        went_both answer makes lacks acknowledges fails old mid new queue
+        went_both answer makes lacks acknowledges fails confined confines old mid new queue
             (pending ∷ rest) rest input before input sent input (sent ++ frame_encoding (reply_encoding ends.0))
             (subst (λ q. So old queue mid input before input sent q) front so_far)
-            (one_acknowledged answer makes lacks acknowledges fails mid new pending rest ends.0 input sent _ ends.1
+            (one_acknowledged answer makes lacks acknowledges fails confined confines mid new pending rest ends.0 input sent _ ends.1
             refl),
         ends.2,
       )
@@ -150,10 +151,10 @@ module _ {C T : Type 0} (answer : T → Reply) (makes : C → Call → T → C �
       → all_pending ≡ pending ∷ rest → o ≡ Some sent
       → IfSome o (λ b. EndsOne answer makes lacks acknowledges fails mid pending new b written (Err fault))
       → IsLeft input left → result ≡ Err fault
-      → EndsAcknowledging answer makes lacks acknowledges fails old queue new input before left written result
+      → EndsAcknowledging answer makes lacks acknowledges fails confined confines old queue new input before left written result
   telling_stops old mid new queue all_pending rest pending input before sent o left written fault result so_far front is
       one unread result_is =
-      subst (λ r. EndsAcknowledging answer makes lacks acknowledges fails old queue new input before left written r)
+      subst (λ r. EndsAcknowledging answer makes lacks acknowledges fails confined confines old queue new input before left written r)
       (sym result_is) (by fault (at_known o sent
       (λ b. EndsOne answer makes lacks acknowledges fails mid pending new b written (Err fault)) is one))
     where
@@ -161,7 +162,7 @@ module _ {C T : Type 0} (answer : T → Reply) (makes : C → Call → T → C �
       here = subst (λ q. So old queue mid input before input sent q) front so_far
 
       by : (f : ServeFault) → EndsOne answer makes lacks acknowledges fails mid pending new sent written (Err f)
-          → EndsAcknowledging answer makes lacks acknowledges fails old queue new input before left written (Err f)
+          → EndsAcknowledging answer makes lacks acknowledges fails confined confines old queue new input before left written (Err f)
       by (Store f) ends =
           record {
             mid = mid;
@@ -215,11 +216,11 @@ module _ {C T : Type 0} (answer : T → Reply) (makes : C → Call → T → C �
       (left written : Option (List ℕ)) (result : Result (Unit {0}) ServeFault)
       → So old queue new input before input sent all_pending → all_pending ≡ [] → written ≡ Some sent
       → IfErr result (λ fault. fault ≡ Wire Device) → IsLeft input left
-      → EndsAcknowledging answer makes lacks acknowledges fails old queue new input before left written result
+      → EndsAcknowledging answer makes lacks acknowledges fails confined confines old queue new input before left written result
   telling_ends old new queue all_pending input before sent left written (Ok done) so_far none is flushed unread =
       (sent, subst (λ q. So old queue new input before input sent q) none so_far, is)
   telling_ends old new queue all_pending input before sent left written (Err fault) so_far none is flushed unread =
-      subst (λ (f : ServeFault). EndsAcknowledging answer makes lacks acknowledges fails old queue new input before left
+      subst (λ (f : ServeFault). EndsAcknowledging answer makes lacks acknowledges fails confined confines old queue new input before left
       written (Err f)) (sym flushed)
       (inr (inl (record {
         fault_is = refl;
@@ -236,18 +237,18 @@ module _ {C T : Type 0} (answer : T → Reply) (makes : C → Call → T → C �
       (left written : Option (List ℕ)) (taken : Result Bool WireFault) (fault : ServeFault)
       (result : Result Bool ServeFault) → (taking : Took old mid all_pending input left taken)
       → ((rest : List ℕ) (l : Option (List ℕ)) → IsLeft rest l
-      → EndsAcknowledging answer makes lacks acknowledges fails mid all_pending new rest before l written
+      → EndsAcknowledging answer makes lacks acknowledges fails confined confines mid all_pending new rest before l written
       (Err fault)) → result ≡ Err fault
-      → EndsRound answer makes lacks acknowledges fails old [] new input before left written result
+      → EndsRound answer makes lacks acknowledges fails confined confines old [] new input before left written result
   round_stops old mid new all_pending input before left written taken fault result taking acknowledging result_is =
-      subst (λ r. EndsRound answer makes lacks acknowledges fails old [] new input before left written r)
+      subst (λ r. EndsRound answer makes lacks acknowledges fails confined confines old [] new input before left written r)
       (sym result_is) (by fault (acknowledging taking.rest left (is_left taking.rest left taken taking.is_read)))
     where
       front : So old [] mid input before taking.rest before all_pending
       front = took_went old mid all_pending input before left taken taking
 
-      by : (f : ServeFault) → EndsAcknowledging answer makes lacks acknowledges fails mid all_pending new taking.rest
-          before left written (Err f) → EndsRound answer makes lacks acknowledges fails old
+      by : (f : ServeFault) → EndsAcknowledging answer makes lacks acknowledges fails confined confines mid all_pending new taking.rest
+          before left written (Err f) → EndsRound answer makes lacks acknowledges fails confined confines old
           [] new input before left written (Err f)
       by (Store f) s = record {
         mid = s.mid;
@@ -256,7 +257,7 @@ module _ {C T : Type 0} (answer : T → Reply) (makes : C → Call → T → C �
         pending = s.pending;
         all_pending = s.all_pending;
         went =
-            went_both answer makes lacks acknowledges fails old mid s.mid [] all_pending
+            went_both answer makes lacks acknowledges fails confined confines old mid s.mid [] all_pending
             (s.pending ∷ s.all_pending) input before taking.rest before s.rest s.sent front s.went;
         unacknowledged = s.unacknowledged;
         unread = s.unread;
@@ -270,7 +271,7 @@ module _ {C T : Type 0} (answer : T → Reply) (makes : C → Call → T → C �
         pending = s.pending;
         all_pending = s.all_pending;
         went =
-            went_both answer makes lacks acknowledges fails old mid s.mid [] all_pending
+            went_both answer makes lacks acknowledges fails confined confines old mid s.mid [] all_pending
             (s.pending ∷ s.all_pending) input before taking.rest before s.rest s.sent front s.went;
         reply = s.reply;
         is_acknowledged = s.is_acknowledged;
@@ -283,7 +284,7 @@ module _ {C T : Type 0} (answer : T → Reply) (makes : C → Call → T → C �
         sent = s.sent;
         all_pending = s.all_pending;
         went =
-            went_both answer makes lacks acknowledges fails old mid new
+            went_both answer makes lacks acknowledges fails confined confines old mid new
             [] all_pending s.all_pending input before taking.rest before s.rest s.sent front s.went;
         unread = s.unread;
         written_is = s.written_is;
@@ -296,7 +297,7 @@ module _ {C T : Type 0} (answer : T → Reply) (makes : C → Call → T → C �
         pending = s.pending;
         all_pending = s.all_pending;
         went =
-            went_both answer makes lacks acknowledges fails old mid s.mid [] all_pending
+            went_both answer makes lacks acknowledges fails confined confines old mid s.mid [] all_pending
             (s.pending ∷ s.all_pending) input before taking.rest before s.rest s.sent front s.went;
         given_up = s.given_up;
         unread = s.unread;
@@ -306,21 +307,21 @@ module _ {C T : Type 0} (answer : T → Reply) (makes : C → Call → T → C �
   abbrev Ready : C → List (PendingFrame T) → C → List ℕ → Option (List ℕ) → Type 0
   Ready mid all_pending new before written =
       (rest : List ℕ) (l : Option (List ℕ)) → IsLeft rest l
-      → EndsAcknowledging answer makes lacks acknowledges fails mid all_pending new rest before l written (Ok tt)
+      → EndsAcknowledging answer makes lacks acknowledges fails confined confines mid all_pending new rest before l written (Ok tt)
 
   pub round_unread : (old mid new : C) (all_pending : List (PendingFrame T)) (input before : List ℕ)
       (left written : Option (List ℕ)) (fault : WireFault) (result : Result Bool ServeFault)
       → Took old mid all_pending input left (Err fault) → Ready mid all_pending new before written
       → result ≡ Err (Wire fault)
-      → EndsRound answer makes lacks acknowledges fails old [] new input before left written result
+      → EndsRound answer makes lacks acknowledges fails confined confines old [] new input before left written result
   round_unread old mid new all_pending input before left written fault result taking acknowledging result_is =
       let t = acknowledging taking.rest left (is_left taking.rest left (Err fault) taking.is_read) in
-      subst (λ r. EndsRound answer makes lacks acknowledges fails old [] new input before left written r)
+      subst (λ r. EndsRound answer makes lacks acknowledges fails confined confines old [] new input before left written r)
       (sym result_is) (inl (record {
         rest = taking.rest;
         sent = t.0;
         went =
-            went_both answer makes lacks acknowledges fails old mid new [] all_pending
+            went_both answer makes lacks acknowledges fails confined confines old mid new [] all_pending
             [] input before taking.rest before taking.rest t.0
             (took_went old mid all_pending input before left (Err fault) taking) t.1;
         unreadable = taking.is_read;
@@ -330,12 +331,12 @@ module _ {C T : Type 0} (answer : T → Reply) (makes : C → Call → T → C �
   pub round_goes : (old mid new : C) (all_pending : List (PendingFrame T)) (input before : List ℕ)
       (left written : Option (List ℕ)) (goes : Bool) → Took old mid all_pending input left (Ok goes)
       → Ready mid all_pending new before written
-      → EndsRound answer makes lacks acknowledges fails old [] new input before left written (Ok goes)
+      → EndsRound answer makes lacks acknowledges fails confined confines old [] new input before left written (Ok goes)
   round_goes old mid new all_pending input before left written true taking acknowledging =
       let t = acknowledging taking.rest left (inl taking.is_read) in
       let front = took_went old mid all_pending input before left (Ok true) taking in
       let both =
-      went_both answer makes lacks acknowledges fails old mid new [] all_pending
+      went_both answer makes lacks acknowledges fails confined confines old mid new [] all_pending
       [] input before taking.rest before taking.rest t.0 front t.1 in
       record {
         rest = taking.rest;
@@ -344,7 +345,7 @@ module _ {C T : Type 0} (answer : T → Reply) (makes : C → Call → T → C �
         some =
             omega (
               arith,
-              acts_both answer makes lacks acknowledges fails old mid new [] all_pending
+              acts_both answer makes lacks acknowledges fails confined confines old mid new [] all_pending
                   [] input before taking.rest before taking.rest t.0 front t.1,
               some_taken old mid all_pending input before left taking,
             );
@@ -354,7 +355,7 @@ module _ {C T : Type 0} (answer : T → Reply) (makes : C → Call → T → C �
   round_goes old mid new all_pending input before left written false taking acknowledging =
       let t = acknowledging taking.rest left (is_left taking.rest left (Ok false) taking.is_read) in
       let both =
-      went_both answer makes lacks acknowledges fails old mid new [] all_pending
+      went_both answer makes lacks acknowledges fails confined confines old mid new [] all_pending
       [] input before taking.rest before taking.rest t.0
       (took_went old mid all_pending input before left (Ok false) taking) t.1 in
       record {
@@ -368,12 +369,12 @@ module _ {C T : Type 0} (answer : T → Reply) (makes : C → Call → T → C �
   abbrev Tells : C → List (PendingFrame T) → C → Option (List ℕ) → Result (Unit {0}) ServeFault → List ℕ → Type 0
   Tells mid all_pending new written acknowledged before =
       (rest : List ℕ) (l : Option (List ℕ)) → IsLeft rest l
-      → EndsAcknowledging answer makes lacks acknowledges fails mid all_pending new rest before l written
+      → EndsAcknowledging answer makes lacks acknowledges fails confined confines mid all_pending new rest before l written
       acknowledged
 
   abbrev Rounds : C → C → Option (List ℕ) → Option (List ℕ) → Result Bool ServeFault → List ℕ → List ℕ → Type 0
   Rounds old new left written result input before =
-      EndsRound answer makes lacks acknowledges fails old [] new input before left written result
+      EndsRound answer makes lacks acknowledges fails confined confines old [] new input before left written result
 
   pub stopped : (old mid new : C) (all_pending : List (PendingFrame T)) (o p left written : Option (List ℕ))
       (taken : Result Bool WireFault) (fault : ServeFault) (result : Result Bool ServeFault)
@@ -422,7 +423,7 @@ module _ {C T : Type 0} (answer : T → Reply) (makes : C → Call → T → C �
       record {
         rest = input;
         sent = before;
-        went = begun answer makes lacks acknowledges fails old [] input before;
+        went = begun answer makes lacks acknowledges fails confined confines old [] input before;
         counted = omega arith;
         rest_is = is;
         written_is = also;
@@ -432,7 +433,7 @@ module _ {C T : Type 0} (answer : T → Reply) (makes : C → Call → T → C �
       → Type 0
   Turn mid new left written now out result =
       IfSome left (λ i. IfSome written
-      (λ b. EndsRound answer makes lacks acknowledges fails mid [] new i b now out result))
+      (λ b. EndsRound answer makes lacks acknowledges fails confined confines mid [] new i b now out result))
 
   pub next_turn : (old mid new : C) (input before : List ℕ) (left written now out : Option (List ℕ)) (count : ℕ)
       → Turning old mid input before left written count → Turn mid new left written now out (Ok true)
@@ -440,20 +441,20 @@ module _ {C T : Type 0} (answer : T → Reply) (makes : C → Call → T → C �
   next_turn old mid new input before left written now out count so_far turn =
       let ends =
       at_both left written so_far.rest so_far.sent
-      (λ i b. EndsRound answer makes lacks acknowledges fails mid [] new i b now out (Ok true)) so_far.rest_is
+      (λ i b. EndsRound answer makes lacks acknowledges fails confined confines mid [] new i b now out (Ok true)) so_far.rest_is
       so_far.written_is turn in
       record {
         rest = ends.rest;
         sent = ends.sent;
         went =
-            went_both answer makes lacks acknowledges fails old mid new [] []
+            went_both answer makes lacks acknowledges fails confined confines old mid new [] []
             [] input before so_far.rest so_far.sent ends.rest ends.sent so_far.went ends.went;
         counted =
             omega (
               arith,
               so_far.counted,
               ends.some,
-              acts_both answer makes lacks acknowledges fails old mid new [] []
+              acts_both answer makes lacks acknowledges fails confined confines old mid new [] []
                   [] input before so_far.rest so_far.sent ends.rest ends.sent so_far.went ends.went,
             );
         rest_is = ends.unread;
@@ -462,15 +463,15 @@ module _ {C T : Type 0} (answer : T → Reply) (makes : C → Call → T → C �
 
   pub last_turn : (old mid new : C) (input before : List ℕ) (left written now out : Option (List ℕ)) (count : ℕ)
       → Turning old mid input before left written count → Turn mid new left written now out (Ok false)
-      → EndsAsked answer makes lacks acknowledges fails old [] new input before now out (Ok tt)
+      → EndsAsked answer makes lacks acknowledges fails confined confines old [] new input before now out (Ok tt)
   last_turn old mid new input before left written now out count so_far turn =
       let ends =
       at_both left written so_far.rest so_far.sent
-      (λ i b. EndsRound answer makes lacks acknowledges fails mid [] new i b now out (Ok false)) so_far.rest_is
+      (λ i b. EndsRound answer makes lacks acknowledges fails confined confines mid [] new i b now out (Ok false)) so_far.rest_is
       so_far.written_is turn in
       record {
         sent = ends.sent;
-        went = went_both answer makes lacks acknowledges fails old mid new [] []
+        went = went_both answer makes lacks acknowledges fails confined confines old mid new [] []
             [] input before so_far.rest so_far.sent [] ends.sent so_far.went ends.went;
         all = ends.all;
         written_is = ends.written_is;
@@ -479,22 +480,22 @@ module _ {C T : Type 0} (answer : T → Reply) (makes : C → Call → T → C �
   pub turn_stops : (old mid new : C) (input before : List ℕ) (left written now out : Option (List ℕ)) (count : ℕ)
       (fault : ServeFault) (result : Result (Unit {0}) ServeFault) → Turning old mid input before left written count
       → Turn mid new left written now out (Err fault) → result ≡ Err fault
-      → EndsAsked answer makes lacks acknowledges fails old [] new input before now out result
+      → EndsAsked answer makes lacks acknowledges fails confined confines old [] new input before now out result
   turn_stops old mid new input before left written now out count fault result so_far turn is =
-      subst (λ r. EndsAsked answer makes lacks acknowledges fails old [] new input before now out r) (sym is)
+      subst (λ r. EndsAsked answer makes lacks acknowledges fails confined confines old [] new input before now out r) (sym is)
       (by fault (at_both left written so_far.rest so_far.sent
-      (λ i b. EndsRound answer makes lacks acknowledges fails mid [] new i b now out (Err fault)) so_far.rest_is
+      (λ i b. EndsRound answer makes lacks acknowledges fails confined confines mid [] new i b now out (Err fault)) so_far.rest_is
       so_far.written_is turn))
     where
       on : (later : C) (rest sent : List ℕ) (all_pending : List (PendingFrame T))
           → So mid [] later so_far.rest so_far.sent rest sent all_pending
           → So old [] later input before rest sent all_pending
       on later rest sent all_pending went =
-          went_both answer makes lacks acknowledges fails old mid later []
+          went_both answer makes lacks acknowledges fails confined confines old mid later []
           [] all_pending input before so_far.rest so_far.sent rest sent so_far.went went
 
-      by : (f : ServeFault) → EndsRound answer makes lacks acknowledges fails mid [] new so_far.rest so_far.sent now out
-          (Err f) → EndsAsked answer makes lacks acknowledges fails old [] new input before now out (Err f)
+      by : (f : ServeFault) → EndsRound answer makes lacks acknowledges fails confined confines mid [] new so_far.rest so_far.sent now out
+          (Err f) → EndsAsked answer makes lacks acknowledges fails confined confines old [] new input before now out (Err f)
       by (Store f) s =
           record {
             mid = s.mid;
@@ -554,7 +555,7 @@ module _ {C T : Type 0} (answer : T → Reply) (makes : C → Call → T → C �
 
   pub at_most : (old now : C) (input before : List ℕ) (left written : Option (List ℕ)) (count : ℕ)
       → Turning old now input before left written count → 2 ^ 64 - 1 ≤ count
-      → EndsAsked answer makes lacks acknowledges fails old [] now input before left written (Err (Wire Device))
+      → EndsAsked answer makes lacks acknowledges fails confined confines old [] now input before left written (Err (Wire Device))
   at_most old now input before left written count so_far most =
       inr (inr (inr (inr (inr (record {
         fault_is = refl;

@@ -1,5 +1,5 @@
 -- A caller that may be asked for more before it answers what it was asked first: what becomes of a connection's frames.
-use Rattle.std.specs.Prelude.{◌≡◌, ◌⊎◌, ℕ, ◌-◌, ◌^◌, ◌≤◌, Bool, true, false, zero, suc, ⊤, ◌&&◌, ◌||◌, nat_le, nat_lt, List, [], ◌∷◌, ◌++◌, length, drop, cond, is_some, Option, None, Some, Result, Ok, Err}
+use Rattle.std.specs.Prelude.{◌≡◌, ◌≢◌, ◌⊎◌, ℕ, ◌-◌, ◌^◌, ◌≤◌, Bool, true, false, zero, suc, ⊤, ◌&&◌, ◌||◌, nat_le, nat_lt, List, [], ◌∷◌, ◌++◌, length, drop, cond, is_some, Option, None, Some, Result, Ok, Err, MatchBool}
 use Rattle.byteorder.specs.Endian.{little_number}
 use Rattle.calls.specs.Requests.{Asks}
 use Rattle.calls.specs.declared.request.MessageRequest.{MessageRequest}
@@ -17,6 +17,7 @@ use Rattle.ipc_model.specs.declared.reply.Reply.{Reply}
 use Rattle.ipc_model.specs.declared.reply.Reply.TheVariants as reply
 use Rattle.ipc_model.specs.encodings.Encodings.{reply_encoding}
 use Rattle.store_fault.specs.declared.fault.StoreFault.{StoreFault}
+use Rattle.frame_service.specs.Confining.{confine_content, confined_now, is_attach, no_access}
 use Rattle.frame_service.specs.Serving.{IsRefused, LacksMemory, only_code, shortage_of}
 use Rattle.frame_service.specs.declared.asking.PendingFrame.{PendingFrame}
 use Rattle.frame_service.specs.declared.asking.PendingFrame.TheVariants.{Settled, Waits}
@@ -146,10 +147,10 @@ module _ {C T : Type 0} (answer : T → Reply) (makes : C → Call → T → C �
   -- A frame of this content was taken in hand.
   abbrev pub IsTaken : C → List ℕ → PendingFrame T → C → Type 0
   IsTaken old content pending new =
-      ((content ≡ confine_content) × (pending ≡ Settled (Known is_confined)) × confines old new)
-      ⊎ (((asks : Request) × Asks content asks × TakesRequest old asks pending new)
+      ((content ≡ confine_content) × (pending ≡ Settled (Known confined_now)) × confines old new)
+      ⊎ ((content ≢ confine_content) × (((asks : Request) × Asks content asks × TakesRequest old asks pending new)
       ⊎ ((known : Reply) × (pending ≡ Settled (Known known))
-      × (IsRefused old content known new ⊎ LacksMemory old content known new)))
+      × (IsRefused old content known new ⊎ LacksMemory old content known new))))
 
 -- and further: that a ticket's reply was given, and that the store failed before
 module _ {C T : Type 0} (answer : T → Reply) (makes : C → Call → T → C → Type 0) (lacks : C → Call → C → Type 0)
@@ -187,6 +188,19 @@ module _ {C T : Type 0} (answer : T → Reply) (makes : C → Call → T → C �
   IsUnanswered old pending (Store fault) new = IsUnacknowledged old pending fault new
   IsUnanswered old pending (Wire fault) new = (fault ≡ Device) × IsGivenUp old pending new
 
+  -- How answering the first frame in hand ends.
+  abbrev pub EndsOne : C → PendingFrame T → C → List ℕ → Option (List ℕ) → Result (Unit {0}) ServeFault → Type 0
+  EndsOne old pending new before written (Ok done) =
+      (reply : Reply) × IsAcknowledged old pending reply new
+      × (written ≡ Some (before ++ frame_encoding (reply_encoding reply)))
+  EndsOne old pending new before written (Err (Wire fault)) =
+      (fault ≡ Device) × (((reply : Reply) × IsAcknowledged old pending reply new
+      × AppendsPart (Some before) written (frame_encoding (reply_encoding reply)))
+      ⊎ (((new ≡ old) × (written ≡ Some before))
+      ⊎ (IsGivenUp old pending new × (written ≡ Some before))))
+  EndsOne old pending new before written (Err (Store fault)) =
+      IsUnacknowledged old pending fault new × (written ≡ Some before)
+
 module _ {C T : Type 0} (answer : T → Reply) (makes : C → Call → T → C → Type 0) (lacks : C → Call → C → Type 0)
     (acknowledges : C → T → C → Type 0) (fails : C → T → StoreFault → C → Type 0) (confined : C → Bool)
     (confines : C → C → Type 0) where
@@ -199,7 +213,8 @@ module _ {C T : Type 0} (answer : T → Reply) (makes : C → Call → T → C �
       × Acted mid (all_pending ++ pending ∷ []) acts left new
   Acted old [] (acknowledged reply ∷ acts) left new = ⊥
   Acted old (pending ∷ all_pending) (acknowledged reply ∷ acts) left new =
-      (mid : C) × IsAcknowledged answer makes lacks acknowledges fails old pending reply mid × Acted mid all_pending acts left new
+      (mid : C) × IsAcknowledged answer makes lacks acknowledges fails old pending reply mid
+      × Acted mid all_pending acts left new
 
 -- the frames that were taken, as they were read, and the replies that were given, as they are written
 abbrev pub frames_of : {T : Type 0} → List (Act T) → List ℕ
@@ -343,19 +358,6 @@ module _ {C T : Type 0} (answer : T → Reply) (makes : C → Call → T → C �
         (sent : List ℕ) × Went old queue new input before input sent [] × (written ≡ Some sent)
     EndsAcknowledging (Err (Wire fault)) = StopsWriting fault ⊎ (StopsFlushing fault ⊎ StopsWaiting fault)
     EndsAcknowledging (Err (Store fault)) = StopsAcknowledging fault
-
-  -- How answering the first frame in hand ends.
-  abbrev pub EndsOne : C → PendingFrame T → C → List ℕ → Option (List ℕ) → Result (Unit {0}) ServeFault → Type 0
-  EndsOne old pending new before written (Ok done) =
-      (reply : Reply) × IsAcknowledged answer makes lacks acknowledges fails old pending reply new
-      × (written ≡ Some (before ++ frame_encoding (reply_encoding reply)))
-  EndsOne old pending new before written (Err (Wire fault)) =
-      (fault ≡ Device) × (((reply : Reply) × IsAcknowledged answer makes lacks acknowledges fails old pending reply new
-      × AppendsPart (Some before) written (frame_encoding (reply_encoding reply)))
-      ⊎ (((new ≡ old) × (written ≡ Some before))
-      ⊎ (IsGivenUp answer makes lacks acknowledges fails old pending new × (written ≡ Some before))))
-  EndsOne old pending new before written (Err (Store fault)) =
-      IsUnacknowledged answer makes lacks acknowledges fails old pending fault new × (written ≡ Some before)
 
   -- Frames were taken in hand, as many as were there: whether there may be more, or the next one can't be read.
   abbrev pub IsRead : List ℕ → Option (List ℕ) → Result Bool WireFault → Type 0

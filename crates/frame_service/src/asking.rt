@@ -1,4 +1,4 @@
-ghost use Rattle.std.specs.Prelude.{◌≡◌, ◌≤◌, length, IfErr, IfNone, IfOk, IfSome};
+ghost use Rattle.std.specs.Prelude.{◌≡◌, ◌≤◌, Bool, length, IfErr, IfNone, IfOk, IfSome};
 ghost use Rattle.codes.specs.declared.limits.TheConstants.{MAX_FRAME_CONTENT};
 ghost use Rattle.ipc_model.specs.calls.Step.{succeeded};
 ghost use Rattle.ipc_model.specs.declared.call.Call.{Call};
@@ -52,6 +52,20 @@ pub trait Asker {
 
     /// How the store may fail before a ticket's reply is given, and what it is afterwards.
     ghost fails: { Self → Self.Ticket → StoreFault → Self → Type 0 };
+
+    /// Whether its connection is confined.
+    ghost confined: { Self → Bool };
+
+    /// What it is after its connection was confined.
+    ghost confines: { Self → Self → Type 0 };
+
+    /// Whether its connection is confined to the space that it is attached to.
+    fn is_confined(&self) -> bool
+        ensures { result ≡ confined self.now };
+
+    /// Confines its connection to the space that it is attached to, for good.
+    fn confine(&mut self)
+        ensures { confines self.old self.new };
 
     /// Several calls are made now, and nothing else in between.
     fn begin_turn(&mut self)

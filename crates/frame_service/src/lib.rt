@@ -5,6 +5,7 @@ mod acknowledging;
 mod ahead;
 mod asking;
 mod caller;
+mod confining;
 mod rounds;
 mod service;
 mod short_reply;

@@ -32,7 +32,7 @@ pub fn serve_asked<R: Ahead, W: Write, A: Asker>(
 ) -> Result<(), ServeFault>
     // All that was read, called, acknowledged and written, by how it ended.
     ensures ended { IfSome (R.remaining reader.old) (λ input. IfSome (W.contents writer.old) (λ before.
-        EndsAsked A.answer A.makes A.lacks A.acknowledges A.fails asker.old [] asker.new input before
+        EndsAsked A.answer A.makes A.lacks A.acknowledges A.fails A.confined A.confines asker.old [] asker.new input before
         (R.remaining reader.new) (W.contents writer.new) result)) }
 {
     let Ok(mut reply) = Frame::with_room(alloc, MAX_FRAME_CONTENT as usize) else {
@@ -66,7 +66,7 @@ fn serve_round<R: Ahead, W: Write, A: Asker>(
     ensures capacity { MOST_PENDING_FRAMES ≤ deque_capacity all_pending.new }
     ensures room { reply.old.room ≤ reply.new.room }
     ensures ended { IfSome (R.remaining reader.old) (λ input. IfSome (W.contents writer.old) (λ before.
-        EndsRound A.answer A.makes A.lacks A.acknowledges A.fails asker.old [] asker.new input before
+        EndsRound A.answer A.makes A.lacks A.acknowledges A.fails A.confined A.confines asker.old [] asker.new input before
         (R.remaining reader.new) (W.contents writer.new) result)) }
 {
     let taken = take_turn(alloc, reader, asker, all_pending);
@@ -86,7 +86,7 @@ fn take_turn<R: Ahead, A: Asker>(
     requires capacity { MOST_PENDING_FRAMES ≤ deque_capacity all_pending.old }
     ensures capacity { MOST_PENDING_FRAMES ≤ deque_capacity all_pending.new }
     ensures took { IfSome (R.remaining reader.old) (λ input.
-        TookFrames A.answer A.makes A.lacks A.acknowledges A.fails asker.old asker.new all_pending.new.items input
+        TookFrames A.answer A.makes A.lacks A.acknowledges A.fails A.confined A.confines asker.old asker.new all_pending.new.items input
         (R.remaining reader.new) result) }
 {
     let taken = take_frames(alloc, reader, asker, all_pending);
@@ -105,7 +105,7 @@ fn take_frames<R: Ahead, A: Asker>(
     requires capacity { MOST_PENDING_FRAMES ≤ deque_capacity all_pending.old }
     ensures capacity { MOST_PENDING_FRAMES ≤ deque_capacity all_pending.new }
     ensures took { IfSome (R.remaining reader.old) (λ input.
-        TookFrames A.answer A.makes A.lacks A.acknowledges A.fails asker.old asker.new all_pending.new.items input
+        TookFrames A.answer A.makes A.lacks A.acknowledges A.fails A.confined A.confines asker.old asker.new all_pending.new.items input
         (R.remaining reader.new) result) }
 {
     for _ in 0..MOST_PENDING_FRAMES {
@@ -132,7 +132,7 @@ fn take_next<R: Ahead, A: Asker>(
     asker: &mut A,
     request: &Frame,
 ) -> PendingFrame<A::Ticket>
-    ensures { IsTaken A.answer A.makes A.lacks asker.old request.now.content result asker.new }
+    ensures { IsTaken A.answer A.makes A.lacks A.confined A.confines asker.old request.now.content result asker.new }
 {
     begin_turn_if(asker, reader.has_frame());
     take_frame(alloc, asker, request)
@@ -168,7 +168,7 @@ fn acknowledge_all<W: Write, A: Asker>(
     ensures room { reply.old.room ≤ reply.new.room }
     ensures acknowledged { IfSome (W.contents writer.old)
         (λ before. (input : List ℕ) (left : Option (List ℕ)) → IsLeft input left
-        → EndsAcknowledging A.answer A.makes A.lacks A.acknowledges A.fails asker.old all_pending.old.items asker.new
+        → EndsAcknowledging A.answer A.makes A.lacks A.acknowledges A.fails A.confined A.confines asker.old all_pending.old.items asker.new
         input before left (W.contents writer.new) result) }
 {
     while let Some(pending) = all_pending.pop_front() {

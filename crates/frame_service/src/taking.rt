@@ -1,13 +1,14 @@
 ghost use Rattle.std.specs.Prelude.{◌≡◌, ◌⊎◌, true, false, None, Some, IfErr, IfOk};
 ghost use Rattle.ipc_model.specs.calls.Step.{succeeded};
 ghost use Rattle.ipc_model.specs.declared.call.Call.{Call};
-ghost use Rattle.frame_service.specs.Asking.{AsksOne, IsTaken, Proceeds, TakesRequest, Tries, again, found_nothing, is_patient, is_sent, left_of, timed_out};
+ghost use Rattle.frame_service.specs.Asking.{AsksOne, IsTaken, Proceeds, TakesOne, TakesRequest, Tries, again, found_nothing, is_patient, is_sent, left_of, timed_out};
 ghost use Rattle.frame_service.specs.Serving.{only_code, shortage_of};
 ghost use Rattle.frame_service.specs.declared.asking.PendingFrame.TheVariants.{Settled, Waits};
 ghost use Rattle.frame_service.specs.declared.asking.Ready.TheVariants as ready;
 
 use crate::asking::{Asker, PendingFrame, Ready};
 use crate::caller::shortage;
+use crate::confining::{confined_now, is_attach, is_confine, no_access};
 use crate::service::{no_call, no_memory, only_code};
 use crate::short_reply::ShortReply;
 use calls::{CallFault, MessageRequest, Request, read_request};
@@ -23,8 +24,12 @@ pub(crate) fn take_frame<A: Asker>(
     asker: &mut A,
     request: &Frame,
 ) -> PendingFrame<A::Ticket>
-    ensures { IsTaken A.answer A.makes A.lacks asker.old request.now.content result asker.new }
+    ensures { IsTaken A.answer A.makes A.lacks A.confined A.confines asker.old request.now.content result asker.new }
 {
+    if is_confine(request) {
+        asker.confine();
+        return PendingFrame::Settled(Ready::Known(ShortReply::new(confined_now(alloc))));
+    }
     match read_request(alloc, request) {
         Ok(asked) => take_request(alloc, asker, asked),
         Err(CallFault::NoCall) => PendingFrame::Settled(Ready::Known(ShortReply::new(no_call(
@@ -54,7 +59,7 @@ fn lacking<T>(alloc: Global, call: &Call) -> Ready<T>
 
 /// Makes the calls that a frame asks for, as far as they can be made now.
 fn take_request<A: Asker>(alloc: Global, asker: &mut A, asked: Request) -> PendingFrame<A::Ticket>
-    ensures { TakesRequest A.answer A.makes A.lacks asker.old asked result asker.new }
+    ensures { TakesRequest A.answer A.makes A.lacks A.confined A.confines asker.old asked result asker.new }
 {
     match asked {
         Request::One(call) => PendingFrame::Settled(ask_one(alloc, asker, &call)),
@@ -63,10 +68,13 @@ fn take_request<A: Asker>(alloc: Global, asker: &mut A, asked: Request) -> Pendi
     }
 }
 
-/// Makes a call that doesn't wait.
+/// Makes a call that doesn't wait. An attach of a confined connection isn't made.
 fn ask_one<A: Asker>(alloc: Global, asker: &mut A, call: &Call) -> Ready<A::Ticket>
-    ensures { AsksOne A.answer A.makes A.lacks asker.old call.now result asker.new }
+    ensures { TakesOne A.answer A.makes A.lacks A.confined A.confines asker.old call.now (Settled result) asker.new }
 {
+    if asker.is_confined() && is_attach(call) {
+        return Ready::Known(ShortReply::new(no_access(alloc)));
+    }
     match asker.submit(call, false) {
         Some(ticket) => Ready::Made(ticket),
         None => lacking(alloc, call),

@@ -9,7 +9,7 @@ invariant-loop-pending g l = record {
   room : l.fn.reply.room ≤ l.reply.room;
   capacity : deque_capacity l.all_pending ≡ deque_capacity l.fn.all_pending;
   acknowledging : (before input : List ℕ) → g.W.Write.contents l.fn.writer ≡ Some before
-      → (sent : List ℕ) × Went g.A.Asker.answer g.A.Asker.makes g.A.Asker.lacks g.A.Asker.acknowledges g.A.Asker.fails
+      → (sent : List ℕ) × Went g.A.Asker.answer g.A.Asker.makes g.A.Asker.lacks g.A.Asker.acknowledges g.A.Asker.fails g.A.Asker.confined g.A.Asker.confines
       l.fn.asker l.fn.all_pending.items l.asker input before input sent l.all_pending.items
       × (g.W.Write.contents l.writer ≡ Some sent);
 }

@@ -8,7 +8,7 @@ pub returns-in_err-goes_on : goal.returns-in_err-goes_on
 returns-in_err-goes_on g c = record {
   ended = both_known _ _ _ (λ input before read written.
       let p = err_from_is_err_and c.from_residual.result c.from_residual.ensures.1 in
-      turn_stops g.A.Asker.answer g.A.Asker.makes g.A.Asker.lacks g.A.Asker.acknowledges g.A.Asker.fails
+      turn_stops g.A.Asker.answer g.A.Asker.makes g.A.Asker.lacks g.A.Asker.acknowledges g.A.Asker.fails g.A.Asker.confined g.A.Asker.confines
       c.args.asker.now c.loop.asker c.serve_round.new.asker input before _ _ _ _ c.loop.counter _
       c.from_residual.result (c.loop.invariant.turning input before read written) c.in_err-goes_on.ensures.ended
       (p.1 ∙ ap Err p.2));
@@ -17,7 +17,7 @@ returns-in_err-goes_on g c = record {
 pub returns-then-not-goes_on : goal.returns-then-not-goes_on
 returns-then-not-goes_on g c = record {
   ended = both_known _ _ _ (λ input before read written.
-      last_turn g.A.Asker.answer g.A.Asker.makes g.A.Asker.lacks g.A.Asker.acknowledges g.A.Asker.fails c.args.asker.now
+      last_turn g.A.Asker.answer g.A.Asker.makes g.A.Asker.lacks g.A.Asker.acknowledges g.A.Asker.fails g.A.Asker.confined g.A.Asker.confines c.args.asker.now
       c.loop.asker c.serve_round.new.asker input before _ _ _ _ c.loop.counter
       (c.loop.invariant.turning input before read written)
       (rw c.if-not-goes_on.true at c.in_ok-goes_on.ensures.ended));
@@ -29,7 +29,7 @@ loop-preserved g c = record {
   capacity = c.serve_round.ensures.capacity;
   room = omega (arith, c.loop.invariant.room, c.serve_round.ensures.room);
   turning = λ input before read written.
-      next_turn g.A.Asker.answer g.A.Asker.makes g.A.Asker.lacks g.A.Asker.acknowledges g.A.Asker.fails c.args.asker.now
+      next_turn g.A.Asker.answer g.A.Asker.makes g.A.Asker.lacks g.A.Asker.acknowledges g.A.Asker.fails g.A.Asker.confined g.A.Asker.confines c.args.asker.now
       c.loop.asker c.serve_round.new.asker input before _ _ _ _ c.loop.counter
       (c.loop.invariant.turning input before read written)
       (rw c.if-not-goes_on.false at c.in_ok-goes_on.ensures.ended);
@@ -38,7 +38,7 @@ loop-preserved g c = record {
 pub returns : goal.returns
 returns g c = record {
   ended = both_known _ _ _ (λ input before read written.
-      at_most g.A.Asker.answer g.A.Asker.makes g.A.Asker.lacks g.A.Asker.acknowledges g.A.Asker.fails c.args.asker.now
+      at_most g.A.Asker.answer g.A.Asker.makes g.A.Asker.lacks g.A.Asker.acknowledges g.A.Asker.fails g.A.Asker.confined g.A.Asker.confines c.args.asker.now
       c.loop.asker input before _ _ c.loop.counter (c.loop.invariant.turning input before read written)
       (omega (arith, c.loop-test.false, c.loop.auto.counter-end)));
 }

@@ -13,6 +13,6 @@ invariant-loop g l = record {
   room : MAX_FRAME_CONTENT ≤ l.reply.room;
   turning : (input before : List ℕ) → g.R.Read.remaining l.fn.reader ≡ Some input
       → g.W.Write.contents l.fn.writer ≡ Some before
-      → Turning g.A.Asker.answer g.A.Asker.makes g.A.Asker.lacks g.A.Asker.acknowledges g.A.Asker.fails l.fn.asker
+      → Turning g.A.Asker.answer g.A.Asker.makes g.A.Asker.lacks g.A.Asker.acknowledges g.A.Asker.fails g.A.Asker.confined g.A.Asker.confines l.fn.asker
       l.asker input before (g.R.Read.remaining l.reader) (g.W.Write.contents l.writer) l.counter;
 }

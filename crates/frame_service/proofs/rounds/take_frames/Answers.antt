@@ -10,21 +10,21 @@ loop-init g c = record {
   room = c.requires.capacity;
   counted = c.requires.none.1;
   taking =
-      λ input known. none_taken g.A.Asker.answer g.A.Asker.makes g.A.Asker.lacks g.A.Asker.acknowledges g.A.Asker.fails
+      λ input known. none_taken g.A.Asker.answer g.A.Asker.makes g.A.Asker.lacks g.A.Asker.acknowledges g.A.Asker.fails g.A.Asker.confined g.A.Asker.confines
       c.args.asker.now c.args.all_pending.now.items input _ c.requires.none.0 known;
 }
 
 pub returns-in_err-request-clause-took : goal.returns-in_err-request-clause-took
 returns-in_err-request-clause-took g c = one_known _ _ (λ input known.
     let p = err_from_is_err_and c.from_residual.result c.from_residual.ensures.1 in
-    took_stops g.A.Asker.answer g.A.Asker.makes g.A.Asker.lacks g.A.Asker.acknowledges g.A.Asker.fails c.args.asker.now
+    took_stops g.A.Asker.answer g.A.Asker.makes g.A.Asker.lacks g.A.Asker.acknowledges g.A.Asker.fails g.A.Asker.confined g.A.Asker.confines c.args.asker.now
     c.loop.asker c.loop.all_pending.items input _ _ c.loop.counter _ c.from_residual.result
     (c.loop.invariant.taking input known) c.in_err-request.ensures.exact (p.1 ∙ ap Err p.2))
 
 pub returns-in_default-clause-took : goal.returns-in_default-clause-took
 returns-in_default-clause-took g c = one_known _ _ (λ input known.
     let so_far = c.loop.invariant.taking input known in
-    took_all g.A.Asker.answer g.A.Asker.makes g.A.Asker.lacks g.A.Asker.acknowledges g.A.Asker.fails c.args.asker.now
+    took_all g.A.Asker.answer g.A.Asker.makes g.A.Asker.lacks g.A.Asker.acknowledges g.A.Asker.fails g.A.Asker.confined g.A.Asker.confines c.args.asker.now
     c.loop.asker c.loop.all_pending.items input _ _ c.loop.counter so_far
     (end_read _ _ so_far.rest so_far.left_is (rw c.in_default.is at c.in_ok-request.ensures.exact)))
 
@@ -34,9 +34,9 @@ returns-then-waits-clause-took g c = one_known _ _ (λ input known.
     let front =
     frame_read _ _ so_far.rest c.in-Some.request.content so_far.left_is
     (rw c.in-Some.is at c.in_ok-request.ensures.found) in
-    took_some g.A.Asker.answer g.A.Asker.makes g.A.Asker.lacks g.A.Asker.acknowledges g.A.Asker.fails c.args.asker.now _
+    took_some g.A.Asker.answer g.A.Asker.makes g.A.Asker.lacks g.A.Asker.acknowledges g.A.Asker.fails g.A.Asker.confined g.A.Asker.confines c.args.asker.now _
     _ input _ _
-    (one_taken g.A.Asker.answer g.A.Asker.makes g.A.Asker.lacks g.A.Asker.acknowledges g.A.Asker.fails c.args.asker.now
+    (one_taken g.A.Asker.answer g.A.Asker.makes g.A.Asker.lacks g.A.Asker.acknowledges g.A.Asker.fails g.A.Asker.confined g.A.Asker.confines c.args.asker.now
     c.loop.asker c.take_next-pending.new.asker c.loop.all_pending.items c.push_back_reserved.new.self.items
     c.take_next-pending.result input c.in-Some.request.content front.0 _ _ c.loop.counter so_far front.1
     front.2 c.take_next-pending.ensures c.push_back_reserved.ensures.items)
@@ -48,9 +48,9 @@ returns-then-not-has_frame-clause-took g c = one_known _ _ (λ input known.
     let front =
     frame_read _ _ so_far.rest c.in-Some.request.content so_far.left_is
     (rw c.in-Some.is at c.in_ok-request.ensures.found) in
-    took_some g.A.Asker.answer g.A.Asker.makes g.A.Asker.lacks g.A.Asker.acknowledges g.A.Asker.fails c.args.asker.now _
+    took_some g.A.Asker.answer g.A.Asker.makes g.A.Asker.lacks g.A.Asker.acknowledges g.A.Asker.fails g.A.Asker.confined g.A.Asker.confines c.args.asker.now _
     _ input _ _
-    (one_taken g.A.Asker.answer g.A.Asker.makes g.A.Asker.lacks g.A.Asker.acknowledges g.A.Asker.fails c.args.asker.now
+    (one_taken g.A.Asker.answer g.A.Asker.makes g.A.Asker.lacks g.A.Asker.acknowledges g.A.Asker.fails g.A.Asker.confined g.A.Asker.confines c.args.asker.now
     c.loop.asker c.take_next-pending.new.asker c.loop.all_pending.items c.push_back_reserved.new.self.items
     c.take_next-pending.result input c.in-Some.request.content front.0 _ _ c.loop.counter so_far front.1
     front.2 c.take_next-pending.ensures c.push_back_reserved.ensures.items)
@@ -65,7 +65,7 @@ loop-preserved g c = record {
       let front =
       frame_read _ _ so_far.rest c.in-Some.request.content so_far.left_is
       (rw c.in-Some.is at c.in_ok-request.ensures.found) in
-      one_taken g.A.Asker.answer g.A.Asker.makes g.A.Asker.lacks g.A.Asker.acknowledges g.A.Asker.fails c.args.asker.now
+      one_taken g.A.Asker.answer g.A.Asker.makes g.A.Asker.lacks g.A.Asker.acknowledges g.A.Asker.fails g.A.Asker.confined g.A.Asker.confines c.args.asker.now
       c.loop.asker c.take_next-pending.new.asker c.loop.all_pending.items c.push_back_reserved.new.self.items
       c.take_next-pending.result input c.in-Some.request.content front.0 _ _ c.loop.counter so_far front.1
       front.2 c.take_next-pending.ensures c.push_back_reserved.ensures.items;
@@ -73,6 +73,6 @@ loop-preserved g c = record {
 
 pub returns-clause-took : goal.returns-clause-took
 returns-clause-took g c = one_known _ _ (λ input known.
-    took_some g.A.Asker.answer g.A.Asker.makes g.A.Asker.lacks g.A.Asker.acknowledges g.A.Asker.fails c.args.asker.now
+    took_some g.A.Asker.answer g.A.Asker.makes g.A.Asker.lacks g.A.Asker.acknowledges g.A.Asker.fails g.A.Asker.confined g.A.Asker.confines c.args.asker.now
     c.loop.asker c.loop.all_pending.items input _ c.loop.counter (c.loop.invariant.taking input known)
     (omega (arith, c.loop-test.false)))

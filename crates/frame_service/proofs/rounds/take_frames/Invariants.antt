@@ -10,6 +10,6 @@ invariant-loop g l = record {
   room : MOST_PENDING_FRAMES ≤ deque_capacity l.all_pending;
   counted : deque_len l.all_pending ≡ l.counter;
   taking : (input : List ℕ) → g.R.Read.remaining l.fn.reader ≡ Some input
-      → Taking g.A.Asker.answer g.A.Asker.makes g.A.Asker.lacks g.A.Asker.acknowledges g.A.Asker.fails l.fn.asker
+      → Taking g.A.Asker.answer g.A.Asker.makes g.A.Asker.lacks g.A.Asker.acknowledges g.A.Asker.fails g.A.Asker.confined g.A.Asker.confines l.fn.asker
       l.asker l.all_pending.items input (g.R.Read.remaining l.reader) l.counter;
 }
