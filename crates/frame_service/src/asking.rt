@@ -35,9 +35,6 @@ pub trait Asker {
     /// A call that was made, whose reply isn't given yet.
     type Ticket: Drop;
 
-    /// How long a call may still wait.
-    type Patience: Drop;
-
     /// The reply that a ticket keeps.
     ghost answer: { Self.Ticket → Reply };
 
@@ -75,17 +72,13 @@ pub trait Asker {
     fn is_timed_out(&self, ticket: &Self::Ticket) -> bool
         ensures { result ≡ timed_out (answer ticket.now) };
 
+    /// Whether a ticket's reply can be had without a wait.
+    fn is_due(&self, ticket: &Self::Ticket) -> bool;
+
     /// The reply that a ticket keeps, once all that its call saw is stored.
     fn redeem(&mut self, ticket: Self::Ticket) -> Result<Reply, StoreFault>
         ensures reply { IfOk result (λ reply. reply ≡ answer ticket) }
         ensures acknowledges { IfOk result (λ reply. acknowledges self.old ticket self.new) }
         ensures fits { IfOk result (λ reply. length (reply_encoding reply) ≤ MAX_FRAME_CONTENT) }
         ensures fails { IfErr result (λ fault. fails self.old ticket fault self.new) };
-
-    /// What is left of a wait that begins now, of this many milliseconds or without a bound.
-    fn patience(&self, bound: Option<u32>) -> Self::Patience;
-
-    /// Waits until the call whose wait began last may find something to do. Returns whether it may still wait
-    /// afterwards.
-    fn wait(&self, patience: &Self::Patience) -> bool;
 }

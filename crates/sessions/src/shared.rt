@@ -6,14 +6,15 @@ ghost use Rattle.ipc_model.specs.history.History.{called, looked, redemption};
 ghost use Rattle.ipc_model.specs.encodings.Encodings.{reply_encoding};
 ghost use Rattle.kernel_keeper.specs.Tokens.{Did, KeepsRead};
 
-use crate::guarded::{KernelGuarded, Waited};
+use crate::guarded::KernelGuarded;
 use crate::replies::{Replies, Side};
-use crate::seat::{Peer, Seat};
+use crate::seat::{Peer, Seat, Worker};
 use crate::turn::{News, Turn};
 use disk::Disk;
 use ipc_model::{Call, Reply};
 use kernel_keeper::{Admission, EntryBlock, Founding, KernelKeeper, Past, Session};
-use std::alloc::Global;
+use mio::Waker;
+use std::alloc::{AllocError, Global};
 use std::sync::ledger::Book;
 use std::sync::{Arc, Condvar, Mutex, Wait};
 use std::thread;
@@ -101,7 +102,7 @@ impl<L: Founding, D: Disk, G: Drop> Shared<L, D, G> {
             gate,
             guarded: Mutex::new(KernelGuarded::new(alloc, keeper)),
             store_keeper: Mutex::new(store_keeper),
-            replies: Mutex::new(Replies::none(known)),
+            replies: Mutex::new(Replies::none(alloc, known)),
             mark,
             records: Condvar::new(),
             turns_taken: Condvar::new(),
@@ -147,7 +148,7 @@ impl<L: Founding, D: Disk, G: Drop> Shared<L, D, G> {
     {
         let mut turn = self.begin_turn(rt);
         let (session, made) = turn.guarded.submit(session, call, None);
-        turn.keep_rung();
+        turn.keep_due_worker();
         self.end_turn(turn);
         (session, made)
     }
@@ -192,10 +193,10 @@ impl<L: Founding, D: Disk, G: Drop> Shared<L, D, G> {
             has_more,
             are_over,
             has_image_due,
-            rung,
+            due_worker,
         } = turn.end();
-        if let Some(bell) = rung {
-            bell.ring();
+        if let Some(worker) = due_worker {
+            worker.wake();
         }
         if has_more {
             self.records.notify_all();
@@ -208,46 +209,51 @@ impl<L: Founding, D: Disk, G: Drop> Shared<L, D, G> {
         }
     }
 
-    /// Waits at a session's seat until the turn of its call has come, or this time is over, or nothing is stored any
-    /// more. If its call is in no line, because an allocation failed, its turn comes after a while.
-    pub fn wait<R: Wait + Clock, P: Peer>(
+    /// A worker, which this wakes.
+    pub fn worker(
         &self,
-        rt: &R,
-        session: &Session<L>,
-        seat: &Seat<P>,
-        most: Option<Duration>,
-    ) -> Waited {
-        let number = session.number();
-        let guarded = self.guarded.lock(rt);
-        if !guarded.is_waiting(number) {
-            drop(guarded);
-            self.pause(rt);
-            return Waited::Turn;
-        }
-        let bell = seat.bell().condvar();
-        let guarded = match most {
-            None => bell.wait_while(rt, guarded, |guarded| guarded.is_in_line(number)),
-            Some(most) => {
-                let (guarded, _) = bell.wait_timeout_while(
-                    rt,
-                    guarded,
-                    most,
-                    |guarded| guarded.is_in_line(number),
-                );
-                guarded
-            }
+        rt: &impl Wait,
+        waker: Waker,
+    ) -> Result<Arc<Worker, Global>, AllocError> {
+        let number = self.guarded.lock(rt).add_worker()?;
+        let Ok(worker) = Arc::new(self.alloc, Worker::new(number, waker)) else {
+            return Err(AllocError);
         };
-        guarded.waited(number)
+        let same = Arc::try_clone(&worker)?;
+        self.replies.lock(rt).add_worker(same)?;
+        Ok(worker)
+    }
+
+    /// Whether a ticket's reply can be had without a wait.
+    pub fn is_due(&self, rt: &impl Wait, ticket: &Ticket) -> bool {
+        !self.replies.lock(rt).is_awaited(ticket.seen())
+    }
+
+    /// Has a worker woken once `seen` records are stored, or nothing is stored any more. Returns whether that is still
+    /// to come.
+    pub fn have_woken(&self, rt: &impl Wait, worker: &Worker, seen: u64) -> bool {
+        self.replies.lock(rt).have_woken(worker.number(), seen)
+    }
+
+    /// The sessions of a worker whose call's turn has come since this was asked last. If an allocation fails, they are
+    /// kept for the next time.
+    pub fn take_due(
+        &self,
+        rt: &impl Wait,
+        worker: &Worker,
+        due: &mut Vec<u32>,
+    ) -> Result<(), AllocError> {
+        self.guarded.lock(rt).take_due(worker.number(), due)
+    }
+
+    /// A session's call waits no longer, and isn't made again.
+    pub fn leave_line(&self, rt: &impl Wait, session: u32) {
+        self.guarded.lock(rt).leave_line(session);
     }
 
     /// Waits a while.
     pub(crate) fn pause<R: Wait + Clock>(&self, rt: &R) {
         thread::sleep(rt, Duration::from_millis(RETRY_MILLISECONDS));
-    }
-
-    /// Gives the waiting call of the session with this number its turn: for a caller that knows that its task has gone.
-    pub fn give_turn(&self, rt: &impl Wait, session: u32) {
-        self.guarded.lock(rt).give_turn(session);
     }
 
     /// The reply that a ticket of this session keeps, once all that its call saw is stored; until then it waits.
@@ -331,7 +337,10 @@ impl<L: Founding, D: Disk, G: Drop> Shared<L, D, G> {
 
     /// No reply comes any more that hasn't come yet.
     fn end_replies(&self, rt: &impl Wait) {
-        self.replies.lock(rt).end();
+        let mut replies = self.replies.lock(rt);
+        replies.end();
+        replies.wake_workers();
+        drop(replies);
         self.even.notify_all();
         self.odd.notify_all();
     }

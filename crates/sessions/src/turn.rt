@@ -4,12 +4,13 @@ ghost use Rattle.ipc_model.specs.history.History.{called, looked};
 ghost use Rattle.kernel_keeper.specs.Tokens.{Did, KeepsRead};
 
 use crate::guarded::KernelGuarded;
-use crate::seat::{Bell, Peer, Seat};
+use crate::seat::{Peer, Seat, Worker};
 use crate::shared::NotMade;
 use history::Founding;
 use ipc_model::{Call, PlainCall};
 use kernel_keeper::Session;
-use std::sync::MutexGuard;
+use std::alloc::{AllocError, Global};
+use std::sync::{Arc, MutexGuard};
 use system::Ticket;
 
 /// The lock of the kernel, held while a session makes several calls, so that it isn't handed over between them.
@@ -23,8 +24,8 @@ pub struct Turn<'a, L: Founding> {
     before: u64,
     had_due: bool,
 
-    // The bell of a call whose turn has come. It is rung when the lock is free, since that call takes it first.
-    rung: Option<Bell>,
+    // The worker of a call whose turn has come. It is woken when the lock is free, since it takes it first.
+    due_worker: Option<Arc<Worker, Global>>,
 }
 
 /// What others wait for, once a turn is over.
@@ -32,7 +33,7 @@ pub(crate) struct News {
     pub(crate) has_more: bool,
     pub(crate) are_over: bool,
     pub(crate) has_image_due: bool,
-    pub(crate) rung: Option<Bell>,
+    pub(crate) due_worker: Option<Arc<Worker, Global>>,
 }
 
 impl<'a, L: Founding> Turn<'a, L> {
@@ -43,13 +44,23 @@ impl<'a, L: Founding> Turn<'a, L> {
             guarded,
             before,
             had_due,
-            rung: None,
+            due_worker: None,
         }
     }
 
     /// Whether the next call has to wait for an epoch, which doesn't begin while the lock is held.
     pub fn awaits_epoch(&self) -> bool {
         self.guarded.awaits_epoch()
+    }
+
+    /// The sessions of a worker whose call's turn has come, as `Shared::take_due` does.
+    pub fn take_due(&mut self, worker: &Worker, due: &mut Vec<u32>) -> Result<(), AllocError> {
+        self.guarded.take_due(worker.number(), due)
+    }
+
+    /// Whether a session's call waits in line, or its turn has come.
+    pub fn is_waiting(&self, session: u32) -> bool {
+        self.guarded.is_waiting(session)
     }
 
     /// Makes a call of a session, for the task of this seat, as `Shared::submit_for` does.
@@ -71,19 +82,19 @@ impl<'a, L: Founding> Turn<'a, L> {
             session.show_looked();
             return (session, Err(NotMade::Gone));
         }
-        let bell = if may_wait { Some(seat.bell()) } else { None };
-        let (session, made) = self.guarded.submit(session, call, bell);
-        self.keep_rung();
+        let worker = if may_wait { Some(seat.worker()) } else { None };
+        let (session, made) = self.guarded.submit(session, call, worker);
+        self.keep_due_worker();
         (session, made.map_err(NotMade::Fault))
     }
 
-    /// Keeps the bell of a call whose turn has come.
-    pub(crate) fn keep_rung(&mut self) {
-        let Some(bell) = self.guarded.take_rung() else {
+    /// Keeps the worker of a call whose turn has come.
+    pub(crate) fn keep_due_worker(&mut self) {
+        let Some(worker) = self.guarded.take_due_worker() else {
             return;
         };
-        if let Some(earlier) = self.rung.replace(bell) {
-            earlier.ring();
+        if let Some(earlier) = self.due_worker.replace(worker) {
+            earlier.wake();
         }
     }
 
@@ -93,14 +104,14 @@ impl<'a, L: Founding> Turn<'a, L> {
             guarded,
             before,
             had_due,
-            rung,
+            due_worker,
         } = self;
         let has_more = before < guarded.keeper.made();
         let news = News {
             has_more,
             are_over: had_due && !guarded.has_turns_due(),
             has_image_due: has_more && guarded.has_image_due(),
-            rung,
+            due_worker,
         };
         drop(guarded);
         news

@@ -2,10 +2,12 @@
 #![tactic(auto)]
 
 mod bound;
+mod client;
 mod host;
 mod program;
 mod threads;
-mod watch;
+mod timers;
+mod worker;
 
 pub use host::Host;
 pub use program::{serve_disk, serve_locked, serve_opened};

@@ -6,8 +6,7 @@ ghost use Rattle.wire.specs.Writing.{AppendsPart};
 
 use crate::bound::bind;
 use crate::host::Host;
-use crate::threads::{accept, start_loops};
-use crate::watch::start_watch;
+use crate::threads::{accept, start_loops, start_workers};
 use codes::MAX_RECORDS;
 use disk::Disk;
 use server::SocketEnd;
@@ -163,13 +162,13 @@ fn serve_shared<
     if start_loops(rt, rt.alloc(), shared, path).is_err() {
         return SocketEnd::Socket;
     }
-    let Ok(watch) = start_watch(rt, shared) else {
+    let Ok(doors) = start_workers(rt, shared) else {
         return SocketEnd::Socket;
     };
     if report_ready(output).is_err() {
         return SocketEnd::Socket;
     }
-    SocketEnd::Store(accept(rt, listener, shared, &watch, admissions))
+    SocketEnd::Store(accept(rt, listener, shared, &doors, admissions))
 }
 
 /// Says that connections are accepted.

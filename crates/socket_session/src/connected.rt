@@ -6,15 +6,13 @@ ghost use Rattle.ipc_model.specs.declared.call.Call.{Call};
 ghost use Rattle.ipc_model.specs.encodings.Encodings.{reply_encoding};
 ghost use Rattle.frame_service.specs.Asking.{timed_out};
 
-use crate::patience::Patience;
 use codes::KernReturn;
 use disk::Disk;
 use frame_service::Asker;
 use ipc_model::{Call, Reply};
-use sessions::{Founding, Peer, Seat, Session, Shared, Turn, Waited};
+use sessions::{Founding, Peer, Seat, Session, Shared, Turn};
 use std::marker::Model;
 use std::sync::Wait;
-use std::time::Clock;
 use store_fault::StoreFault;
 use system::Ticket;
 
@@ -47,6 +45,33 @@ impl<'a, L: Founding, D: Disk, G, R, P> Model for Connected<'a, L, D, G, R, P> {
 }
 
 impl<'a, L: Founding, D: Disk, G, R, P> Connected<'a, L, D, G, R, P> {
+    /// Goes on in a turn that another caller began, or in none.
+    pub fn join_turn(&mut self, turn: Option<Turn<'a, L>>)
+        ensures { self.new ≡ self.old }
+    {
+        self.turn = turn;
+    }
+
+    /// Leaves the turn to another caller, if there is one.
+    pub fn leave_turn(&mut self) -> Option<Turn<'a, L>>
+        ensures { self.new ≡ self.old }
+    {
+        self.turn.take()
+    }
+
+    /// The number of its session.
+    pub fn number(&self) -> u32 {
+        match &self.session {
+            Some(session) => session.number(),
+            None => unreachable!(),
+        }
+    }
+
+    /// The task.
+    pub fn peer(&self) -> &P {
+        self.seat.peer()
+    }
+
     /// The caller of this session, whose calls wait at this seat, and whose task is at the other end of this
     /// connection.
     pub fn new(rt: &'a R, shared: &'a Shared<L, D, G>, seat: Seat<P>, session: Session<L>) -> Self
@@ -62,35 +87,9 @@ impl<'a, L: Founding, D: Disk, G, R, P> Connected<'a, L, D, G, R, P> {
     }
 }
 
-impl<'a, L: Founding, D: Disk, G: Drop, R: Wait + Clock, P: Peer> Connected<'a, L, D, G, R, P> {
-    /// Waits as long as one wait may take. Returns whether the call's turn has come, or `None` if its task waits on.
-    /// Whether the task has gone is checked after the call's first attempt; if it goes later and is watched, its turn
-    /// comes at once.
-    fn wait_once(&self, session: &Session<L>, patience: &Patience) -> Option<bool> {
-        if self.seat.peer().is_gone() {
-            return Some(false);
-        }
-        let Some(left) = patience.left(self.rt) else {
-            return Some(false);
-        };
-        let most = if self.seat.peer().is_watched() {
-            left.time()
-        } else {
-            Some(left.until_look())
-        };
-        match self.shared.wait(self.rt, session, &self.seat, most) {
-            Waited::Turn => Some(true),
-            Waited::Ended => Some(false),
-            Waited::TimeOver => None,
-        }
-    }
-}
-
-impl<'a, L: Founding, D: Disk, G: Drop, R: Wait + Clock, P: Peer> Asker
+impl<'a, L: Founding, D: Disk, G: Drop, R: Wait, P: Peer> Asker
     for Connected<'a, L, D, G, R, P> {
     type Ticket = Ticket;
-
-    type Patience = Patience;
 
     ghost answer = { λ ticket. ticket.answer };
 
@@ -156,6 +155,10 @@ impl<'a, L: Founding, D: Disk, G: Drop, R: Wait + Clock, P: Peer> Asker
         }
     }
 
+    fn is_due(&self, ticket: &Ticket) -> bool {
+        self.shared.is_due(self.rt, ticket)
+    }
+
     /// Waits until all that the ticket's call saw is stored.
     fn redeem(&mut self, ticket: Ticket) -> Result<Reply, StoreFault>
         ensures reply { IfOk result (λ reply. reply ≡ ticket.answer) }
@@ -169,22 +172,5 @@ impl<'a, L: Founding, D: Disk, G: Drop, R: Wait + Clock, P: Peer> Asker
         let (session, acknowledged) = self.shared.redeem(self.rt, session, ticket);
         self.session = Some(session);
         acknowledged
-    }
-
-    fn patience(&self, bound: Option<u32>) -> Patience {
-        Patience::new(self.rt, bound)
-    }
-
-    /// Waits until the call's turn has come. It doesn't wait on for a task that has gone.
-    fn wait(&self, patience: &Patience) -> bool {
-        let Some(session) = &self.session else {
-            return false;
-        };
-        for _ in self.rt.forever() {
-            if let Some(is_more) = self.wait_once(session, patience) {
-                return is_more;
-            }
-        }
-        false
     }
 }

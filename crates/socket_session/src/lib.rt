@@ -1,11 +1,8 @@
-//! A connection among others on one store. Its calls are those of a session of the store's history, and one that finds
-//! nothing to do waits until more was recorded, as long as it may and its task is there.
+//! A connection among others on one store. Its calls are those of a session of the store's history.
 #![tactic(auto)]
 
 mod connected;
-mod patience;
-mod serving;
+mod stream;
 
 pub use connected::Connected;
-pub use patience::{Patience, SocketPeer};
-pub use serving::{Connection, serve_connection};
+pub use stream::Stream;

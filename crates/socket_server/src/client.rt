@@ -1,0 +1,264 @@
+//! One connection, as a worker sees it.
+
+use disk::Disk;
+use frame_service::{Ahead, Conversation, Tried};
+use mio::unix::SourceFd;
+use mio::{Interest, Registry, Token};
+use sessions::{Founding, OpenGate, Peer, Turn};
+use socket_buffers::{Filled, Inbox, Outbox, Source};
+use socket_session::{Connected, Stream};
+use std::alloc::Global;
+use std::io::Write;
+use std::mem;
+use std::os::fd::AsRawFd;
+use std::sync::Wait;
+use std::time::Clock;
+use wire::Frame;
+
+/// How many bytes that came may wait for their frames' turn before no more are read.
+const MOST_AHEAD: usize = 131_072;
+
+/// For how many milliseconds a peer may leave unread what it was sent before its connection is closed.
+const UNREAD_MILLISECONDS: u32 = 5_000;
+
+/// After how many milliseconds is tried again what an allocation failed for.
+const RETRY_MILLISECONDS: u32 = 10;
+
+/// What a connection waits for, once all was done for it that could be.
+#[derive(Clone, Copy, Debug, PartialEq, Eq)]
+pub(crate) enum Awaits {
+    /// That something comes.
+    Input,
+    /// Nothing: there is more to do.
+    Nothing,
+    /// That so many records are stored.
+    Records(u64),
+    /// The turn of its call; at most so many milliseconds, if there is a bound.
+    Turn(Option<u32>),
+    /// That the other side takes what it is given, or else that so many milliseconds pass.
+    Room(u32),
+    /// That so many milliseconds pass.
+    Memory(u32),
+    /// It has ended.
+    End,
+}
+
+/// The conversation of a session over a socket.
+pub(crate) type Talk<'a, L, D, R> =
+    Conversation<Inbox<Stream>, Outbox<Stream>, Connected<'a, L, D, OpenGate, R, Stream>>;
+
+/// A connection, with what its worker knows of it.
+#[derive(Drop)]
+pub(crate) struct Client<'a, L: Founding, D: Disk, R: Wait + Clock> {
+    stream: Stream,
+    talk: Talk<'a, L, D, R>,
+
+    // Whether there may be something to read, whether memory for it ran out, and whether room is reported.
+    may_read: bool,
+    lacks_memory: bool,
+    awaits_room: bool,
+
+    // Whether its call's turn has come, whether its time is over, and whether it failed.
+    has_turn: bool,
+    is_time_over: bool,
+    has_failed: bool,
+
+    /// The time that its timer is set to.
+    pub(crate) timer: Option<u64>,
+
+    // Whether what it waits for has just begun, so that the timer is set anew.
+    begins: bool,
+
+    /// Whether it is among those for which something is to be done, and among those for which something was done.
+    pub(crate) is_ready: bool,
+    pub(crate) is_worked: bool,
+}
+
+impl<'a, L: Founding, D: Disk, R: Wait + Clock> Client<'a, L, D, R> {
+    /// A connection of which nothing was read yet, reported to this registry from now on.
+    pub(crate) fn new(stream: Stream, talk: Talk<'a, L, D, R>, registry: &Registry) -> Self {
+        let mut client = Client {
+            stream,
+            talk,
+            may_read: true,
+            lacks_memory: false,
+            awaits_room: false,
+            has_turn: false,
+            is_time_over: false,
+            has_failed: false,
+            timer: None,
+            begins: false,
+            is_ready: false,
+            is_worked: false,
+        };
+        client.register(registry);
+        client
+    }
+
+    /// The number of its session.
+    pub(crate) fn number(&self) -> u32 {
+        self.talk.asker().number()
+    }
+
+    fn register(&mut self, registry: &Registry) {
+        let descriptor = self.stream.socket().as_raw_fd();
+        let token = Token(self.number() as usize);
+        let registered = registry.register(&mut SourceFd(&descriptor), token, Interest::READABLE);
+        self.has_failed = self.has_failed || registered.is_err();
+    }
+
+    /// Has room reported, or no longer.
+    fn report_room(&mut self, registry: &Registry, awaits_room: bool) {
+        if self.awaits_room == awaits_room {
+            return;
+        }
+        self.awaits_room = awaits_room;
+        let descriptor = self.stream.socket().as_raw_fd();
+        let token = Token(self.number() as usize);
+        let interest = if awaits_room {
+            Interest::READABLE | Interest::WRITABLE
+        } else {
+            Interest::READABLE
+        };
+        let registered = registry.reregister(&mut SourceFd(&descriptor), token, interest);
+        self.has_failed = self.has_failed || registered.is_err();
+    }
+
+    /// Something came, or there is room, or the other side was closed.
+    pub(crate) fn note_event(&mut self) {
+        self.may_read = true;
+        if self.talk.waits().is_some() && self.talk.asker().peer().is_gone() {
+            self.has_failed = true;
+        }
+    }
+
+    /// Its call's turn has come.
+    pub(crate) fn note_turn(&mut self) {
+        self.has_turn = true;
+    }
+
+    /// Its timer's time is over.
+    pub(crate) fn note_time(&mut self) {
+        self.timer = None;
+        if self.lacks_memory {
+            self.lacks_memory = false;
+            self.may_read = true;
+        } else {
+            self.is_time_over = true;
+        }
+    }
+
+    /// Reads what there is.
+    pub(crate) fn read(&mut self) {
+        while self.may_read && self.talk.reader().bytes().len() < MOST_AHEAD {
+            match self.talk.reader_mut().fill() {
+                Filled::Some => {}
+                Filled::None | Filled::Over => self.may_read = false,
+                Filled::NoMemory => {
+                    self.may_read = false;
+                    self.lacks_memory = true;
+                }
+            }
+        }
+    }
+
+    /// Whether there is a call to be made.
+    pub(crate) fn has_work(&self) -> bool {
+        if self.has_failed || self.talk.writer().len() != 0 {
+            return false;
+        }
+        if self.talk.waits().is_some() {
+            return self.has_turn || self.is_time_over;
+        }
+        self.talk.is_idle() && self.has_input()
+    }
+
+    /// Whether there is a frame to be taken, or the end of them.
+    fn has_input(&self) -> bool {
+        !self.talk.is_input_over()
+            && (self.talk.reader().has_frame() || self.talk.reader().source() != Source::Open)
+    }
+
+    /// Makes the calls that can be made now, under this hold of the kernel's lock.
+    pub(crate) fn work(&mut self, alloc: Global, turn: Turn<'a, L>) -> Option<Turn<'a, L>> {
+        self.talk.asker_mut().join_turn(Some(turn));
+        if self.talk.waits().is_some() {
+            let may_wait = !self.is_time_over;
+            self.has_turn = false;
+            self.is_time_over = false;
+            match self.talk.try_again(alloc, may_wait) {
+                Tried::Settled | Tried::Waits => {}
+                Tried::WaitsForReceive => self.begins = true,
+                Tried::GivenUp => self.has_failed = true,
+            }
+        } else {
+            self.talk.take(alloc);
+        }
+        self.talk.asker_mut().leave_turn()
+    }
+
+    /// Answers what can be answered, and gives the other side what it takes.
+    pub(crate) fn answer(&mut self, reply: &mut Frame, registry: &Registry) {
+        if self.has_failed {
+            return;
+        }
+        if self.talk.answer(reply).is_err() {
+            self.has_failed = true;
+            return;
+        }
+        let before = self.talk.writer().len();
+        if self.talk.writer_mut().flush().is_err() {
+            self.has_failed = true;
+            return;
+        }
+        let left = self.talk.writer().len();
+        self.begins = self.begins || (left != 0 && left != before);
+        self.report_room(registry, left != 0);
+    }
+
+    /// What it waits for now.
+    pub(crate) fn awaits(&self) -> Awaits {
+        if self.has_failed {
+            return Awaits::End;
+        }
+        if self.talk.writer().len() != 0 {
+            return if self.is_time_over {
+                Awaits::End
+            } else {
+                Awaits::Room(UNREAD_MILLISECONDS)
+            };
+        }
+        if let Some(ticket) = self.talk.awaited() {
+            return Awaits::Records(ticket.seen());
+        }
+        if let Some(bound) = self.talk.waits() {
+            return Awaits::Turn(bound);
+        }
+        if self.talk.is_input_over() {
+            return Awaits::End;
+        }
+        if self.lacks_memory {
+            return Awaits::Memory(RETRY_MILLISECONDS);
+        }
+        if self.may_read || self.has_input() {
+            Awaits::Nothing
+        } else {
+            Awaits::Input
+        }
+    }
+
+    /// Whether what it waits for has just begun. Said once.
+    pub(crate) fn takes_new_timer(&mut self) -> bool {
+        mem::replace(&mut self.begins, false)
+    }
+
+    /// Whether a call of it waits.
+    pub(crate) fn waits(&self) -> bool {
+        self.talk.waits().is_some()
+    }
+
+    /// Closes the socket.
+    pub(crate) fn close(&self) {
+        self.stream.close();
+    }
+}

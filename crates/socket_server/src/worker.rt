@@ -1,0 +1,364 @@
+//! A thread that serves many connections, each as far as it goes without waiting.
+
+use crate::client::{Awaits, Client};
+use crate::timers::Timers;
+use codes::MAX_FRAME_CONTENT;
+use disk::Disk;
+use frame_service::Conversation;
+use mio::event::Events;
+use mio::{Poll, Token, Waker};
+use sessions::{Admission, Founding, OpenGate, Seat, Shared, Turn, Worker};
+use socket_buffers::{Inbox, Outbox};
+use socket_session::{Connected, Stream};
+use std::alloc::{AllocError, AllocGlobal, Global};
+use std::collections::{BTreeMap, VecDeque};
+use std::io::{self, ErrorKind};
+use std::mem;
+use std::net::Net;
+use std::os::unix::net::UnixStream;
+use std::sync::{Arc, Mutex, Wait};
+use std::thread;
+use std::time::{Clock, Duration};
+use wire::Frame;
+
+/// How many events one wait reports at most.
+const MOST_EVENTS: usize = 256;
+
+/// How many connections' calls are made under one hold of the kernel's lock, at most.
+const MOST_AT_ONCE: usize = 64;
+
+/// The token of what wakes a worker. The others are the numbers of sessions.
+const WAKER: Token = Token(usize::MAX);
+
+/// How many milliseconds a worker waits before it goes on after a failure.
+const RETRY_MILLISECONDS: u64 = 20;
+
+/// A connection that was accepted.
+#[derive(Drop)]
+pub(crate) struct Arrival<L: Founding> {
+    pub(crate) socket: UnixStream,
+    pub(crate) admission: Admission<L>,
+}
+
+/// Where a worker gets its connections.
+#[derive(Drop)]
+pub(crate) struct Door<L: Founding> {
+    arrivals: Mutex<Vec<Arrival<L>>>,
+    worker: Arc<Worker, Global>,
+}
+
+impl<L: Founding> Door<L> {
+    /// Hands a connection to the worker. If an allocation fails, it is closed.
+    pub(crate) fn hand_in(&self, rt: &impl Wait, arrival: Arrival<L>) {
+        let _ = self.arrivals.lock(rt).push(arrival);
+        self.worker.wake();
+    }
+}
+
+/// What a worker begins with: what it waits at, and its door.
+pub(crate) fn open_door<L: Founding, D: Disk, R: Wait + Net + AllocGlobal>(
+    rt: &R,
+    shared: &Shared<L, D, OpenGate>,
+) -> io::Result<(Poll, Arc<Door<L>, Global>)> {
+    let poll = Poll::new(rt)?;
+    let waker = Waker::new(poll.registry(), WAKER)?;
+    let worker = shared.worker(rt, waker)?;
+    let arrivals = Mutex::new(Vec::new(rt.alloc()));
+    let door = Arc::new(rt.alloc(), Door { arrivals, worker })?;
+    Ok((poll, door))
+}
+
+/// Serves connections for good.
+pub(crate) fn run<L: Founding, D: Disk, R: Wait + Clock + AllocGlobal>(
+    rt: &R,
+    shared: &Shared<L, D, OpenGate>,
+    door: &Door<L>,
+    poll: Poll,
+) -> io::Result<()> {
+    let alloc = rt.alloc();
+    let mut work = Work {
+        rt,
+        shared,
+        door,
+        poll,
+        events: Events::with_capacity(alloc, MOST_EVENTS)?,
+        clients: BTreeMap::new(alloc),
+        timers: Timers::begin(alloc, rt)?,
+        ready: VecDeque::new(alloc),
+        worked: Vec::new(alloc),
+        awaiting: Vec::new(alloc),
+        due: Vec::new(alloc),
+        reply: Frame::with_room(alloc, MAX_FRAME_CONTENT as usize)?,
+    };
+    for _ in rt.forever() {
+        work.round();
+    }
+    Ok(())
+}
+
+/// A worker with its connections, by the numbers of their sessions.
+#[derive(Drop)]
+struct Work<'a, L: Founding, D: Disk, R: Wait + Clock> {
+    rt: &'a R,
+    shared: &'a Shared<L, D, OpenGate>,
+    door: &'a Door<L>,
+    poll: Poll,
+    events: Events<Global>,
+    clients: BTreeMap<u32, Client<'a, L, D, R>>,
+    timers: Timers,
+
+    // For which of them there is something to do, for which something was done, and which await records. There is room
+    // for all of them.
+    ready: VecDeque<u32>,
+    worked: Vec<u32>,
+    awaiting: Vec<u32>,
+
+    due: Vec<u32>,
+    reply: Frame,
+}
+
+impl<'a, L: Founding, D: Disk, R: Wait + Clock + AllocGlobal> Work<'a, L, D, R> {
+    /// Waits until there is something to do, and does it.
+    fn round(&mut self) {
+        if self.wait() {
+            self.admit();
+            if self.shared.take_due(self.rt, &self.door.worker, &mut self.due).is_ok() {
+                self.note_turns();
+            }
+            self.rouse_awaiting();
+        }
+        self.note_times();
+        self.read();
+        self.make_calls();
+        self.answer();
+    }
+
+    /// Waits until something came, or a time is over. Returns whether another thread woke it.
+    fn wait(&mut self) -> bool {
+        let most = if self.ready.is_empty() {
+            self.timers.left(self.rt)
+        } else {
+            Some(Duration::from_millis(0))
+        };
+        if self.poll.poll(&mut self.events, most).is_err() {
+            thread::sleep(self.rt, Duration::from_millis(RETRY_MILLISECONDS));
+        }
+        let mut is_woken = false;
+        for event in self.events.iter() {
+            match u32::try_from(event.token().0) {
+                Ok(session) => {
+                    if let Some(client) = self.clients.get_mut(&session) {
+                        client.note_event();
+                        make_ready(client, session, &mut self.ready);
+                    }
+                }
+                Err(_) => is_woken = true,
+            }
+        }
+        is_woken
+    }
+
+    /// Takes in the connections that were accepted.
+    fn admit(&mut self) {
+        let none = Vec::new(self.rt.alloc());
+        let arrivals = mem::replace(&mut *self.door.arrivals.lock(self.rt), none);
+        for arrival in arrivals {
+            let _ = self.begin(arrival);
+        }
+    }
+
+    /// Begins to serve a connection. If there is no session or memory for it, it is closed.
+    fn begin(&mut self, arrival: Arrival<L>) -> io::Result<()> {
+        let Arrival { socket, admission } = arrival;
+        let alloc = self.rt.alloc();
+        self.make_room()?;
+        let stream = Stream::new(alloc, socket)?;
+        let reader = Inbox::new(alloc, stream.again()?);
+        let writer = Outbox::new(alloc, stream.again()?);
+        let seat = Seat::new(Arc::try_clone(&self.door.worker)?, stream.again()?);
+        let Ok(session) = self.shared.session(self.rt, admission) else {
+            return Err(ErrorKind::OutOfMemory.into());
+        };
+        let number = session.number();
+        let asker = Connected::new(self.rt, self.shared, seat, session);
+        let talk = Conversation::new(alloc, reader, writer, asker)?;
+        let client = Client::new(stream, talk, self.poll.registry());
+        let _ = self.clients.insert(number, client);
+        if let Some(client) = self.clients.get_mut(&number) {
+            make_ready(client, number, &mut self.ready);
+        }
+        Ok(())
+    }
+
+    /// Makes room in all lists for one connection more.
+    fn make_room(&mut self) -> Result<(), AllocError> {
+        let count = self.clients.len().saturating_add(1);
+        self.ready.reserve(count)?;
+        self.worked.reserve(count)?;
+        self.awaiting.reserve(count)
+    }
+
+    /// There is something to do for the sessions whose call's turn has come.
+    fn note_turns(&mut self) {
+        for session in self.due.iter() {
+            if let Some(client) = self.clients.get_mut(session) {
+                client.note_turn();
+                make_ready(client, *session, &mut self.ready);
+            }
+        }
+    }
+
+    /// There is something to do for those that await records.
+    fn rouse_awaiting(&mut self) {
+        for session in self.awaiting.iter() {
+            if let Some(client) = self.clients.get_mut(session) {
+                make_ready(client, *session, &mut self.ready);
+            }
+        }
+        self.awaiting.clear();
+    }
+
+    /// There is something to do for those whose time is over.
+    fn note_times(&mut self) {
+        while let Some(session) = self.timers.take_over(self.rt) {
+            if let Some(client) = self.clients.get_mut(&session) {
+                client.note_time();
+                make_ready(client, session, &mut self.ready);
+            }
+        }
+    }
+
+    /// Reads what there is for all that are ready.
+    fn read(&mut self) {
+        for session in self.ready.iter() {
+            if let Some(client) = self.clients.get_mut(session) {
+                client.read();
+            }
+        }
+    }
+
+    /// Makes the calls of those that are ready, under one hold of the kernel's lock.
+    fn make_calls(&mut self) {
+        let mut turn: Option<Turn<'a, L>> = None;
+        for _ in 0..MOST_AT_ONCE {
+            let Some(session) = self.ready.pop_front() else {
+                break;
+            };
+            turn = self.work(session, turn);
+            // A call that waits in this thread goes on before the thread waits for what the others made.
+            if self.ready.is_empty() {
+                if let Some(turn) = &mut turn {
+                    if turn.take_due(&self.door.worker, &mut self.due).is_ok() {
+                        self.note_turns();
+                    }
+                }
+            }
+        }
+        if let Some(turn) = turn {
+            self.shared.end_turn(turn);
+        }
+    }
+
+    /// Makes the calls of one session, which is ready.
+    fn work(&mut self, session: u32, turn: Option<Turn<'a, L>>) -> Option<Turn<'a, L>> {
+        let Some(client) = self.clients.get_mut(&session) else {
+            return turn;
+        };
+        client.is_ready = false;
+        if !client.is_worked {
+            client.is_worked = true;
+            let _ = self.worked.push(session);
+        }
+        if !client.has_work() {
+            return turn;
+        }
+        let turn = match turn {
+            Some(turn) => turn,
+            None => self.shared.begin_turn(self.rt),
+        };
+        client.work(self.rt.alloc(), turn)
+    }
+
+    /// Answers those for which something was done, as far as their replies can be had.
+    fn answer(&mut self) {
+        let mut least: Option<u64> = None;
+        while let Some(session) = self.worked.pop() {
+            let Some(client) = self.clients.get_mut(&session) else {
+                continue;
+            };
+            client.is_worked = false;
+            client.answer(&mut self.reply, self.poll.registry());
+            let awaits = client.awaits();
+            match awaits {
+                Awaits::Nothing => make_ready(client, session, &mut self.ready),
+                Awaits::Records(seen) => {
+                    least = Some(least.map_or(seen, |other| seen.min(other)));
+                    let _ = self.awaiting.push(session);
+                }
+                _ => {}
+            }
+            self.set_timer(session, awaits);
+        }
+        if let Some(seen) = least {
+            if !self.shared.have_woken(self.rt, &self.door.worker, seen) {
+                self.rouse_awaiting();
+            }
+        }
+    }
+
+    /// Sets a session's timer to what it awaits, unless it awaits the same still.
+    fn set_timer(&mut self, session: u32, awaits: Awaits) {
+        let Some(client) = self.clients.get_mut(&session) else {
+            return;
+        };
+        let most = match awaits {
+            Awaits::End => {
+                self.remove(session);
+                return;
+            }
+            Awaits::Turn(most) => most,
+            Awaits::Room(most) | Awaits::Memory(most) => Some(most),
+            Awaits::Input | Awaits::Nothing | Awaits::Records(_) => None,
+        };
+        if client.takes_new_timer() {
+            if let Some(end) = client.timer.take() {
+                self.timers.clear(end, session);
+            }
+        }
+        match (client.timer, most) {
+            (None, Some(most)) => client.timer = self.timers.set(self.rt, session, most),
+            (Some(end), None) => {
+                self.timers.clear(end, session);
+                client.timer = None;
+            }
+            _ => {}
+        }
+    }
+
+    /// Ends a connection.
+    fn remove(&mut self, session: u32) {
+        let Some(client) = self.clients.remove(&session) else {
+            return;
+        };
+        if let Some(end) = client.timer {
+            self.timers.clear(end, session);
+        }
+        if client.waits() {
+            self.shared.leave_line(self.rt, session);
+        }
+        client.close();
+        drop(client);
+    }
+}
+
+/// There is something to do for a connection.
+fn make_ready<'a, L: Founding, D: Disk, R: Wait + Clock>(
+    client: &mut Client<'a, L, D, R>,
+    session: u32,
+    ready: &mut VecDeque<u32>,
+) {
+    if !client.is_ready {
+        client.is_ready = true;
+        let _ = ready.push_back(session);
+    }
+}
