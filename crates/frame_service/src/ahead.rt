@@ -3,7 +3,6 @@ ghost use Rattle.std.specs.Io.Buffered.{reader_buffer};
 ghost use Rattle.frame_service.specs.Asking.{holds_frame};
 
 use codes::{MAX_FRAME_CONTENT, MIN_FRAME_CONTENT};
-use socket_buffers::Inbox;
 use std::io::{BufReader, Read};
 use words::take_word;
 
@@ -19,13 +18,6 @@ impl<R: Read> Ahead for BufReader<R> {
         ensures { result ≡ holds_frame (reader_buffer self.now) }
     {
         holds_frame(self.buffer())
-    }
-}
-
-impl<R: Read> Ahead for Inbox<R> {
-    fn has_frame(&self) -> bool
-    {
-        holds_frame(self.bytes())
     }
 }
 

@@ -1,14 +1,14 @@
 ghost use Rattle.std.specs.Prelude.{◌≡◌, ◌≤◌, length, IfErr, IfNone, IfOk, IfSome};
 ghost use Rattle.codes.specs.declared.limits.TheConstants.{MAX_FRAME_CONTENT};
 ghost use Rattle.ipc_model.specs.calls.Step.{succeeded};
-ghost use Rattle.ipc_model.specs.declared.call.Call.{Call};
+ghost use Rattle.calls.specs.declared.request.Request.{Request};
 ghost use Rattle.ipc_model.specs.declared.reply.Reply.{Reply};
 ghost use Rattle.ipc_model.specs.encodings.Encodings.{reply_encoding};
 ghost use Rattle.store_fault.specs.declared.fault.StoreFault.{StoreFault};
 ghost use Rattle.frame_service.specs.Asking.{timed_out};
 
 use crate::short_reply::ShortReply;
-use calls::MessageRequest;
+use calls::{MessageRequest, Request};
 use ipc_model::{Call, Reply};
 use store_fault::StoreFault;
 
@@ -35,14 +35,18 @@ pub trait Asker {
     /// A call that was made, whose reply isn't given yet.
     type Ticket: Drop;
 
+    /// How long a call may still wait.
+    type Patience: Drop;
+
     /// The reply that a ticket keeps.
     ghost answer: { Self.Ticket → Reply };
 
-    /// What it is after a call for which it returned a ticket.
-    ghost makes: { Self → Call → Self.Ticket → Self → Type 0 };
+    /// What it is after it returned a ticket for what it was asked for. It is asked for one call at a time, or to
+    /// confine its connection.
+    ghost makes: { Self → Request → Self.Ticket → Self → Type 0 };
 
-    /// What it is after a call that it didn't make, since memory or room for the record ran out, or its task has gone.
-    ghost lacks: { Self → Call → Self → Type 0 };
+    /// What it is after it didn't do that, since memory or room for the record ran out, or its task has gone.
+    ghost lacks: { Self → Request → Self → Type 0 };
 
     /// What it is after it gave a ticket's reply.
     ghost acknowledges: { Self → Self.Ticket → Self → Type 0 };
@@ -61,8 +65,14 @@ pub trait Asker {
     /// Makes a call. If the call finds nothing to do and may wait, its wait begins. `None`: it isn't made, since memory
     /// or room for its record ran out, or its task has gone.
     fn submit(&mut self, call: &Call, may_wait: bool) -> Option<Self::Ticket>
-        ensures makes { IfSome result (λ ticket. makes self.old call.now ticket self.new) }
-        ensures lacks { IfNone result (lacks self.old call.now self.new) };
+        ensures makes { IfSome result (λ ticket. makes self.old (Request.One call.now) ticket self.new) }
+        ensures lacks { IfNone result (lacks self.old (Request.One call.now) self.new) };
+
+    /// Confines its connection to the space that it is attached to. The ticket keeps the reply of number 23. `None`: it
+    /// isn't confined, since memory ran out.
+    fn confine(&mut self) -> Option<Self::Ticket>
+        ensures makes { IfSome result (λ ticket. makes self.old Request.Confine ticket self.new) }
+        ensures lacks { IfNone result (lacks self.old Request.Confine self.new) };
 
     /// Whether a ticket's call was done, which is code 0.
     fn is_done(&self, ticket: &Self::Ticket) -> bool
@@ -72,13 +82,17 @@ pub trait Asker {
     fn is_timed_out(&self, ticket: &Self::Ticket) -> bool
         ensures { result ≡ timed_out (answer ticket.now) };
 
-    /// Whether a ticket's reply can be had without a wait.
-    fn is_due(&self, ticket: &Self::Ticket) -> bool;
-
     /// The reply that a ticket keeps, once all that its call saw is stored.
     fn redeem(&mut self, ticket: Self::Ticket) -> Result<Reply, StoreFault>
         ensures reply { IfOk result (λ reply. reply ≡ answer ticket) }
         ensures acknowledges { IfOk result (λ reply. acknowledges self.old ticket self.new) }
         ensures fits { IfOk result (λ reply. length (reply_encoding reply) ≤ MAX_FRAME_CONTENT) }
         ensures fails { IfErr result (λ fault. fails self.old ticket fault self.new) };
+
+    /// What is left of a wait that begins now, of this many milliseconds or without a bound.
+    fn patience(&self, bound: Option<u32>) -> Self::Patience;
+
+    /// Waits until the call whose wait began last may find something to do. Returns whether it may still wait
+    /// afterwards.
+    fn wait(&self, patience: &Self::Patience) -> bool;
 }

@@ -1,10 +1,11 @@
 //! Frames in, each call made, replies out, generic in what makes the calls.
 #![tactic(auto)]
 
+mod acknowledging;
 mod ahead;
 mod asking;
 mod caller;
-mod conversation;
+mod confining;
 mod rounds;
 mod service;
 mod short_reply;
@@ -13,7 +14,7 @@ mod taking;
 pub use ahead::Ahead;
 pub use asking::{Asker, PendingFrame, Ready};
 pub use caller::{Caller, shortage};
-pub use conversation::{Conversation, Tried};
-pub use rounds::MOST_PENDING_FRAMES;
+pub use confining::{Shown, attach_to, is_kept};
+pub use rounds::{MOST_PENDING_FRAMES, serve_asked};
 pub use service::{ServeFault, serve};
 pub use short_reply::ShortReply;
