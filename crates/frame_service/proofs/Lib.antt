@@ -1,7 +1,7 @@
 mod Acting
 pub mod Answered
+mod Steps
 mod Ended
 mod Going
 mod Sent
 mod Turns
-mod Acknowledged

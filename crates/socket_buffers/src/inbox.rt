@@ -97,7 +97,7 @@ impl<R: Read> Inbox<R> {
     }
 
     /// What came and isn't read yet.
-    pub fn bytes(&self) -> &[u8]
+    pub fn unread(&self) -> &[u8]
         ensures { result.now ≡ self.now.bytes }
     {
         self.bytes.as_slice()
