@@ -9,11 +9,14 @@ use Rattle.ipc_model.specs.declared.reply.Reply.{Reply}
 use Rattle.ipc_model.specs.encodings.Encodings.{reply_encoding}
 use Rattle.store_fault.specs.declared.fault.StoreFault.{StoreFault}
 use Rattle.socket_buffers.specs.Boxes.{InboxValue, OutboxValue, inbox_remaining, outbox_contents}
-use Rattle.frame_service.specs.Asking.{EndsAsked, GoesOn, IsGiven, IsUngiven, Proceeds, bound_of}
+use Rattle.socket_buffers.specs.declared.inbox.Source.{Source}
+use Rattle.socket_buffers.specs.declared.inbox.Source.TheVariants.{Open}
+use Rattle.frame_service.specs.Asking.{EndsAsked, GoesOn, IsGiven, IsUngiven, Proceeds, bound_of, holds_frame}
 use Rattle.frame_service.specs.declared.asking.Asker as asker
 use Rattle.frame_service.specs.declared.asking.PendingFrame.{PendingFrame}
 use Rattle.frame_service.specs.declared.asking.PendingFrame.TheVariants.{Settled, Waits}
 use Rattle.frame_service.specs.declared.asking.Ready.{Ready}
+use Rattle.frame_service.specs.declared.asking.Ready.TheVariants.{Made}
 use Rattle.frame_service.specs.declared.conversation.Conversation.{Conversation}
 use Rattle.frame_service.specs.declared.service.ServeFault.{ServeFault}
 use Rattle.frame_service.specs.declared.service.ServeFault.TheVariants.{Wire, Store}
@@ -43,6 +46,20 @@ over_of (pending ∷ all_pending) input_end = None
 abbrev pub waits_of : {T : Type 0} → List (PendingFrame T) → Option (Option ℕ)
 waits_of (Waits message ∷ all_pending) = Some (bound_of message)
 waits_of all_pending = None
+
+-- the ticket of the first frame in hand, if it waits only to be answered
+abbrev pub awaited_of : {T : Type 0} → List (PendingFrame T) → Option T
+awaited_of (Settled (Made ticket) ∷ all_pending) = Some ticket
+awaited_of all_pending = None
+
+-- whether there is a frame to be taken, or the end of the input, and nothing in hand
+abbrev pub is_next : Source → List ℕ → Bool
+is_next Open bytes = holds_frame bytes
+is_next source bytes = true
+
+abbrev pub has_next : {S T : Type 0} → List (PendingFrame T) → Option (Result (Unit {0}) WireFault) → InboxValue S → Bool
+has_next [] None inbox = is_next inbox.source inbox.bytes
+has_next all_pending input_end inbox = false
 
 module _ {C T : Type 0} (answer : T → Reply) (makes : C → Request → T → C → Type 0) (lacks : C → Request → C → Type 0) where
   -- a frame in hand was tried again, if it waited

@@ -1,11 +1,11 @@
 //! One connection, as far as it goes without waiting.
-ghost use Rattle.std.specs.Prelude.{◌≡◌, ◌≤◌, [], None, Err, IfErr, IfOk, IfSome, OnOk, length};
+ghost use Rattle.std.specs.Prelude.{◌≡◌, ◌≤◌, [], None, Err, IfErr, IfOk, IfSome, OnOk, length, option_map};
 ghost use Rattle.std.specs.VecDeque.{deque_len};
 ghost use Rattle.codes.specs.declared.limits.TheConstants.{MAX_FRAME_CONTENT};
 ghost use Rattle.ipc_model.specs.encodings.Encodings.{reply_encoding};
 ghost use Rattle.socket_buffers.specs.Boxes.{inbox_remaining, outbox_contents};
 ghost use Rattle.frame_service.specs.Asking.{IsGiven, IsUngiven, bound_of};
-ghost use Rattle.frame_service.specs.Conversing.{Begins, IsRetried, Kept, Stops, Tells, end_of, over_of, waits_of};
+ghost use Rattle.frame_service.specs.Conversing.{Begins, IsRetried, Kept, Stops, Tells, awaited_of, end_of, has_next, over_of, waits_of};
 
 use crate::ahead::holds_frame;
 use crate::asking::{Asker, PendingFrame, Ready};
@@ -225,14 +225,21 @@ impl<S: Read, W: Write, A: Asker> Conversation<S, W, A> {
     }
 
     /// Whether there is a frame to be taken, or the end of the input, and nothing in hand.
-    pub fn has_next(&self) -> bool {
-        self.pending.is_empty()
-            && self.input_end.is_none()
-            && (holds_frame(self.inbox.unread()) || self.inbox.source() != Source::Open)
+    pub fn has_next(&self) -> bool
+        ensures { result ≡ has_next self.now.pending.items self.now.input_end self.now.inbox }
+    {
+        if !self.pending.is_empty() || self.input_end.is_some() {
+            return false;
+        }
+        match self.inbox.source() {
+            Source::Open => holds_frame(self.inbox.unread()),
+            Source::Ended | Source::Failed => true,
+        }
     }
 
     /// The ticket of the first frame in hand, if it waits only to be answered.
     pub fn awaited(&self) -> Option<&A::Ticket>
+        ensures { option_map (λ ticket. ticket.now) result ≡ awaited_of self.now.pending.items }
     {
         match self.pending.front() {
             Some(PendingFrame::Settled(Ready::Made(ticket))) => Some(ticket),

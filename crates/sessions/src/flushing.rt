@@ -85,10 +85,8 @@ impl<L: Founding, D: Disk, G: Gate> Shared<L, D, G> {
                 self.store_changed.notify_all();
                 self.gate.pass(rt, LoopStep::Durable);
                 self.guarded.lock(rt).learn(receipt);
-                let mut replies = self.replies.lock(rt);
-                let side = replies.store(stored);
-                replies.wake_workers();
-                drop(replies);
+                let side = self.replies.lock(rt).store(stored);
+                self.wake_workers(rt);
                 self.replies_at(side).notify_all();
                 Ok(true)
             }

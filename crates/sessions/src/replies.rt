@@ -1,6 +1,6 @@
 //! What calls that wait for their replies know of the store.
 
-use crate::seat::Worker;
+use crate::seat::{Worker, again};
 use kernel_keeper::Founding;
 use std::alloc::{AllocError, Global};
 use std::sync::Arc;
@@ -80,16 +80,26 @@ impl<L: Founding> Replies<L> {
         true
     }
 
-    /// Wakes the workers for which enough is stored.
-    pub(crate) fn wake_workers(&mut self) {
+    /// How many workers there are.
+    pub(crate) fn workers(&self) -> usize {
+        self.workers.len()
+    }
+
+    /// A worker that is to be woken, since as many records are stored as it awaits, or nothing is stored any more.
+    pub(crate) fn take_due_worker(&mut self, number: usize) -> Option<Arc<Worker, Global>> {
         let stored = self.stored.count();
         let is_over = self.is_over;
-        for awaiting in self.workers.iter_mut() {
-            if let Some(seen) = awaiting.seen {
-                if is_over || seen <= stored {
-                    awaiting.seen = None;
-                    awaiting.worker.wake();
-                }
+        let awaiting = self.workers.get_mut(number)?;
+        let seen = awaiting.seen?;
+        if !is_over && stored < seen {
+            return None;
+        }
+        awaiting.seen = None;
+        match again(&awaiting.worker) {
+            Ok(worker) => Some(worker),
+            Err(_) => {
+                awaiting.worker.wake();
+                None
             }
         }
     }

@@ -246,6 +246,17 @@ impl<L: Founding, D: Disk, G: Drop> Shared<L, D, G> {
         self.guarded.lock(rt).take_due(worker.number(), due)
     }
 
+    /// Wakes the workers for which as many records are stored as they await. The lock is free when one is woken.
+    pub(crate) fn wake_workers(&self, rt: &impl Wait) {
+        let count = self.replies.lock(rt).workers();
+        for number in 0..count {
+            let worker = self.replies.lock(rt).take_due_worker(number);
+            if let Some(worker) = worker {
+                worker.wake();
+            }
+        }
+    }
+
     /// A session's call waits no longer, and isn't made again.
     pub fn leave_line(&self, rt: &impl Wait, session: u32) {
         self.guarded.lock(rt).leave_line(session);
@@ -337,10 +348,8 @@ impl<L: Founding, D: Disk, G: Drop> Shared<L, D, G> {
 
     /// No reply comes any more that hasn't come yet.
     fn end_replies(&self, rt: &impl Wait) {
-        let mut replies = self.replies.lock(rt);
-        replies.end();
-        replies.wake_workers();
-        drop(replies);
+        self.replies.lock(rt).end();
+        self.wake_workers(rt);
         self.even.notify_all();
         self.odd.notify_all();
     }
