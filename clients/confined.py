@@ -9,7 +9,6 @@ import os
 import pathlib
 import random
 import re
-import shutil
 import signal
 import socket
 import struct
@@ -333,3 +332,421 @@ def reach(server, rounds, frames):
     before, after, attaches, _ = try_round(server, kept, rounds, frames, is_confined=False)
     wants(words(0) in attaches and before != after, "the same frames without confine changed nothing")
     return f"{made} frames of {rounds} confined tasks"
+
+
+# machrun, which gives a confined command its connections.
+
+# What the programs below begin with.
+PRELUDE = """
+import array, contextlib, os, socket, sys, threading, time
+from machipc import *
+FD = int(os.environ["MACHIPC_FD"])
+def say(*words):
+    print(*words, flush=True)
+def refusal(call, *arguments):
+    try:
+        call(*arguments)
+    except MachError as refused:
+        return type(refused).__name__
+def send(byte=b"x", *descriptors, flags=0):
+    rights = [(socket.SOL_SOCKET, socket.SCM_RIGHTS, array.array("i", descriptors))] if descriptors else []
+    with socket.socket(fileno=os.dup(FD)) as broker, contextlib.suppress(BlockingIOError):
+        return broker.sendmsg([byte], rights, flags)
+def lingering():
+    # A connection whose close waits for bytes that nobody takes.
+    listener = socket.create_server(("127.0.0.1", 0))
+    made = socket.create_connection(listener.getsockname())
+    kept.append((listener, listener.accept()))
+    made.setsockopt(socket.SOL_SOCKET, socket.SO_LINGER, (1).to_bytes(4, "little") + (100).to_bytes(4, "little"))
+    made.setblocking(False)
+    with contextlib.suppress(BlockingIOError):
+        while True:
+            made.send(bytes(1 << 16))
+    return made
+kept = []
+"""
+
+GARBAGE = """
+def again_and_again():
+    while not is_over:
+        with Task.adopt() as other:
+            other.deallocate(other.allocate(DEAD_NAME))
+        count[0] += 1
+task, count, is_over = Task.adopt(), [0], False
+thread = threading.Thread(target=again_and_again)
+thread.start()
+null = os.open("/dev/null", os.O_RDWR)
+for _ in range(30):
+    send()
+    send(b"")
+    send(b"x" * 1000)
+    send(b"x", *[null] * 10)
+    send(b"", null)
+    for kind in (socket.SOCK_STREAM, socket.SOCK_DGRAM, socket.SOCK_SEQPACKET):
+        ends = socket.socketpair(socket.AF_UNIX, kind)
+        send(b"x", ends[0].fileno(), ends[1].fileno())
+        [it.close() for it in ends]
+    for made in (socket.socket(socket.AF_UNIX), socket.socket(socket.AF_UNIX, socket.SOCK_SEQPACKET), socket.socket()):
+        send(b"x", made.fileno())
+        made.close()
+    send(b"x", *os.pipe())
+    full, other_end = socket.socketpair(socket.AF_UNIX, socket.SOCK_SEQPACKET)
+    full.setblocking(False)
+    with contextlib.suppress(BlockingIOError):
+        while full.send(b"full"):
+            pass
+    send(b"x", full.fileno())
+    kept.append(other_end)
+    full.close()
+for _ in range(1000):
+    one, other = socket.socketpair(socket.AF_UNIX, socket.SOCK_SEQPACKET)
+    send(b"x", one.fileno(), flags=socket.MSG_DONTWAIT)
+    one.close()
+    other.close()
+unread = [socket.socketpair(socket.AF_UNIX, socket.SOCK_SEQPACKET) for _ in range(200)]
+for one, _ in unread:
+    send(b"x", one.fileno())
+before = count[0]
+while count[0] < before + 20:
+    time.sleep(0.01)
+is_over = True
+thread.join()
+task.allocate()
+say("went on", count[0] > 20)
+sys.stdin.readline()
+"""
+
+
+class Confined:
+    """What machrun does for a confined command. `program` is tests/confined.c, built."""
+
+    def __init__(self, machrun, program, server):
+        self.machrun, self.program, self.server = machrun, program, server
+        self.said = []
+
+    def command(self, text, *options):
+        return [str(self.machrun), *options, self.server.path, sys.executable, "-c", PRELUDE + text]
+
+    @contextlib.contextmanager
+    def running(self, text, *options, status=0, **more):
+        """A confined program, which has said a line. Its errors are on its standard output."""
+        at = {**os.environ, "PYTHONPATH": str(HERE / "python")}
+        pipes = {"stdin": subprocess.PIPE, "stdout": subprocess.PIPE, "stderr": subprocess.STDOUT}
+        with subprocess.Popen(self.command(text, *options), text=True, env=at, **pipes, **more) as ran:
+            try:
+                ran.first = ran.stdout.readline()
+                yield ran
+                ran.rest, _ = ran.communicate("\n", timeout=60)
+            except BaseException:
+                ran.kill()
+                raise
+        wants(ran.returncode == status, f"machrun ended with {ran.returncode}: {ran.first}{ran.rest}")
+
+    def ended(self, text, *options, status=0):
+        """All that a confined program says, to its end."""
+        with self.running(text, *options, status=status) as ran:
+            pass
+        return ran.first + ran.rest
+
+    def broker(self, ran):
+        """The process of machrun's that gives connections, which has another name than the command."""
+        children = pathlib.Path(f"/proc/{ran.pid}/task/{ran.pid}/children").read_text().split()
+        found = [int(it) for it in children if pathlib.Path(f"/proc/{it}/comm").read_text() == "machrun\n"]
+        wants(len(found) == 1, f"{len(found)} brokers")
+        return found[0]
+
+    def is_there(self, space):
+        with Connection(self.server.path) as one:
+            return one.code(words(ATTACH, space)) == 0
+
+    def restart(self):
+        self.server.kill()
+        self.server.start()
+
+    def check_environment(self):
+        said = self.ended("""
+open_ones = [it for it in range(3, 1000) if os.path.exists(f"/proc/self/fd/{it}")]
+task = Task.adopt()
+say("MACHIPC_SOCKET" in os.environ, open_ones == [FD], task.start, task.bootstrap >= 0x80000000, len(task.names()))
+say(refusal(task.attach, 1), refusal(task.attach, 99), refusal(task.attach, task.space), task.space)
+""")
+        lines = said.split("\n")
+        wants(lines[0] == "False True 1 True 1", f"the command's environment: {said}")
+        wants(lines[1].startswith("KERN_NO_ACCESS KERN_NO_ACCESS None "), f"attaches of the command: {said}")
+        wants(not self.is_there(int(lines[1].split()[-1])), "the command's space is there after it")
+
+    def check_many_in_c(self):
+        """Threads and children of fork, each with connections of their own, under kills of the server."""
+        with self.server.killed_often(8, 0.3, 0.8) as kills:
+            ran = subprocess.run([self.machrun, self.server.path, self.program, "4"], capture_output=True, text=True, timeout=120)
+        wants(ran.returncode == 0 and not ran.stderr, f"the program in C: {ran.returncode} {ran.stdout} {ran.stderr}")
+        below, said = ran.stdout.split(" ", 1)
+        remove(self.server.path, int(below))
+        wants(int(re.search(r"(\d+) calls asked again", said)[1]) > 0, f"no call was asked again: {said}")
+        self.said.append(f"in C {said.strip()}, {len(kills)} kills")
+
+    def check_many_in_python(self):
+        text = """
+task = Task.adopt(once=True)
+def work(number):
+    with task.another() as own:
+        for it in range(100):
+            own.allocate(DEAD_NAME, 0x1000 * number + it)
+        repeats.append(own.repeats)
+repeats = []
+threads = [threading.Thread(target=work, args=(it,)) for it in range(1, 4)]
+[it.start() for it in threads]
+[it.join() for it in threads]
+pid = os.fork()
+if pid == 0:
+    while refusal(task.names):
+        pass
+    os._exit(len(task.names()) != 301)
+say(os.waitpid(pid, 0)[1], len(task.names()), refusal(task.attach, 1))
+"""
+        with self.server.killed_often(9, 0.2, 0.5):
+            said = self.ended(text)
+        wants(said == "0 301 KERN_NO_ACCESS\n", f"the program in Python says {said}")
+
+    def check_killed_server(self):
+        """A call that the kill cuts off is reported, and the next one is made on a new connection, as without machrun."""
+        with self.running("""
+task = Task.adopt()
+say("ready")
+sys.stdin.readline()
+say(refusal(task.names), len(task.names()))
+sys.stdin.readline()
+""") as ran:
+            self.restart()
+            ran.stdin.write("\n")
+            ran.stdin.flush()
+            said = ran.stdout.readline()
+        wants(re.fullmatch(r"MACH_(RCV|SEND)_INTERRUPTED 1\n", said), f"after a kill: {said}")
+
+    def check_number_of_another(self):
+        """The command's space is destroyed, and another one gets its number: machrun gives no connections to that one, and
+        doesn't destroy it. Where machrun has lost its connection meanwhile, it says so of a space that it can't know."""
+        for is_restarted in (False, True):
+            text = """
+task = Task.adopt()
+say(task.space)
+sys.stdin.readline()
+print(refusal(Task.adopt))
+"""
+            with self.running(text, status=125 if is_restarted else 0) as ran:
+                space = int(ran.first)
+                with Connection(self.server.path) as first:
+                    remove(self.server.path, space)
+                    (port,) = first.results(ALLOCATE, machine.RECEIVE)
+                    wants(first.results(SPACE_CREATE, port, machine.MAKE_SEND)[0] == space, "the number is another's")
+                if is_restarted:
+                    self.restart()
+            wants(ran.rest.startswith("KERN_INVALID_TASK\n"), f"a new connection: {ran.rest}")
+            wants(("the space was not destroyed" in ran.rest) == is_restarted, f"the end: {ran.rest}")
+            wants(self.is_there(space), "machrun destroyed another's space")
+            remove(self.server.path, space)
+
+    def check_first_name(self):
+        """A command that gives its first name up gets no more connections, and its space ends with it all the same. After a
+        server that was started again machrun doesn't know it any more."""
+        for is_restarted in (False, True):
+            text = """
+task = Task.adopt()
+task.destroy(task.bootstrap)
+say(task.space, refusal(task.allocate), refusal(Task.adopt))
+sys.stdin.readline()
+"""
+            with self.running(text, status=125 if is_restarted else 0) as ran:
+                space = int(ran.first.split()[0])
+                wants(ran.first == f"{space} None KERN_INVALID_TASK\n", f"without its first name: {ran.first}")
+                if is_restarted:
+                    self.restart()
+            wants(self.is_there(space) == is_restarted, "its space")
+            remove(self.server.path, space)
+
+    def check_own_end(self):
+        """A command that destroys its space itself."""
+        said = self.ended("task = Task.adopt()\ntask.space_destroy()\nsay(refusal(task.names), refusal(Task.adopt))\n")
+        wants(said == "KERN_INVALID_TASK KERN_INVALID_TASK\n", f"after its space's end: {said}")
+
+    def check_garbage(self):
+        """What comes over MACHIPC_FD and is no request stops nobody and leaves no descriptor with machrun."""
+        with self.running(GARBAGE) as ran:
+            broker = self.broker(ran)
+            if os.geteuid() == 0:
+                left = os.listdir(f"/proc/{broker}/fd")
+                wants(len(left) <= 5, f"the broker has {len(left)} descriptors left")
+        wants(ran.first == "went on True\n", f"amid garbage: {ran.first}{ran.rest}")
+
+    @contextlib.contextmanager
+    def held_up(self, text):
+        """A confined program whose broker waits in a close, where the program's own close wasn't the last one."""
+        hold_up = """
+task = Task.adopt()
+say(task.space)
+sys.stdin.readline()
+made = lingering()
+send(b"x", made.fileno())
+made.close()
+say("sent")
+began = time.monotonic()
+"""
+        with self.running(hold_up + text) as ran:
+            broker = self.broker(ran)
+            os.kill(broker, signal.SIGSTOP)
+            ran.stdin.write("\n")
+            ran.stdin.flush()
+            ran.stdout.readline()
+            os.kill(broker, signal.SIGCONT)
+            yield ran
+
+    def check_command_that_holds_its_broker_up(self):
+        """machrun sees the command's end at once, whatever its broker waits for."""
+        began = time.monotonic()
+        with self.held_up("sys.stdin.readline()\nos._exit(0)\n") as ran:
+            time.sleep(0.5)
+        wants(time.monotonic() - began < 10 and not self.is_there(int(ran.first)), "the end of a command that holds its broker up")
+
+    def check_broker_that_ends(self):
+        """A broker that is killed is started again. One whose pair was shut down isn't."""
+        text = """
+task = Task.adopt()
+say("ready")
+sys.stdin.readline()
+say(refusal(Task.adopt), refusal(Task.adopt))
+with socket.socket(fileno=os.dup(FD)) as broker:
+    broker.shutdown(socket.SHUT_WR)
+say(refusal(Task.adopt), refusal(task.allocate))
+sys.stdin.readline()
+"""
+        with self.running(text) as ran:
+            os.kill(self.broker(ran), signal.SIGKILL)
+            ran.stdin.write("\n")
+            ran.stdin.flush()
+            said = ran.stdout.readline() + ran.stdout.readline()
+            time.sleep(0.3)
+            children = pathlib.Path(f"/proc/{ran.pid}/task/{ran.pid}/children").read_text().split()
+        wants(re.fullmatch("(None|MACH_SEND_INTERRUPTED) None\nMACH_SEND_INTERRUPTED None\n", said), f"a broker's end: {said}")
+        wants(len(children) == 1, f"machrun has the processes {children}")
+
+    def check_killed_machrun(self):
+        """The broker ends with machrun; the command goes on with the connections that it has."""
+        with self.running("task = Task.adopt()\nsay(os.getpid(), task.space)\nsys.stdin.readline()\n"
+                          "say(refusal(task.allocate), refusal(Task.adopt))\n", status=-signal.SIGKILL) as ran:
+            space, broker = int(ran.first.split()[1]), self.broker(ran)
+            ran.kill()
+            end = time.monotonic() + 10
+            while os.path.exists(f"/proc/{broker}/fd/0") and time.monotonic() < end:
+                time.sleep(0.02)
+            wants(time.monotonic() < end, "the broker goes on without machrun")
+        wants(ran.rest == "None MACH_SEND_INTERRUPTED\n", f"without machrun: {ran.rest}")
+        remove(self.server.path, space)
+
+    def check_kept(self):
+        """Each start has a pair of its own, in the same space."""
+        text = """
+task = Task.adopt()
+say(task.start, task.space, len(task.names()))
+task.allocate()
+with socket.socket(fileno=os.dup(FD)) as broker:
+    broker.shutdown(socket.SHUT_RDWR)
+sys.exit(task.start < 2)
+"""
+        first, second = self.ended(text, "--keep").splitlines()
+        wants(first.startswith("1 ") and second.startswith("2 ") and first.endswith(" 1") and second.endswith(" 2"), f"--keep: {second}")
+
+    def check_within(self):
+        """A confined command can't start tasks; one of machrun --open can, and these are confined."""
+        inner = f"{self.machrun} {self.server.path} sh -c 'echo $MACHIPC_SPACE ${{MACHIPC_FD:-open}} ${{MACHIPC_SOCKET:-confined}}'"
+        for options, wanted in ((), 125), (("--open",), 0):
+            ran = subprocess.run([self.machrun, *options, self.server.path, "sh", "-c", inner], capture_output=True, text=True, timeout=60)
+            wants(ran.returncode == wanted, f"machrun within machrun {options}: {ran.returncode} {ran.stdout} {ran.stderr}")
+            said = "a confined task can't start tasks" in ran.stderr if wanted else re.fullmatch(r"\d+ \d+ confined\n", ran.stdout)
+            wants(said, f"machrun within machrun {options} says {ran.stdout} {ran.stderr}")
+
+    # Who may open the socket.
+
+    def can_open(self, *options, path=None):
+        """Whether the command of a machrun with these options opens the socket's path, and what machrun says. A second machrun
+        tries, to which the first one's descriptor isn't shown."""
+        path = path or self.server.path
+        inner = ["env", "-u", "MACHIPC_FD", self.machrun, "--open", path, "true"]
+        ran = subprocess.run([self.machrun, *options, path, *inner], capture_output=True, text=True, timeout=60)
+        wants(ran.returncode in (0, 125), f"machrun {options}: {ran.returncode} {ran.stderr}")
+        return ran.returncode == 0, ran.stderr
+
+    def check_users(self):
+        if os.geteuid() != 0:
+            self.said.append("who may open the socket is skipped, since this isn't root")
+            return
+        as_nobody = ("--user", "nobody")
+        is_hidden = not self.can_open()[0]
+        if not is_hidden:
+            self.said.append("a hidden socket is skipped, since the system makes no mounts here")
+        os.chmod(self.server.path, 0o777)
+        for options in ((), as_nobody) if is_hidden else ():
+            wants(not self.can_open(*options)[0], f"the command opens a hidden socket, {options}")
+            wants(not self.restarts_and_opens(*options), f"the command opens a hidden socket that was made anew, {options}")
+        # A folder with something else isn't hidden, so that permissions are all there is.
+        other = pathlib.Path(self.server.path).with_name("other")
+        other.touch()
+        for mode, options, wanted in (0o777, (), True), (0o777, as_nobody, True), (0o700, as_nobody, False):
+            os.chmod(self.server.path, mode)
+            did, said = self.can_open(*options)
+            wants(did == wanted, f"mode {mode:o}: {said}")
+            wants(("may open it" in said) == wanted, f"mode {mode:o} and {options}: machrun says {said}")
+        ran = subprocess.run([self.machrun, *as_nobody, self.server.path, self.program, "1"], capture_output=True, text=True, timeout=60)
+        wants(ran.returncode == 0, f"a task of nobody: {ran.stdout} {ran.stderr}")
+        remove(self.server.path, int(ran.stdout.split()[0]))
+        self.check_ordinary_user()
+        other.unlink()
+        for options in (("--user", "no such user"), ("--user",)):
+            ran = subprocess.run([self.machrun, *options, self.server.path, "true"], capture_output=True, timeout=60)
+            wants(ran.returncode == 125, f"machrun {options}")
+
+    def restarts_and_opens(self, *options):
+        """Whether a command opens the socket of a server that was started again after the command was."""
+        path = self.server.path
+        opens = f"read line; env -u MACHIPC_FD {self.machrun} --open {path} true; echo $?"
+        with subprocess.Popen([self.machrun, *options, path, "sh", "-c", f"echo; {opens}"], stdin=subprocess.PIPE,
+                              stdout=subprocess.PIPE, stderr=subprocess.DEVNULL, text=True) as ran:
+            ran.stdout.readline()
+            self.restart()
+            os.chmod(path, 0o777)
+            said, _ = ran.communicate("\n", timeout=60)
+        return said.strip() != "125"
+
+    def check_ordinary_user(self):
+        """machrun of an ordinary user: no such user reads its memory or takes its descriptors, and --user is refused."""
+        if os.geteuid() != 0:
+            return
+        os.chmod(self.server.path, 0o777)
+        nobody = {"user": "nobody", "group": "nogroup", "extra_groups": []}
+        with subprocess.Popen([self.machrun, self.server.path, "sh", "-c", "echo; read line; exit 6"], stdin=subprocess.PIPE,
+                              stdout=subprocess.PIPE, text=True, **nobody) as ran:
+            ran.stdout.readline()
+            # The system gives the files of a process that can't be traced to root.
+            owners = [os.stat(f"/proc/{it}/mem").st_uid for it in (ran.pid, self.broker(ran))]
+            ran.communicate("\n", timeout=60)
+        wants(ran.returncode == 6 and owners == [0, 0], f"machrun of an ordinary user: {ran.returncode}, {owners}")
+        ran = subprocess.run([self.machrun, "--user", "root", self.server.path, "true"], capture_output=True, timeout=60, **nobody)
+        wants(ran.returncode == 125, "machrun --user of an ordinary user")
+
+
+def machrun_checks(machrun, program, server):
+    """All checks of Confined. Gives what is said of them."""
+    of = Confined(machrun, program, server)
+    checks = [it for it in dir(of) if it.startswith("check_")]
+    # A broker that is held up ends after a while, and is started again.
+    text = """
+while refusal(Task.adopt):
+    time.sleep(0.1)
+say("went on", time.monotonic() - began > 5)
+os._exit(0)
+"""
+    with of.held_up(text) as held:
+        for it in checks:
+            getattr(of, it)()
+    wants(held.rest == "went on True\n", f"a broker that is held up: {held.rest}")
+    wants(others(server.path, ()) == [], f"the spaces {others(server.path, ())} are left")
+    return "; ".join([f"{len(checks)} checks", *of.said])

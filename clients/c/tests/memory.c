@@ -44,6 +44,8 @@ static void *first_calls(void *nothing) {
     allowed = 0;
     CHECK_CODE(machipc_space_destroy(), KERN_RESOURCE_SHORTAGE);
     allowed = 0;
+    CHECK_CODE(machipc_confine(), KERN_RESOURCE_SHORTAGE);
+    allowed = 0;
     CHECK_CODE(machipc_task_end(&task), KERN_RESOURCE_SHORTAGE);
     allowed = 0;
     CHECK(mig_get_reply_port() == MACH_PORT_NULL);
