@@ -103,9 +103,10 @@ typedef struct machipc_task {
 
 /*
  * Begins a task: makes a space with one right of the caller's, as machipc_space_create does. With MACH_PORT_NULL it gets
- * the receive right of a new port instead, and nothing of the caller's. The caller stays in its own space; a process that
- * it starts gets the task by machipc_task_export before exec and machipc_adopt after it, or by machipc_attach after
- * fork. The same codes as of machipc_space_create, and of mach_port_allocate.
+ * the receive right of a new port instead, and nothing of the caller's. The right's name there is drawn by chance, so that
+ * the space is known from a later one of its number; a confined process leaves the name that the server gave. The caller
+ * stays in its own space; a process that it starts gets the task by machipc_task_export before exec and machipc_adopt after
+ * it, or by machipc_attach after fork. The same codes as of machipc_space_create, and of mach_port_allocate.
  */
 kern_return_t machipc_task_begin(mach_port_t name, mach_msg_type_name_t disposition, machipc_task_t *task);
 

@@ -24,6 +24,9 @@
 /* Seconds that the server has for each step of a connection, and that all of a request may take before the broker ends. */
 enum { STEP_SECONDS = 3, REQUEST_SECONDS = 15 };
 
+/* How long the end of a broker that was killed is waited for. One that the system holds up longer is left to it. */
+enum { LAST_MILLISECONDS = 500 };
+
 /* Requests. */
 
 /* All descriptors that came with a message; the first of them, and the others are closed. */
@@ -211,6 +214,10 @@ static void run(const struct broker *broker, pid_t parent) {
 
 /* machrun's side. */
 
+static void sleep_for(long milliseconds) {
+    nanosleep(&(struct timespec){.tv_nsec = milliseconds * 1000000}, NULL);
+}
+
 static bool start(struct broker *broker) {
     pid_t parent = getpid();
     pid_t made = fork();
@@ -256,7 +263,7 @@ void broker_see(struct broker *broker, pid_t process, int status) {
     }
     broker->process = 0;
     if (!WIFEXITED(status)) {
-        nanosleep(&(struct timespec){.tv_nsec = 100000000}, NULL);
+        sleep_for(100);
         if (!start(broker)) {
             close_one(&broker->end); /* who asks is answered by an error at once */
         }
@@ -266,6 +273,9 @@ void broker_see(struct broker *broker, pid_t process, int status) {
 void broker_end(struct broker *broker) {
     if (broker->process != 0) {
         kill(broker->process, SIGKILL);
+        for (int i = 0; i < LAST_MILLISECONDS && waitpid(broker->process, NULL, WNOHANG) == 0; i++) {
+            sleep_for(1);
+        }
         broker->process = 0;
     }
     close_one(&broker->end);

@@ -31,7 +31,7 @@ void broker_was_given(struct broker *broker);
 /* A process has ended so. Where it was the broker's, and the command may ask for more, another one is started. */
 void broker_see(struct broker *broker, pid_t process, int status);
 
-/* Ends the process, and does not wait for that. */
+/* Ends the process, and waits for that, but not for long. */
 void broker_end(struct broker *broker);
 
 #endif

@@ -1,5 +1,5 @@
 /*
- * machrun [--keep] [--open] [--user NAME] SOCKET COMMAND..
+ * machrun [--keep] [--open] [--adopt] [--user NAME] SOCKET COMMAND..
  *
  * Runs a command as a task: with a space of its own, which is destroyed when the command has ended, however it ended.
  *
@@ -10,8 +10,8 @@
  *
  * The command may destroy its space, and then another one may get the number. machrun must neither give connections to that
  * one nor destroy it. So it makes a connection of its own before the command starts, which is confined too, and by which no
- * other space can be meant; and it gives the space's first right a name by chance, by which it knows the space after it lost
- * that connection.
+ * other space can be meant; and once that is lost it knows the space by the name of its first right, which machipc_task_begin
+ * drew by chance.
  */
 
 #include "broker.h"
@@ -26,16 +26,15 @@
 #include <stdlib.h>
 #include <string.h>
 #include <sys/prctl.h>
-#include <sys/random.h>
 #include <sys/wait.h>
 #include <time.h>
 #include <unistd.h>
 
 static const char usage[] =
-    "machrun [--keep] [--open] [--user NAME] SOCKET COMMAND..\n"
+    "machrun [--keep] [--open] [--adopt] [--user NAME] SOCKET COMMAND..\n"
     "Makes a space on the server at SOCKET, runs the command confined to it, and destroys it when the command has ended.\n"
     "With --keep a command that fails is started again in the same space, with --open it isn't confined, and with --user it\n"
-    "runs as that user.\n";
+    "runs as that user. With --adopt it gets the space that the environment names, which stays.\n";
 
 static volatile sig_atomic_t command;     /* its process, or 0 */
 static volatile sig_atomic_t was_stopped; /* the signal that asked for the end, or 0 */
@@ -117,10 +116,10 @@ static kern_return_t begin_once(const char *socket, machipc_task_t *task) {
 
 /* A server that is lost meanwhile, as one that is started again, is waited for. One that isn't there at first isn't, unless
    the environment says that it was. */
-static kern_return_t begin(const char *socket, machipc_task_t *task) {
-    kern_return_t code = has_task(socket) ? KERN_SUCCESS : machipc_connect(socket);
+static kern_return_t begin(const char *socket, bool is_adopted, machipc_task_t *task) {
+    kern_return_t code = has_task(socket) ? KERN_SUCCESS : is_adopted ? KERN_INVALID_ARGUMENT : machipc_connect(socket);
     for (int i = 0; i < TRIES && code == KERN_SUCCESS; i++) {
-        kern_return_t begun = begin_once(socket, task);
+        kern_return_t begun = is_adopted ? machipc_adopt(task) : begin_once(socket, task);
         if (!was_cut(begun) || was_stopped) {
             return begun;
         }
@@ -129,38 +128,19 @@ static kern_return_t begin(const char *socket, machipc_task_t *task) {
     return code == KERN_SUCCESS ? MACH_RCV_INTERRUPTED : code;
 }
 
-/* A name above those that servers give by themselves, and hardly that of a right in another space. */
-static bool draw(mach_port_t *name) {
-    uint32_t drawn;
-    bool is_drawn = getrandom(&drawn, sizeof drawn, 0) == sizeof drawn;
-    *name = 0x80000000u | (is_drawn ? drawn % 0x7fffffffu : 0);
-    return is_drawn;
-}
-
-/* Goes to the command's space with a connection that is confined to it, and gives the first right this name. */
-static kern_return_t hold_once(const machipc_task_t *task, mach_port_t name) {
-    kern_return_t code = machipc_attach(task->space);
-    if (code == KERN_SUCCESS) {
-        code = mach_port_rename(mach_task_self(), task->bootstrap, name);
-        code = code == KERN_INVALID_NAME ? KERN_SUCCESS : code; /* it was done before a cut */
-    }
-    return code == KERN_SUCCESS ? machipc_confine() : code;
-}
-
-/* The same, also where the server is lost meanwhile. The space is destroyed where it can't be done. */
-static kern_return_t hold(machipc_task_t *task) {
-    mach_port_t name;
-    kern_return_t code = draw(&name) ? MACH_SEND_INTERRUPTED : KERN_FAILURE;
+/* Goes to the command's space with a connection that is confined to it. */
+static kern_return_t hold(const machipc_task_t *task) {
+    kern_return_t code = MACH_SEND_INTERRUPTED;
     for (int i = 0; i < TRIES && was_cut(code); i++) {
         if (i > 0) {
             sleep_for(PAUSE);
         }
-        code = hold_once(task, name);
+        code = machipc_attach(task->space);
+        code = code == KERN_SUCCESS ? machipc_confine() : code;
     }
     if (code != KERN_SUCCESS) {
         machipc_task_end(task);
     }
-    task->bootstrap = name;
     return code;
 }
 
@@ -266,6 +246,7 @@ static void pause_after(time_t began) {
 struct options {
     bool is_kept;
     bool is_open;
+    bool is_adopted; /* the space is the environment's */
     struct child child;
 };
 
@@ -297,6 +278,8 @@ static bool read_options(char **words, struct options *options) {
             options->is_kept = true;
         } else if (strcmp(option, "--open") == 0) {
             options->is_open = true;
+        } else if (strcmp(option, "--adopt") == 0) {
+            options->is_adopted = true;
         } else if (strcmp(option, "--user") == 0 && *words != NULL) {
             options->child.user = *words++;
         } else {
@@ -320,9 +303,27 @@ static bool is_possible(struct options *options) {
     return child_find_user(&options->child);
 }
 
+/* Makes the command's space, runs the command and destroys the space. */
+static int run_in_space(struct options *options) {
+    machipc_task_t task;
+    kern_return_t code = begin(options->child.socket, options->is_adopted, &task);
+    if (code != KERN_SUCCESS) {
+        return fail("no space", code);
+    }
+    if (options->is_adopted) {
+        return run(options, &task);
+    }
+    code = options->is_open ? KERN_SUCCESS : hold(&task);
+    if (code != KERN_SUCCESS) {
+        return fail("the command can't be confined", code);
+    }
+    int status = run(options, &task);
+    code = options->is_open ? machipc_task_end(&task) : end_confined(&task);
+    return code == KERN_SUCCESS ? status : fail("the space was not destroyed", code);
+}
+
 int main(int count, char **words) {
     struct options options;
-    machipc_task_t task;
     if (count == 2 && strcmp(words[1], "--help") == 0) {
         return fputs(usage, stdout) < 0 || fflush(stdout) != 0;
     }
@@ -336,15 +337,5 @@ int main(int count, char **words) {
     /* Nobody else of the same user reads machrun's memory, or takes its connections. */
     prctl(PR_SET_DUMPABLE, 0, 0, 0, 0);
     handle_signals();
-    kern_return_t code = begin(options.child.socket, &task);
-    if (code != KERN_SUCCESS) {
-        return fail("no space", code);
-    }
-    code = options.is_open ? KERN_SUCCESS : hold(&task);
-    if (code != KERN_SUCCESS) {
-        return fail("the command can't be confined", code);
-    }
-    int status = run(&options, &task);
-    code = options.is_open ? machipc_task_end(&task) : end_confined(&task);
-    return code == KERN_SUCCESS ? status : fail("the space was not destroyed", code);
+    return run_in_space(&options);
 }

@@ -67,6 +67,7 @@ static void refusals(void) {
     CHECK_CODE(machipc_once(MACHIPC_FIRST_SPACE), KERN_NO_ACCESS);
     CHECK_CODE(machipc_task_export(&task), KERN_NO_ACCESS);
     CHECK_OK(machipc_task_begin(task.bootstrap, MACH_MSG_TYPE_MAKE_SEND, &below));
+    CHECK(below.bootstrap < 0x80000000u); /* the name that the server gave */
     CHECK_CODE(machipc_attach(below.space), KERN_NO_ACCESS);
     CHECK_CODE(machipc_task_end(&below), KERN_NO_ACCESS);
     printf("%u ", (unsigned) below.space);
