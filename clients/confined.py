@@ -129,7 +129,7 @@ def refused(server):
         wants(one.ask(words(NUMBERED, 1, CONFINE)) == [words(NUMBERED, NO_CALL)], "confine as a numbered call")
         wants(one.ask(words(ATTACH, FIRST), words(ATTACH, space)) == [words(ATTACH, 0)] * 2, "confine that is no call")
         wants(one.ask(words(CONFINE), words(CONFINE)) == [words(CONFINE, 0)] * 2, "confine")
-        for wanted in (FIRST, space, 0, 200, machine.LAST_WORD):
+        for wanted in (space, 0, 200, machine.LAST_WORD, FIRST):
             wants(one.ask(words(ATTACH, wanted)) == [words(ATTACH, NO_ACCESS)], f"an attach to {wanted} after confine")
         wants(one.ask(words(CONFINE)) == [words(CONFINE, 0)], "confine again, after an attach")
         wants(one.results(TYPE, name) == (1 << 16,), "its own space")
@@ -428,11 +428,11 @@ class Confined:
         return [str(self.machrun), *options, self.server.path, sys.executable, "-c", PRELUDE + text]
 
     @contextlib.contextmanager
-    def running(self, text, *options, status=0, **more):
+    def running(self, text, *options, status=0, **environment):
         """A confined program, which has said a line. Its errors are on its standard output."""
-        at = {**os.environ, "PYTHONPATH": str(HERE / "python")}
+        at = {**os.environ, "PYTHONPATH": str(HERE / "python"), **environment}
         pipes = {"stdin": subprocess.PIPE, "stdout": subprocess.PIPE, "stderr": subprocess.STDOUT}
-        with subprocess.Popen(self.command(text, *options), text=True, env=at, **pipes, **more) as ran:
+        with subprocess.Popen(self.command(text, *options), text=True, env=at, **pipes) as ran:
             try:
                 ran.first = ran.stdout.readline()
                 yield ran
@@ -442,9 +442,9 @@ class Confined:
                 raise
         wants(ran.returncode == status, f"machrun ended with {ran.returncode}: {ran.first}{ran.rest}")
 
-    def ended(self, text, *options, status=0):
+    def ended(self, text, *options, status=0, **environment):
         """All that a confined program says, to its end."""
-        with self.running(text, *options, status=status) as ran:
+        with self.running(text, *options, status=status, **environment) as ran:
             pass
         return ran.first + ran.rest
 
@@ -468,11 +468,12 @@ class Confined:
 open_ones = [it for it in range(3, 1000) if os.path.exists(f"/proc/self/fd/{it}")]
 task = Task.adopt()
 say("MACHIPC_SOCKET" in os.environ, open_ones == [FD], task.start, task.bootstrap >= 0x80000000, len(task.names()))
-say(refusal(task.attach, 1), refusal(task.attach, 99), refusal(task.attach, task.space), task.space)
+say(refusal(task.attach, 1), refusal(task.attach, 99), refusal(task.attach, task.space), refusal(task._call, 0, 1), task.space)
 """)
         lines = said.split("\n")
         wants(lines[0] == "False True 1 True 1", f"the command's environment: {said}")
-        wants(lines[1].startswith("KERN_NO_ACCESS KERN_NO_ACCESS None "), f"attaches of the command: {said}")
+        # The module refuses the first two by itself, and the last one is asked of the server.
+        wants(lines[1].startswith("KERN_NO_ACCESS KERN_NO_ACCESS None KERN_NO_ACCESS "), f"attaches of the command: {said}")
         wants(not self.is_there(int(lines[1].split()[-1])), "the command's space is there after it")
 
     def check_many_in_c(self):
@@ -654,6 +655,18 @@ sys.exit(task.start < 2)
 """
         first, second = self.ended(text, "--keep").splitlines()
         wants(first.startswith("1 ") and second.startswith("2 ") and first.endswith(" 1") and second.endswith(" 2"), f"--keep: {second}")
+
+    def check_adopted(self):
+        """A command in a space that somebody else made, and that stays."""
+        space, name, _ = space_with(self.server.path)
+        given = {"MACHIPC_SOCKET": self.server.path, "MACHIPC_SPACE": str(space), "MACHIPC_BOOTSTRAP": hex(name)}
+        text = "task = Task.adopt()\nsay(task.space, task.bootstrap, task.start, len(task.names()), refusal(task.attach, 1))\n"
+        said = self.ended(text, "--adopt", **given, MACHIPC_START="3")
+        wants(said == f"{space} {name} 3 1 KERN_NO_ACCESS\n" and self.is_there(space), f"--adopt: {said}")
+        remove(self.server.path, space)
+        for it in (given, {}):
+            said = self.ended(text, "--adopt", status=125, **it)
+            wants(said == f"machrun: no space: KERN_INVALID_{'TASK' if it else 'ARGUMENT'}\n", f"--adopt without a space: {said}")
 
     def check_within(self):
         """A confined command can't start tasks; one of machrun --open can, and these are confined."""

@@ -9,6 +9,7 @@ from __future__ import annotations
 
 import array
 import dataclasses
+import errno
 import os
 import random
 import socket
@@ -400,8 +401,8 @@ def _from_broker(broker: int) -> socket.socket:
                 try:
                     asked.sendmsg([b"\0"], rights, socket.MSG_DONTWAIT | socket.MSG_NOSIGNAL)
                     break
-                except BlockingIOError:  # others have filled the queue
-                    if not wait.pause():
+                except OSError as fault:  # where others have filled the queue, there is room in a moment
+                    if fault.errno not in (errno.EAGAIN, errno.ETOOMANYREFS, errno.ENOBUFS) or not wait.pause():
                         raise
         own.settimeout(wait.left())
         answer, ancillary, _, _ = own.recvmsg(1, socket.CMSG_LEN(4), socket.MSG_CMSG_CLOEXEC)
