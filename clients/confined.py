@@ -664,9 +664,9 @@ sys.exit(task.start < 2)
         said = self.ended(text, "--adopt", **given, MACHIPC_START="3")
         wants(said == f"{space} {name} 3 1 KERN_NO_ACCESS\n" and self.is_there(space), f"--adopt: {said}")
         remove(self.server.path, space)
-        for it in (given, {}):
+        for it, wanted in (given, "no space: KERN_INVALID_TASK"), ({}, f"--adopt: the environment has no task on {self.server.path}"):
             said = self.ended(text, "--adopt", status=125, **it)
-            wants(said == f"machrun: no space: KERN_INVALID_{'TASK' if it else 'ARGUMENT'}\n", f"--adopt without a space: {said}")
+            wants(said == f"machrun: {wanted}\n", f"--adopt without a space: {said}")
 
     def check_within(self):
         """A confined command can't start tasks; one of machrun --open can, and these are confined."""

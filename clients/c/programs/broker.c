@@ -68,7 +68,7 @@ static bool next_request(int end, int *asked) {
     *asked = -1;
     ssize_t length = recvmsg(end, &head, MSG_CMSG_CLOEXEC);
     if (length < 0) {
-        return errno == EINTR || errno == EMFILE || errno == ENOBUFS;
+        return errno == EINTR;
     }
     *asked = first_of(&head);
     /* No bytes are the end, or a message without any. */

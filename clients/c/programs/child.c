@@ -6,7 +6,6 @@
 #include <errno.h>
 #include <fcntl.h>
 #include <grp.h>
-#include <limits.h>
 #include <pwd.h>
 #include <sched.h>
 #include <stdio.h>
@@ -39,15 +38,12 @@ static void fail(const char *what) {
     _exit(FAILED);
 }
 
-/* The folder of the socket, in which the socket's own name is left at `name`. */
-static bool find_folder(const char *socket, char folder[PATH_MAX], char **name) {
-    if (realpath(socket, folder) == NULL) {
-        return false;
+bool child_find_socket(struct child *child) {
+    bool is_found = realpath(child->socket, child->found) != NULL;
+    if (!is_found) {
+        child->found[0] = '\0';
     }
-    char *slash = strrchr(folder, '/');
-    *slash = '\0';
-    *name = slash + 1;
-    return slash != folder;
+    return is_found;
 }
 
 /* Whether the folder has nothing but the socket, so that nobody misses what else is in it. */
@@ -67,9 +63,15 @@ static bool has_only(const char *folder, const char *name) {
  * Covers the socket's folder by an empty one, for this process and those that it starts. The folder and not only the socket,
  * since a server that is started again makes its socket anew, and a cover goes with what it was put over.
  */
-static bool hide(const char *socket) {
-    char folder[PATH_MAX], here[PATH_MAX], *name;
-    if (!find_folder(socket, folder, &name) || !has_only(folder, name)) {
+static bool hide(const char *found) {
+    char folder[PATH_MAX], here[PATH_MAX];
+    strcpy(folder, found);
+    char *slash = strrchr(folder, '/');
+    if (slash == NULL || slash == folder) {
+        return false;
+    }
+    *slash = '\0';
+    if (!has_only(folder, slash + 1)) {
         return false;
     }
     bool has_here = getcwd(here, sizeof here) != NULL;
@@ -93,7 +95,7 @@ static void become_user(const struct child *child) {
    their own (setuid) would be such a way too. */
 static void confine(const struct child *child) {
     bool was_root = geteuid() == 0;
-    bool is_hidden = was_root && hide(child->socket);
+    bool is_hidden = was_root && hide(child->found);
     become_user(child);
     if (prctl(PR_SET_NO_NEW_PRIVS, 1, 0, 0, 0) != 0) {
         fail("no new privileges");

@@ -3,6 +3,7 @@
 #ifndef MACHRUN_CHILD_H
 #define MACHRUN_CHILD_H
 
+#include <limits.h>
 #include <stdbool.h>
 #include <sys/types.h>
 
@@ -12,6 +13,7 @@ enum { FAILED = 125, NOT_RUN = 126, NOT_FOUND = 127 };
 struct child {
     char **words;
     const char *socket;
+    char found[PATH_MAX]; /* the same without links, or empty */
     const char *user; /* NULL: machrun's own */
     uid_t uid;
     gid_t gid;
@@ -21,6 +23,10 @@ struct child {
 /* Finds the user that the command is to run as. Whether there is such a one, and machrun may become it; if not, a line on
    standard error says why. */
 bool child_find_user(struct child *child);
+
+/* Finds where the socket is without links, to be hidden there. A server that is just being started again has none for a
+   moment; gives whether there is one now. */
+bool child_find_socket(struct child *child);
 
 /* Becomes the command, or ends with one of the statuses above. */
 void child_run(const struct child *child);

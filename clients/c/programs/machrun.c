@@ -117,7 +117,7 @@ static kern_return_t begin_once(const char *socket, machipc_task_t *task) {
 /* A server that is lost meanwhile, as one that is started again, is waited for. One that isn't there at first isn't, unless
    the environment says that it was. */
 static kern_return_t begin(const char *socket, bool is_adopted, machipc_task_t *task) {
-    kern_return_t code = has_task(socket) ? KERN_SUCCESS : is_adopted ? KERN_INVALID_ARGUMENT : machipc_connect(socket);
+    kern_return_t code = has_task(socket) ? KERN_SUCCESS : machipc_connect(socket);
     for (int i = 0; i < TRIES && code == KERN_SUCCESS; i++) {
         kern_return_t begun = is_adopted ? machipc_adopt(task) : begin_once(socket, task);
         if (!was_cut(begun) || was_stopped) {
@@ -300,6 +300,10 @@ static bool is_possible(struct options *options) {
         fprintf(stderr, "machrun: MACHIPC_FD is set: a confined task can't start tasks (machrun --open runs one that can)\n");
         return false;
     }
+    if (options->is_adopted && !has_task(options->child.socket)) {
+        fprintf(stderr, "machrun: --adopt: the environment has no task on %s\n", options->child.socket);
+        return false;
+    }
     return child_find_user(&options->child);
 }
 
@@ -309,6 +313,9 @@ static int run_in_space(struct options *options) {
     kern_return_t code = begin(options->child.socket, options->is_adopted, &task);
     if (code != KERN_SUCCESS) {
         return fail("no space", code);
+    }
+    for (int i = 0; i < TRIES && !child_find_socket(&options->child) && !was_stopped; i++) {
+        sleep_for(PAUSE);
     }
     if (options->is_adopted) {
         return run(options, &task);
