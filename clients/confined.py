@@ -197,7 +197,7 @@ class Seen(Frames):
         self.other, self.names, self.may_destroy = other, names, may_destroy
 
     def see(self, reply):
-        """Takes the names in that a call of number 1 answered. Which port is whose isn't told, and not needed."""
+        """Takes the names in that a call of number 1 answered. Which port is whose isn't said, and not needed."""
         numbers = struct.unpack(f"<{len(reply) // 4}I", reply)
         held, ports = {}, {}
         for name, bits in zip(numbers[3::2], numbers[4::2]):
@@ -415,6 +415,14 @@ task.allocate()
 say("went on", count[0] > 20)
 sys.stdin.readline()
 """
+
+
+def is_running(process):
+    """Whether it hasn't ended, be it that nobody has asked for its status yet."""
+    try:
+        return pathlib.Path(f"/proc/{process}/stat").read_text().rsplit(")", 1)[1].split()[0] != "Z"
+    except OSError:
+        return False
 
 
 class Confined:
@@ -637,9 +645,9 @@ sys.stdin.readline()
             space, broker = int(ran.first.split()[1]), self.broker(ran)
             ran.kill()
             end = time.monotonic() + 10
-            while os.path.exists(f"/proc/{broker}/fd/0") and time.monotonic() < end:
+            while is_running(broker) and time.monotonic() < end:
                 time.sleep(0.02)
-            wants(time.monotonic() < end, "the broker goes on without machrun")
+            wants(not is_running(broker), "the broker goes on without machrun")
         wants(ran.rest == "None MACH_SEND_INTERRUPTED\n", f"without machrun: {ran.rest}")
         remove(self.server.path, space)
 
@@ -654,7 +662,8 @@ with socket.socket(fileno=os.dup(FD)) as broker:
 sys.exit(task.start < 2)
 """
         first, second = self.ended(text, "--keep").splitlines()
-        wants(first.startswith("1 ") and second.startswith("2 ") and first.endswith(" 1") and second.endswith(" 2"), f"--keep: {second}")
+        _, space, _ = first.split()
+        wants((first, second) == (f"1 {space} 1", f"2 {space} 2"), f"--keep: {first}, {second}")
 
     def check_adopted(self):
         """A command in a space that somebody else made, and that stays."""
@@ -672,7 +681,8 @@ sys.exit(task.start < 2)
         """A confined command can't start tasks; one of machrun --open can, and these are confined."""
         inner = f"{self.machrun} {self.server.path} sh -c 'echo $MACHIPC_SPACE ${{MACHIPC_FD:-open}} ${{MACHIPC_SOCKET:-confined}}'"
         for options, wanted in ((), 125), (("--open",), 0):
-            ran = subprocess.run([self.machrun, *options, self.server.path, "sh", "-c", inner], capture_output=True, text=True, timeout=60)
+            words_of = [self.machrun, *options, self.server.path, "sh", "-c", inner]
+            ran = subprocess.run(words_of, capture_output=True, text=True, timeout=60)
             wants(ran.returncode == wanted, f"machrun within machrun {options}: {ran.returncode} {ran.stdout} {ran.stderr}")
             said = "a confined task can't start tasks" in ran.stderr if wanted else re.fullmatch(r"\d+ \d+ confined\n", ran.stdout)
             wants(said, f"machrun within machrun {options} says {ran.stdout} {ran.stderr}")
@@ -708,7 +718,8 @@ sys.exit(task.start < 2)
             did, said = self.can_open(*options)
             wants(did == wanted, f"mode {mode:o}: {said}")
             wants(("may open it" in said) == wanted, f"mode {mode:o} and {options}: machrun says {said}")
-        ran = subprocess.run([self.machrun, *as_nobody, self.server.path, self.program, "1"], capture_output=True, text=True, timeout=60)
+        words_of = [self.machrun, *as_nobody, self.server.path, self.program, "1"]
+        ran = subprocess.run(words_of, capture_output=True, text=True, timeout=60)
         wants(ran.returncode == 0, f"a task of nobody: {ran.stdout} {ran.stderr}")
         remove(self.server.path, int(ran.stdout.split()[0]))
         self.check_ordinary_user()

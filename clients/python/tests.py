@@ -118,8 +118,9 @@ class Calls(OfTask):
 
     def test_adopt(self):
         given = {"MACHIPC_SOCKET": SOCKET, "MACHIPC_SPACE": hex(self.task.space), "MACHIPC_BOOTSTRAP": str(self.port)}
-        for changed in ({"MACHIPC_SPACE": ""}, {"MACHIPC_BOOTSTRAP": "x"}, {"MACHIPC_SOCKET": ""}, {"MACHIPC_FD": "0"}, {"MACHIPC_START": "x"}):
-            with self.subTest(changed=changed), unittest.mock.patch.dict(os.environ, {**given, **changed}):
+        for variable, value in (("SPACE", ""), ("BOOTSTRAP", "x"), ("SOCKET", ""), ("FD", "0"), ("START", "x")):
+            changed = {**given, f"MACHIPC_{variable}": value}
+            with self.subTest(variable=variable), unittest.mock.patch.dict(os.environ, changed):
                 self.assertRaises(ValueError, Task.adopt)
         with unittest.mock.patch.dict(os.environ, given), Task.adopt() as task:
             self.assertEqual((task.space, task.bootstrap, task.start), (self.task.space, self.port, 1))

@@ -161,10 +161,10 @@ static kern_return_t mark(mach_port_t name) {
  */
 static kern_return_t end_confined(const machipc_task_t *task) {
     kern_return_t code = mark(task->bootstrap);
-    bool was_marked = false;
+    bool was_marked = code == KERN_SUCCESS;
+    bool is_there = !was_cut(code) && code != KERN_INVALID_TASK; /* also where it could not be marked */
     for (int i = 0; i < TRIES; i++) {
-        was_marked = was_marked || code == KERN_SUCCESS;
-        if (code == KERN_SUCCESS || code == KERN_NO_SPACE) { /* there was no place for the mark */
+        if (is_there) {
             code = machipc_space_destroy();
         }
         if (!was_cut(code)) {
@@ -173,6 +173,8 @@ static kern_return_t end_confined(const machipc_task_t *task) {
         }
         sleep_for(PAUSE);
         code = look(task->bootstrap);
+        is_there = code == KERN_SUCCESS;
+        was_marked = was_marked || is_there;
     }
     return code;
 }

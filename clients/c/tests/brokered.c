@@ -91,11 +91,11 @@ static void *give(void *unused) {
     for (int i = 0; i < 3; i++) {
         int given = connected();
         asked = next_asked();
-        answer(asked, 0, given);
-        close(asked);
         if (i == 0) {
             shutdown(given, SHUT_RDWR);
         }
+        answer(asked, 0, given);
+        close(asked);
         close(given);
     }
     return NULL;
