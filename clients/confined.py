@@ -689,12 +689,12 @@ sys.exit(task.start < 2)
 
     # Who may open the socket.
 
-    def can_open(self, *options, path=None):
+    def can_open(self, *options, folder=None):
         """Whether the command of a machrun with these options opens the socket's path, and what machrun says. A second machrun
-        tries, to which the first one's descriptor isn't shown."""
-        path = path or self.server.path
+        tries, to which the first one's descriptor isn't shown. With a folder both are in that of the socket."""
+        path = self.server.path if folder is None else "./socket"
         inner = ["env", "-u", "MACHIPC_FD", self.machrun, "--open", path, "true"]
-        ran = subprocess.run([self.machrun, *options, path, *inner], capture_output=True, text=True, timeout=60)
+        ran = subprocess.run([self.machrun, *options, path, *inner], capture_output=True, text=True, timeout=60, cwd=folder)
         wants(ran.returncode in (0, 125), f"machrun {options}: {ran.returncode} {ran.stderr}")
         return ran.returncode == 0, ran.stderr
 
@@ -709,6 +709,8 @@ sys.exit(task.start < 2)
         os.chmod(self.server.path, 0o777)
         for options in ((), as_nobody) if is_hidden else ():
             wants(not self.can_open(*options)[0], f"the command opens a hidden socket, {options}")
+            folder = os.path.dirname(self.server.path)
+            wants(not self.can_open(*options, folder=folder)[0], f"the command opens a hidden socket from its folder, {options}")
             wants(not self.restarts_and_opens(*options), f"the command opens a hidden socket that was made anew, {options}")
         # A folder with something else isn't hidden, so that permissions are all there is.
         other = pathlib.Path(self.server.path).with_name("other")
