@@ -10,33 +10,8 @@
 #include <stdio.h>
 #include <stdlib.h>
 
-/* Gives the task's first right a name by chance, by which its space is known from a later one of its number. A confined process
-   can't do that, and leaves the name that the server gave. */
-static kern_return_t name_by_chance(machipc_task_t *task) {
-    struct settings there = settings_now();
-    if (there.is_confined) {
-        return KERN_SUCCESS;
-    }
-    struct connection *connection = connection_new();
-    if (connection == NULL) {
-        return KERN_RESOURCE_SHORTAGE;
-    }
-    mach_port_t name = chance_name();
-    there.space = task->space;
-    frame_begin(&connection->call, CALL_RENAME);
-    frame_put(&connection->call, task->bootstrap);
-    frame_put(&connection->call, name);
-    kern_return_t code = call_repeated(connection, &there, CALL_RENAME);
-    code = code == KERN_INVALID_NAME ? KERN_SUCCESS : code; /* it was done before a cut */
-    task->bootstrap = name;
-    if (code != KERN_SUCCESS && !call_was_cut(code)) {
-        space_end(connection, &there);
-    }
-    connection_free(connection);
-    return code;
-}
-
-kern_return_t machipc_task_begin(mach_port_t name, mach_msg_type_name_t disposition, machipc_task_t *task) {
+/* Makes the space, with a right of the caller's or that of a new port. */
+static kern_return_t make_space(mach_port_t name, mach_msg_type_name_t disposition, machipc_task_t *task) {
     mach_port_t made = MACH_PORT_NULL;
     if (name == MACH_PORT_NULL) {
         kern_return_t code = mach_port_allocate(mach_task_self(), MACH_PORT_RIGHT_RECEIVE, &made);
@@ -51,7 +26,39 @@ kern_return_t machipc_task_begin(mach_port_t name, mach_msg_type_name_t disposit
     if (code != KERN_SUCCESS && made != MACH_PORT_NULL) {
         mach_port_destroy(mach_task_self(), made);
     }
-    return code == KERN_SUCCESS ? name_by_chance(task) : code;
+    return code;
+}
+
+/* Gives the task's first right a name by chance, by which its space is known from a later one of its number. A confined process
+   can't do that, and leaves the name that the server gave. */
+static kern_return_t name_by_chance(struct connection *connection, machipc_task_t *task) {
+    struct settings there = settings_now();
+    if (there.is_confined) {
+        return KERN_SUCCESS;
+    }
+    mach_port_t name = chance_name();
+    there.space = task->space;
+    frame_begin(&connection->call, CALL_RENAME);
+    frame_put(&connection->call, task->bootstrap);
+    frame_put(&connection->call, name);
+    kern_return_t code = call_repeated(connection, &there, CALL_RENAME);
+    code = code == KERN_INVALID_NAME ? KERN_SUCCESS : code; /* it was done before a cut */
+    task->bootstrap = name;
+    if (code != KERN_SUCCESS && !call_was_cut(code)) {
+        space_end(connection, &there);
+    }
+    return code;
+}
+
+kern_return_t machipc_task_begin(mach_port_t name, mach_msg_type_name_t disposition, machipc_task_t *task) {
+    struct connection *to_task = connection_new();
+    if (to_task == NULL) {
+        return KERN_RESOURCE_SHORTAGE;
+    }
+    kern_return_t code = make_space(name, disposition, task);
+    code = code == KERN_SUCCESS ? name_by_chance(to_task, task) : code;
+    connection_free(to_task);
+    return code;
 }
 
 kern_return_t machipc_task_end(const machipc_task_t *task) {
