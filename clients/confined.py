@@ -352,11 +352,9 @@ def send(byte=b"x", *descriptors, flags=0):
     rights = [(socket.SOL_SOCKET, socket.SCM_RIGHTS, array.array("i", descriptors))] if descriptors else []
     with socket.socket(fileno=os.dup(FD)) as broker, contextlib.suppress(BlockingIOError):
         return broker.sendmsg([byte], rights, flags)
-def lingering():
+def lingering(port):
     # A connection whose close waits for bytes that nobody takes.
-    listener = socket.create_server(("127.0.0.1", 0))
-    made = socket.create_connection(listener.getsockname())
-    kept.append((listener, listener.accept()))
+    made = socket.create_connection(("127.0.0.1", port))
     made.setsockopt(socket.SOL_SOCKET, socket.SO_LINGER, (1).to_bytes(4, "little") + (100).to_bytes(4, "little"))
     made.setblocking(False)
     with contextlib.suppress(BlockingIOError):
@@ -417,12 +415,31 @@ sys.stdin.readline()
 """
 
 
+def ended(*words_of, seconds=60, **more):
+    """A program that has ended, with what it said."""
+    try:
+        return subprocess.run(words_of, capture_output=True, text=True, timeout=seconds, **more)
+    except subprocess.TimeoutExpired:
+        raise Wrong(f"{words_of} doesn't end") from None
+
+
 def is_running(process):
     """Whether it hasn't ended, be it that nobody has asked for its status yet."""
     try:
         return pathlib.Path(f"/proc/{process}/stat").read_text().rsplit(")", 1)[1].split()[0] != "Z"
     except OSError:
         return False
+
+
+def wait_for_end(process):
+    end = time.monotonic() + 10
+    while is_running(process):
+        wants(time.monotonic() < end, f"process {process} goes on")
+        time.sleep(0.01)
+
+
+def children_of(process):
+    return [int(it) for it in pathlib.Path(f"/proc/{process}/task/{process}/children").read_text().split()]
 
 
 class Confined:
@@ -445,8 +462,10 @@ class Confined:
                 ran.first = ran.stdout.readline()
                 yield ran
                 ran.rest, _ = ran.communicate("\n", timeout=60)
-            except BaseException:
+            except BaseException as fault:
                 ran.kill()
+                if isinstance(fault, subprocess.TimeoutExpired):
+                    raise Wrong(f"machrun doesn't end: {fault.output}") from None
                 raise
         wants(ran.returncode == status, f"machrun ended with {ran.returncode}: {ran.first}{ran.rest}")
 
@@ -457,11 +476,15 @@ class Confined:
         return ran.first + ran.rest
 
     def broker(self, ran):
-        """The process of machrun's that gives connections, which has another name than the command."""
-        children = pathlib.Path(f"/proc/{ran.pid}/task/{ran.pid}/children").read_text().split()
-        found = [int(it) for it in children if pathlib.Path(f"/proc/{it}/comm").read_text() == "machrun\n"]
-        wants(len(found) == 1, f"{len(found)} brokers")
-        return found[0]
+        """The process that answers the command's requests, and the one above it, which is machrun's child alongside the command."""
+        end = time.monotonic() + 10
+        while True:
+            above = [it for it in children_of(ran.pid) if pathlib.Path(f"/proc/{it}/comm").read_text() == "machrun\n"]
+            workers = [it for one in above for it in children_of(one)]
+            if len(above) == len(workers) == 1:
+                return workers[0], above[0]
+            wants(time.monotonic() < end, f"the brokers {above} with {workers}")
+            time.sleep(0.01)
 
     def is_there(self, space):
         with Connection(self.server.path) as one:
@@ -487,7 +510,7 @@ say(refusal(task.attach, 1), refusal(task.attach, 99), refusal(task.attach, task
     def check_many_in_c(self):
         """Threads and children of fork, each with connections of their own, under kills of the server."""
         with self.server.killed_often(8, 0.3, 0.8) as kills:
-            ran = subprocess.run([self.machrun, self.server.path, self.program, "4"], capture_output=True, text=True, timeout=120)
+            ran = ended(self.machrun, self.server.path, self.program, "4", seconds=120)
         wants(ran.returncode == 0 and not ran.stderr, f"the program in C: {ran.returncode} {ran.stdout} {ran.stderr}")
         below, said = ran.stdout.split(" ", 1)
         remove(self.server.path, int(below))
@@ -581,27 +604,31 @@ sys.stdin.readline()
     def check_garbage(self):
         """What comes over MACHIPC_FD and is no request stops nobody and leaves no descriptor with machrun."""
         with self.running(GARBAGE) as ran:
-            broker = self.broker(ran)
-            if os.geteuid() == 0:
-                left = os.listdir(f"/proc/{broker}/fd")
+            for it in self.broker(ran) if os.geteuid() == 0 else ():
+                left = os.listdir(f"/proc/{it}/fd")
                 wants(len(left) <= 5, f"the broker has {len(left)} descriptors left")
         wants(ran.first == "went on True\n", f"amid garbage: {ran.first}{ran.rest}")
 
     @contextlib.contextmanager
-    def held_up(self, text):
-        """A confined program whose broker waits in a close, where the program's own close wasn't the last one."""
-        hold_up = """
+    def held_up(self, text, place):
+        """A confined program whose broker waits in a close, where the program's own close wasn't the last one. What is closed is
+        the first descriptor of a message or a further one, and there are some more in the queue. The bytes that it waits for
+        are this program's to take, so the wait doesn't end with the command."""
+        listener = socket.create_server(("127.0.0.1", 0))
+        hold_up = f"""
 task = Task.adopt()
 say(task.space)
 sys.stdin.readline()
-made = lingering()
-send(b"x", made.fileno())
-made.close()
+null = os.open("/dev/null", os.O_RDWR)
+made = [lingering({listener.getsockname()[1]}) for _ in range(3)]
+for it in made:
+    send(b"x", *[null] * {place}, it.fileno())
+    it.close()
 say("sent")
 began = time.monotonic()
 """
-        with self.running(hold_up + text) as ran:
-            broker = self.broker(ran)
+        with listener, self.running(hold_up + text) as ran:
+            broker, _ = self.broker(ran)
             os.kill(broker, signal.SIGSTOP)
             ran.stdin.write("\n")
             ran.stdin.flush()
@@ -610,14 +637,18 @@ began = time.monotonic()
             yield ran
 
     def check_command_that_holds_its_broker_up(self):
-        """machrun sees the command's end at once, whatever its broker waits for."""
-        began = time.monotonic()
-        with self.held_up("sys.stdin.readline()\nos._exit(0)\n") as ran:
-            time.sleep(0.5)
-        wants(time.monotonic() - began < 10 and not self.is_there(int(ran.first)), "the end of a command that holds its broker up")
+        """machrun sees the command's end at once, whatever its broker waits for, and leaves no process."""
+        for place in (0, 1):
+            began = time.monotonic()
+            with self.held_up("sys.stdin.readline()\nos._exit(0)\n", place) as ran:
+                time.sleep(0.5)
+                brokers = self.broker(ran)
+            wants(time.monotonic() - began < 10 and not self.is_there(int(ran.first)), "the end of a command that holds its broker up")
+            wants(not any(map(is_running, brokers)), "a broker that is held up stays")
 
     def check_broker_that_ends(self):
-        """A broker that is killed is started again. One whose pair was shut down isn't."""
+        """A broker that is killed is started again. One whose pair was shut down isn't, and neither is one whose upper process is
+        killed; the command goes on with the connections that it has."""
         text = """
 task = Task.adopt()
 say("ready")
@@ -628,26 +659,26 @@ with socket.socket(fileno=os.dup(FD)) as broker:
 say(refusal(Task.adopt), refusal(task.allocate))
 sys.stdin.readline()
 """
-        with self.running(text) as ran:
-            os.kill(self.broker(ran), signal.SIGKILL)
-            ran.stdin.write("\n")
-            ran.stdin.flush()
-            said = ran.stdout.readline() + ran.stdout.readline()
-            time.sleep(0.3)
-            children = pathlib.Path(f"/proc/{ran.pid}/task/{ran.pid}/children").read_text().split()
-        wants(re.fullmatch("(None|MACH_SEND_INTERRUPTED) None\nMACH_SEND_INTERRUPTED None\n", said), f"a broker's end: {said}")
-        wants(len(children) == 1, f"machrun has the processes {children}")
+        for place, wanted in (0, "(None|MACH_SEND_INTERRUPTED) None"), (1, "MACH_SEND_INTERRUPTED MACH_SEND_INTERRUPTED"):
+            with self.running(text) as ran:
+                brokers = self.broker(ran)
+                os.kill(brokers[place], signal.SIGKILL)
+                wait_for_end(brokers[0])
+                ran.stdin.write("\n")
+                ran.stdin.flush()
+                said = ran.stdout.readline() + ran.stdout.readline()
+                for it in brokers:
+                    wait_for_end(it)
+            wants(re.fullmatch(f"{wanted}\nMACH_SEND_INTERRUPTED None\n", said), f"a broker's end: {said}")
 
     def check_killed_machrun(self):
         """The broker ends with machrun; the command goes on with the connections that it has."""
         with self.running("task = Task.adopt()\nsay(os.getpid(), task.space)\nsys.stdin.readline()\n"
                           "say(refusal(task.allocate), refusal(Task.adopt))\n", status=-signal.SIGKILL) as ran:
-            space, broker = int(ran.first.split()[1]), self.broker(ran)
+            space, brokers = int(ran.first.split()[1]), self.broker(ran)
             ran.kill()
-            end = time.monotonic() + 10
-            while is_running(broker) and time.monotonic() < end:
-                time.sleep(0.02)
-            wants(not is_running(broker), "the broker goes on without machrun")
+            for it in brokers:
+                wait_for_end(it)
         wants(ran.rest == "None MACH_SEND_INTERRUPTED\n", f"without machrun: {ran.rest}")
         remove(self.server.path, space)
 
@@ -681,8 +712,7 @@ sys.exit(task.start < 2)
         """A confined command can't start tasks; one of machrun --open can, and these are confined."""
         inner = f"{self.machrun} {self.server.path} sh -c 'echo $MACHIPC_SPACE ${{MACHIPC_FD:-open}} ${{MACHIPC_SOCKET:-confined}}'"
         for options, wanted in ((), 125), (("--open",), 0):
-            words_of = [self.machrun, *options, self.server.path, "sh", "-c", inner]
-            ran = subprocess.run(words_of, capture_output=True, text=True, timeout=60)
+            ran = ended(self.machrun, *options, self.server.path, "sh", "-c", inner)
             wants(ran.returncode == wanted, f"machrun within machrun {options}: {ran.returncode} {ran.stdout} {ran.stderr}")
             said = "a confined task can't start tasks" in ran.stderr if wanted else re.fullmatch(r"\d+ \d+ confined\n", ran.stdout)
             wants(said, f"machrun within machrun {options} says {ran.stdout} {ran.stderr}")
@@ -694,7 +724,7 @@ sys.exit(task.start < 2)
         tries, to which the first one's descriptor isn't shown. With a folder both are in that of the socket."""
         path = self.server.path if folder is None else "./socket"
         inner = ["env", "-u", "MACHIPC_FD", self.machrun, "--open", path, "true"]
-        ran = subprocess.run([self.machrun, *options, path, *inner], capture_output=True, text=True, timeout=60, cwd=folder)
+        ran = ended(self.machrun, *options, path, *inner, cwd=folder)
         wants(ran.returncode in (0, 125), f"machrun {options}: {ran.returncode} {ran.stderr}")
         return ran.returncode == 0, ran.stderr
 
@@ -720,15 +750,13 @@ sys.exit(task.start < 2)
             did, said = self.can_open(*options)
             wants(did == wanted, f"mode {mode:o}: {said}")
             wants(("may open it" in said) == wanted, f"mode {mode:o} and {options}: machrun says {said}")
-        words_of = [self.machrun, *as_nobody, self.server.path, self.program, "1"]
-        ran = subprocess.run(words_of, capture_output=True, text=True, timeout=60)
+        ran = ended(self.machrun, *as_nobody, self.server.path, self.program, "1")
         wants(ran.returncode == 0, f"a task of nobody: {ran.stdout} {ran.stderr}")
         remove(self.server.path, int(ran.stdout.split()[0]))
         self.check_ordinary_user()
         other.unlink()
         for options in (("--user", "no such user"), ("--user",)):
-            ran = subprocess.run([self.machrun, *options, self.server.path, "true"], capture_output=True, timeout=60)
-            wants(ran.returncode == 125, f"machrun {options}")
+            wants(ended(self.machrun, *options, self.server.path, "true").returncode == 125, f"machrun {options}")
 
     def restarts_and_opens(self, *options):
         """Whether a command opens the socket of a server that was started again after the command was."""
@@ -752,10 +780,10 @@ sys.exit(task.start < 2)
                               stdout=subprocess.PIPE, text=True, **nobody) as ran:
             ran.stdout.readline()
             # The system gives the files of a process that can't be traced to root.
-            owners = [os.stat(f"/proc/{it}/mem").st_uid for it in (ran.pid, self.broker(ran))]
+            owners = {os.stat(f"/proc/{it}/mem").st_uid for it in (ran.pid, *self.broker(ran))}
             ran.communicate("\n", timeout=60)
-        wants(ran.returncode == 6 and owners == [0, 0], f"machrun of an ordinary user: {ran.returncode}, {owners}")
-        ran = subprocess.run([self.machrun, "--user", "root", self.server.path, "true"], capture_output=True, timeout=60, **nobody)
+        wants(ran.returncode == 6 and owners == {0}, f"machrun of an ordinary user: {ran.returncode}, {owners}")
+        ran = ended(self.machrun, "--user", "root", self.server.path, "true", **nobody)
         wants(ran.returncode == 125, "machrun --user of an ordinary user")
 
 
@@ -770,7 +798,7 @@ while refusal(Task.adopt):
 say("went on", time.monotonic() - began > 5)
 os._exit(0)
 """
-    with of.held_up(text) as held:
+    with of.held_up(text, 1) as held:
         for it in checks:
             getattr(of, it)()
     wants(held.rest == "went on True\n", f"a broker that is held up: {held.rest}")

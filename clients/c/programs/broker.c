@@ -24,8 +24,8 @@
 /* Seconds that the server has for each step of a connection, and that all of a request may take before the broker ends. */
 enum { STEP_SECONDS = 3, REQUEST_SECONDS = 15 };
 
-/* How long the end of a broker that was killed is waited for. One that the system holds up longer is left to it. */
-enum { LAST_MILLISECONDS = 500 };
+/* Milliseconds before a worker that ended is started again, and that the broker's end is waited for. */
+enum { PAUSE = 100, LAST_MILLISECONDS = 500 };
 
 /* Requests. */
 
@@ -50,9 +50,15 @@ static int first_of(struct msghdr *head) {
     return first;
 }
 
-/* Waits for the next request, and gives the descriptor that it brought, or -1 where it brought none. Whether there may be
-   another one: not once no process of the command has the other end, or one of them has shut it down. */
-static bool next_request(int end, int *asked) {
+/* Waits for the next message. Whether there is one, or may be later. */
+static bool await_request(int end) {
+    struct pollfd polled = {.fd = end, .events = POLLIN};
+    return poll(&polled, 1, -1) > 0 || errno == EINTR;
+}
+
+/* Takes a message, and gives the descriptor that it brought, or -1 where it brought none. Whether there may be another one:
+   not once no process of the command has the other end, or one of them has shut it down. */
+static bool take_request(int end, int *asked) {
     union {
         struct cmsghdr aligned;
         unsigned char bytes[CMSG_SPACE(sizeof(int))];
@@ -66,9 +72,9 @@ static bool next_request(int end, int *asked) {
         .msg_controllen = CMSG_LEN(sizeof(int)), /* the system closes what is sent beyond it */
     };
     *asked = -1;
-    ssize_t length = recvmsg(end, &head, MSG_CMSG_CLOEXEC);
+    ssize_t length = recvmsg(end, &head, MSG_CMSG_CLOEXEC | MSG_DONTWAIT);
     if (length < 0) {
-        return errno == EINTR;
+        return errno == EINTR || errno == EAGAIN;
     }
     *asked = first_of(&head);
     /* No bytes are the end, or a message without any. */
@@ -178,31 +184,14 @@ static void serve(int asked, const struct broker *broker) {
     }
 }
 
-/* What asks machrun to end is for the command: the broker goes on until that has ended. */
-static void set_signals(void) {
-    sigset_t alarms;
-    sigemptyset(&alarms);
-    sigaddset(&alarms, SIGALRM);
-    signal(SIGHUP, SIG_IGN);
-    signal(SIGINT, SIG_IGN);
-    signal(SIGTERM, SIG_IGN);
-    signal(SIGALRM, SIG_DFL);
-    sigprocmask(SIG_UNBLOCK, &alarms, NULL);
-}
-
-/* The broker's process, which ends with machrun. */
-static void run(const struct broker *broker, pid_t parent) {
+/* The worker: it answers requests. What holds it up ends it, by the signal of its clock. Also to take a message may, where it
+   brought more descriptors than there is room for. */
+static void work(const struct broker *broker, int end) {
     int asked;
-    set_signals();
-    prctl(PR_SET_PDEATHSIG, SIGKILL);
-    if (getppid() != parent) {
-        _exit(0);
-    }
-    if (broker->end_of_command >= 0) {
-        close(broker->end_of_command);
-    }
-    while (next_request(broker->end, &asked)) {
-        alarm(REQUEST_SECONDS); /* its signal ends the process, whatever holds it up */
+    bool goes_on = true;
+    while (goes_on && await_request(end)) {
+        alarm(REQUEST_SECONDS);
+        goes_on = take_request(end, &asked);
         if (asked >= 0) {
             serve(asked, broker);
             close(asked);
@@ -212,17 +201,84 @@ static void run(const struct broker *broker, pid_t parent) {
     _exit(0);
 }
 
-/* machrun's side. */
+/* The process above it, which machrun knows: it starts a worker again that something ended. */
+
+static volatile sig_atomic_t worker; /* its process, or 0 */
+static volatile sig_atomic_t is_over;
+
+static void end_worker(int number) {
+    (void) number;
+    is_over = 1;
+    if (worker != 0) {
+        kill((pid_t) worker, SIGKILL);
+    }
+}
 
 static void sleep_for(long milliseconds) {
     nanosleep(&(struct timespec){.tv_nsec = milliseconds * 1000000}, NULL);
 }
 
-static bool start(struct broker *broker) {
+/* A process of the broker ends with the one that started it. */
+static void end_with(pid_t parent) {
+    prctl(PR_SET_PDEATHSIG, SIGKILL);
+    if (getppid() != parent) {
+        _exit(0);
+    }
+}
+
+/* Starts a worker, unless all is over. */
+static void start_worker(const struct broker *broker, int end, const sigset_t *signals) {
+    pid_t own = getpid();
+    sigprocmask(SIG_BLOCK, signals, NULL);
+    pid_t made = is_over ? -1 : fork();
+    if (made == 0) {
+        signal(SIGUSR1, SIG_DFL);
+        signal(SIGALRM, SIG_DFL);
+        sigprocmask(SIG_UNBLOCK, signals, NULL);
+        end_with(own);
+        work(broker, end);
+    }
+    if (made < 0) {
+        _exit(0);
+    }
+    worker = made;
+    sigprocmask(SIG_UNBLOCK, signals, NULL);
+}
+
+static void see_workers(const struct broker *broker, int end, pid_t parent) {
+    struct sigaction action = {.sa_handler = end_worker};
+    sigset_t signals;
+    sigemptyset(&action.sa_mask);
+    sigemptyset(&signals);
+    sigaddset(&signals, SIGUSR1);
+    sigaddset(&signals, SIGALRM);
+    /* What asks machrun to end is for the command: the broker goes on until that has ended. */
+    signal(SIGHUP, SIG_IGN);
+    signal(SIGINT, SIG_IGN);
+    signal(SIGTERM, SIG_IGN);
+    sigaction(SIGUSR1, &action, NULL);
+    end_with(parent);
+    for (;;) {
+        int status = 0;
+        start_worker(broker, end, &signals);
+        while (waitpid((pid_t) worker, &status, 0) < 0 && errno == EINTR) {
+        }
+        worker = 0;
+        if (WIFEXITED(status)) {
+            _exit(0);
+        }
+        sleep_for(PAUSE);
+    }
+}
+
+/* machrun's side. It keeps no copy of the broker's end: its close would wait too for what the command left in the queue. */
+
+static bool start(struct broker *broker, const int *pair) {
     pid_t parent = getpid();
     pid_t made = fork();
     if (made == 0) {
-        run(broker, parent);
+        close(broker->end_of_command);
+        see_workers(broker, pair[0], parent);
     }
     broker->process = made > 0 ? made : 0;
     return made > 0;
@@ -233,51 +289,42 @@ bool broker_begin(struct broker *broker) {
     if (socketpair(AF_UNIX, SOCK_SEQPACKET | SOCK_CLOEXEC, 0, pair) != 0) {
         return false;
     }
-    broker->end = pair[0];
     /* Not in the place of the command's standard input, output or errors, where these are closed. */
     broker->end_of_command = fcntl(pair[1], F_DUPFD_CLOEXEC, 3);
     close(pair[1]);
-    if (broker->end_of_command < 0 || !start(broker)) {
-        int error = errno;
-        broker_end(broker);
+    bool is_done = broker->end_of_command >= 0 && start(broker, pair);
+    int error = errno;
+    close(pair[0]);
+    if (!is_done) {
+        broker_was_given(broker);
         errno = error;
-        return false;
     }
-    return true;
-}
-
-static void close_one(int *descriptor) {
-    if (*descriptor >= 0) {
-        close(*descriptor);
-    }
-    *descriptor = -1;
+    return is_done;
 }
 
 void broker_was_given(struct broker *broker) {
-    close_one(&broker->end_of_command);
+    if (broker->end_of_command >= 0) {
+        close(broker->end_of_command);
+    }
+    broker->end_of_command = -1;
 }
 
-void broker_see(struct broker *broker, pid_t process, int status) {
-    if (process != broker->process) {
-        return;
-    }
-    broker->process = 0;
-    if (!WIFEXITED(status)) {
-        sleep_for(100);
-        if (!start(broker)) {
-            close_one(&broker->end); /* who asks is answered by an error at once */
+static bool has_ended(pid_t process) {
+    for (int i = 0; i < LAST_MILLISECONDS; i++) {
+        if (waitpid(process, NULL, WNOHANG) != 0) {
+            return true;
         }
+        sleep_for(1);
     }
+    return false;
 }
 
 void broker_end(struct broker *broker) {
     if (broker->process != 0) {
-        kill(broker->process, SIGKILL);
-        for (int i = 0; i < LAST_MILLISECONDS && waitpid(broker->process, NULL, WNOHANG) == 0; i++) {
-            sleep_for(1);
+        kill(broker->process, SIGUSR1);
+        if (!has_ended(broker->process)) {
+            kill(broker->process, SIGKILL); /* and what its worker is held up by is left to the system */
         }
-        broker->process = 0;
     }
-    close_one(&broker->end);
-    close_one(&broker->end_of_command);
+    broker->process = 0;
 }

@@ -200,18 +200,12 @@ static pid_t start(const struct child *child) {
 }
 
 /* Waits for the command's end, and gives its status. */
-static int wait_for(pid_t process, struct broker *broker) {
-    for (;;) {
-        int ended = 0;
-        pid_t found = waitpid(-1, &ended, 0);
-        if (found == process) {
-            command = 0;
-            return WIFSIGNALED(ended) ? 128 + WTERMSIG(ended) : WEXITSTATUS(ended);
-        }
-        if (found > 0) {
-            broker_see(broker, found, ended);
-        }
+static int wait_for(pid_t process) {
+    int ended = 0;
+    while (waitpid(process, &ended, 0) < 0 && errno == EINTR) {
     }
+    command = 0;
+    return WIFSIGNALED(ended) ? 128 + WTERMSIG(ended) : WEXITSTATUS(ended);
 }
 
 /* Starts the command and waits for its end, whose status it gives. Each start has a pair of its own, so that nothing that the
@@ -225,7 +219,7 @@ static int run_once(struct child *child, struct broker *broker, bool is_open) {
     pid_t process = start(child);
     int error = errno;
     broker_was_given(broker);
-    int status = process > 0 ? wait_for(process, broker) : process == 0 ? 128 + was_stopped : FAILED;
+    int status = process > 0 ? wait_for(process) : process == 0 ? 128 + was_stopped : FAILED;
     broker_end(broker);
     if (process < 0) {
         fprintf(stderr, "machrun: fork: %s\n", strerror(error));
@@ -253,7 +247,7 @@ struct options {
 };
 
 static int run(struct options *options, machipc_task_t *task) {
-    struct broker broker = {options->child.socket, task->space, task->bootstrap, -1, -1, 0};
+    struct broker broker = {options->child.socket, task->space, task->bootstrap, -1, 0};
     for (;;) {
         time_t began = time(NULL);
         if (machipc_task_export(task) != KERN_SUCCESS) {
