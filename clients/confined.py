@@ -610,17 +610,17 @@ sys.stdin.readline()
         wants(ran.first == "went on True\n", f"amid garbage: {ran.first}{ran.rest}")
 
     @contextlib.contextmanager
-    def held_up(self, text, place):
+    def held_up(self, text, place, count):
         """A confined program whose broker waits in a close, where the program's own close wasn't the last one. What is closed is
-        the first descriptor of a message or a further one, and there are some more in the queue. The bytes that it waits for
-        are this program's to take, so the wait doesn't end with the command."""
+        the first descriptor of a message or a further one, and more such messages may be in the queue. The bytes that it waits
+        for are this program's to take, so the wait doesn't end with the command."""
         listener = socket.create_server(("127.0.0.1", 0))
         hold_up = f"""
 task = Task.adopt()
 say(task.space)
 sys.stdin.readline()
 null = os.open("/dev/null", os.O_RDWR)
-made = [lingering({listener.getsockname()[1]}) for _ in range(3)]
+made = [lingering({listener.getsockname()[1]}) for _ in range({count})]
 for it in made:
     send(b"x", *[null] * {place}, it.fileno())
     it.close()
@@ -640,7 +640,7 @@ began = time.monotonic()
         """machrun sees the command's end at once, whatever its broker waits for, and leaves no process."""
         for place in (0, 1):
             began = time.monotonic()
-            with self.held_up("sys.stdin.readline()\nos._exit(0)\n", place) as ran:
+            with self.held_up("sys.stdin.readline()\nos._exit(0)\n", place, 3) as ran:
                 time.sleep(0.5)
                 brokers = self.broker(ran)
             wants(time.monotonic() - began < 10 and not self.is_there(int(ran.first)), "the end of a command that holds its broker up")
@@ -798,7 +798,7 @@ while refusal(Task.adopt):
 say("went on", time.monotonic() - began > 5)
 os._exit(0)
 """
-    with of.held_up(text, 1) as held:
+    with of.held_up(text, 1, 1) as held:
         for it in checks:
             getattr(of, it)()
     wants(held.rest == "went on True\n", f"a broker that is held up: {held.rest}")
