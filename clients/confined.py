@@ -570,7 +570,8 @@ print(refusal(Task.adopt))
                 with Connection(self.server.path) as first:
                     remove(self.server.path, space)
                     (port,) = first.results(ALLOCATE, machine.RECEIVE)
-                    wants(first.results(SPACE_CREATE, port, machine.MAKE_SEND)[0] == space, "the number is another's")
+                    made, _ = first.results(SPACE_CREATE, port, machine.MAKE_SEND)
+                    wants(made == space, f"the new space is {made}, not {space}, and there are {others(self.server.path, ())}")
                 if is_restarted:
                     self.restart()
             wants(ran.rest.startswith("KERN_INVALID_TASK\n"), f"a new connection: {ran.rest}")
@@ -791,11 +792,13 @@ def machrun_checks(machrun, program, server):
     """All checks of Confined. Gives what is said of them."""
     of = Confined(machrun, program, server)
     checks = [it for it in dir(of) if it.startswith("check_")]
-    # A broker that is held up ends after a while, and is started again.
+    # A broker that is held up ends after a while, and is started again. The command stays until all else is checked, since
+    # others reckon with the number of its space.
     text = """
 while refusal(Task.adopt):
     time.sleep(0.1)
 say("went on", time.monotonic() - began > 5)
+sys.stdin.readline()
 os._exit(0)
 """
     with of.held_up(text, 1, 1) as held:
