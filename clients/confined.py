@@ -530,10 +530,9 @@ threads = [threading.Thread(target=work, args=(it,)) for it in range(1, 4)]
 [it.start() for it in threads]
 [it.join() for it in threads]
 pid = os.fork()
-if pid == 0:
-    while refusal(task.names):
-        pass
-    os._exit(len(task.names()) != 301)
+while pid == 0:
+    with contextlib.suppress(ConnectionError):
+        os._exit(len(task.names()) != 301)
 say(os.waitpid(pid, 0)[1], len(task.names()), refusal(task.attach, 1))
 """
         with self.server.killed_often(9, 0.2, 0.5):
