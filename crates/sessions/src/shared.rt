@@ -12,7 +12,7 @@ use crate::seat::{Peer, Seat, Worker};
 use crate::turn::{News, Turn};
 use disk::Disk;
 use ipc_model::{Call, Reply};
-use kernel_keeper::{Admission, EntryBlock, Founding, KernelKeeper, Past, Session};
+use kernel_keeper::{Admission, Destructions, EntryBlock, Founding, KernelKeeper, Past, Session};
 use mio::Waker;
 use std::alloc::{AllocError, Global};
 use std::sync::ledger::Book;
@@ -95,8 +95,20 @@ impl<L: Founding, D: Disk, G: Drop> Shared<L, D, G> {
             drop(kernel);
             return Err(disk);
         };
+        let Ok(destructions) = Destructions::none(alloc) else {
+            drop(kernel);
+            return Err(disk);
+        };
         let store_keeper = StoreKeeper::new(disk, segment, mine, storing);
-        let keeper = KernelKeeper::new(alloc, kernel, segment.epoch, segment.records, past, book);
+        let keeper = KernelKeeper::new(
+            alloc,
+            kernel,
+            segment.epoch,
+            segment.records,
+            past,
+            book,
+            destructions,
+        );
         Ok(Shared {
             alloc,
             gate,
@@ -224,9 +236,9 @@ impl<L: Founding, D: Disk, G: Drop> Shared<L, D, G> {
         Ok(worker)
     }
 
-    /// Whether a ticket's reply can be had without a wait.
-    pub fn is_due(&self, rt: &impl Wait, ticket: &Ticket) -> bool {
-        !self.replies.lock(rt).is_awaited(ticket.seen())
+    /// Whether a reply that saw `seen` records can be had without a wait.
+    pub fn is_due(&self, rt: &impl Wait, seen: u64) -> bool {
+        !self.replies.lock(rt).is_awaited(seen)
     }
 
     /// Has a worker woken once `seen` records are stored, or nothing is stored any more. Returns whether that is still

@@ -1,18 +1,18 @@
 //! One connection, as a worker sees it.
+ghost use Rattle.std.specs.Prelude.{◌≤◌};
+ghost use Rattle.codes.specs.declared.limits.TheConstants.{MAX_FRAME_CONTENT};
 
 use disk::Disk;
-use frame_service::{Ahead, Conversation, Tried};
+use frame_service::Tried;
 use mio::unix::SourceFd;
 use mio::{Interest, Registry, Token};
 use sessions::{Founding, OpenGate, Peer, Turn};
-use socket_buffers::{Filled, Inbox, Outbox, Source};
-use socket_session::{Connected, Stream};
+use socket_buffers::Filled;
+use socket_session::Stream;
 use std::alloc::Global;
-use std::io::Write;
 use std::mem;
 use std::os::fd::AsRawFd;
 use std::sync::Wait;
-use std::time::Clock;
 use wire::Frame;
 
 /// How many bytes that came may wait for their frames' turn before no more are read.
@@ -45,11 +45,11 @@ pub(crate) enum Awaits {
 
 /// The conversation of a session over a socket.
 pub(crate) type Talk<'a, L, D, R> =
-    Conversation<Inbox<Stream>, Outbox<Stream>, Connected<'a, L, D, OpenGate, R, Stream>>;
+    socket_session::Talk<'a, L, D, OpenGate, R, Stream, Stream, Stream>;
 
 /// A connection, with what its worker knows of it.
 #[derive(Drop)]
-pub(crate) struct Client<'a, L: Founding, D: Disk, R: Wait + Clock> {
+pub(crate) struct Client<'a, L: Founding, D: Disk, R: Wait> {
     stream: Stream,
     talk: Talk<'a, L, D, R>,
 
@@ -74,7 +74,7 @@ pub(crate) struct Client<'a, L: Founding, D: Disk, R: Wait + Clock> {
     pub(crate) is_worked: bool,
 }
 
-impl<'a, L: Founding, D: Disk, R: Wait + Clock> Client<'a, L, D, R> {
+impl<'a, L: Founding, D: Disk, R: Wait> Client<'a, L, D, R> {
     /// A connection of which nothing was read yet, reported to this registry from now on.
     pub(crate) fn new(stream: Stream, talk: Talk<'a, L, D, R>, registry: &Registry) -> Self {
         let mut client = Client {
@@ -150,8 +150,8 @@ impl<'a, L: Founding, D: Disk, R: Wait + Clock> Client<'a, L, D, R> {
 
     /// Reads what there is.
     pub(crate) fn read(&mut self) {
-        while self.may_read && self.talk.reader().bytes().len() < MOST_AHEAD {
-            match self.talk.reader_mut().fill() {
+        while self.may_read && self.talk.ahead() < MOST_AHEAD {
+            match self.talk.read() {
                 Filled::Some => {}
                 Filled::None | Filled::Over => self.may_read = false,
                 Filled::NoMemory => {
@@ -164,54 +164,44 @@ impl<'a, L: Founding, D: Disk, R: Wait + Clock> Client<'a, L, D, R> {
 
     /// Whether there is a call to be made.
     pub(crate) fn has_work(&self) -> bool {
-        if self.has_failed || self.talk.writer().len() != 0 {
+        if self.has_failed || self.talk.unsent() != 0 {
             return false;
         }
         if self.talk.waits().is_some() {
             return self.has_turn || self.is_time_over;
         }
-        self.talk.is_idle() && self.has_input()
+        self.talk.has_next()
     }
 
-    /// Whether there is a frame to be taken, or the end of them.
-    fn has_input(&self) -> bool {
-        !self.talk.is_input_over()
-            && (self.talk.reader().has_frame() || self.talk.reader().source() != Source::Open)
-    }
-
-    /// Makes the calls that can be made now, under this hold of the kernel's lock.
+    /// Makes the calls that can be made now, in this turn.
     pub(crate) fn work(&mut self, alloc: Global, turn: Turn<'a, L>) -> Option<Turn<'a, L>> {
-        self.talk.asker_mut().join_turn(Some(turn));
-        if self.talk.waits().is_some() {
-            let may_wait = !self.is_time_over;
-            self.has_turn = false;
-            self.is_time_over = false;
-            match self.talk.try_again(alloc, may_wait) {
-                Tried::Settled | Tried::Waits => {}
-                Tried::WaitsForReceive => self.begins = true,
-                Tried::GivenUp => self.has_failed = true,
-            }
-        } else {
-            self.talk.take(alloc);
+        if self.talk.waits().is_none() {
+            return self.talk.take(alloc, turn);
         }
-        self.talk.asker_mut().leave_turn()
+        let may_wait = !self.is_time_over;
+        self.has_turn = false;
+        self.is_time_over = false;
+        let (turn, tried) = self.talk.try_again(alloc, turn, may_wait);
+        match tried {
+            Tried::Settled => {}
+            Tried::Waits => self.has_failed = self.has_failed || !may_wait,
+            Tried::WaitsForReceive => self.begins = true,
+        }
+        turn
     }
 
     /// Answers what can be answered, and gives the other side what it takes.
-    pub(crate) fn answer(&mut self, reply: &mut Frame, registry: &Registry) {
+    pub(crate) fn answer(&mut self, reply: &mut Frame, registry: &Registry)
+        requires { MAX_FRAME_CONTENT ≤ reply.old.room }
+        ensures { reply.old.room ≤ reply.new.room }
+    {
         if self.has_failed {
             return;
         }
-        if self.talk.answer(reply).is_err() {
-            self.has_failed = true;
-            return;
-        }
-        let before = self.talk.writer().len();
-        if self.talk.writer_mut().flush().is_err() {
-            self.has_failed = true;
-            return;
-        }
-        let left = self.talk.writer().len();
+        self.has_failed = self.talk.answer(reply).is_err();
+        let before = self.talk.unsent();
+        self.has_failed = self.has_failed || self.talk.flush().is_err();
+        let left = self.talk.unsent();
         self.begins = self.begins || (left != 0 && left != before);
         self.report_room(registry, left != 0);
     }
@@ -221,26 +211,26 @@ impl<'a, L: Founding, D: Disk, R: Wait + Clock> Client<'a, L, D, R> {
         if self.has_failed {
             return Awaits::End;
         }
-        if self.talk.writer().len() != 0 {
+        if self.talk.unsent() != 0 {
             return if self.is_time_over {
                 Awaits::End
             } else {
                 Awaits::Room(UNREAD_MILLISECONDS)
             };
         }
-        if let Some(ticket) = self.talk.awaited() {
-            return Awaits::Records(ticket.seen());
+        if let Some(asked) = self.talk.awaited() {
+            return Awaits::Records(asked.seen());
         }
         if let Some(bound) = self.talk.waits() {
             return Awaits::Turn(bound);
         }
-        if self.talk.is_input_over() {
+        if self.talk.ended().is_some() {
             return Awaits::End;
         }
         if self.lacks_memory {
             return Awaits::Memory(RETRY_MILLISECONDS);
         }
-        if self.may_read || self.has_input() {
+        if self.may_read || self.talk.has_next() {
             Awaits::Nothing
         } else {
             Awaits::Input

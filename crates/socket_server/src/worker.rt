@@ -4,12 +4,10 @@ use crate::client::{Awaits, Client};
 use crate::timers::Timers;
 use codes::MAX_FRAME_CONTENT;
 use disk::Disk;
-use frame_service::Conversation;
 use mio::event::Events;
 use mio::{Poll, Token, Waker};
-use sessions::{Admission, Founding, OpenGate, Seat, Shared, Turn, Worker};
-use socket_buffers::{Inbox, Outbox};
-use socket_session::{Connected, Stream};
+use sessions::{Admission, Founding, OpenGate, Shared, Turn, Worker};
+use socket_session::{Stream, begin};
 use std::alloc::{AllocError, AllocGlobal, Global};
 use std::collections::{BTreeMap, VecDeque};
 use std::io::{self, ErrorKind};
@@ -170,18 +168,15 @@ impl<'a, L: Founding, D: Disk, R: Wait + Clock + AllocGlobal> Work<'a, L, D, R> 
     /// Begins to serve a connection. If there is no session or memory for it, it is closed.
     fn begin(&mut self, arrival: Arrival<L>) -> io::Result<()> {
         let Arrival { socket, admission } = arrival;
-        let alloc = self.rt.alloc();
         self.make_room()?;
-        let stream = Stream::new(alloc, socket)?;
-        let reader = Inbox::new(alloc, stream.again()?);
-        let writer = Outbox::new(alloc, stream.again()?);
-        let seat = Seat::new(Arc::try_clone(&self.door.worker)?, stream.again()?);
-        let Ok(session) = self.shared.session(self.rt, admission) else {
+        let stream = Stream::new(self.rt.alloc(), socket)?;
+        let worker = Arc::try_clone(&self.door.worker)?;
+        let (peer, reader, writer) = (stream.again()?, stream.again()?, stream.again()?);
+        let begun = begin(self.rt, self.shared, admission, worker, peer, reader, writer);
+        let Some(talk) = begun else {
             return Err(ErrorKind::OutOfMemory.into());
         };
-        let number = session.number();
-        let asker = Connected::new(self.rt, self.shared, seat, session);
-        let talk = Conversation::new(alloc, reader, writer, asker)?;
+        let number = talk.asker().number();
         let client = Client::new(stream, talk, self.poll.registry());
         let _ = self.clients.insert(number, client);
         if let Some(client) = self.clients.get_mut(&number) {

@@ -1,1 +1,2 @@
-mod Serves
+mod Showing
+mod Staying
