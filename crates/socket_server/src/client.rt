@@ -58,8 +58,10 @@ pub(crate) struct Client<'a, L: Founding, D: Disk, R: Wait> {
     lacks_memory: bool,
     awaits_room: bool,
 
-    // Whether its call's turn has come, whether its time is over, and whether it failed.
+    // Whether its call's turn has come, whether the call waits in no line, since an allocation failed, whether its time
+    // is over, and whether it failed.
     has_turn: bool,
+    has_no_line: bool,
     is_time_over: bool,
     has_failed: bool,
 
@@ -84,6 +86,7 @@ impl<'a, L: Founding, D: Disk, R: Wait> Client<'a, L, D, R> {
             lacks_memory: false,
             awaits_room: false,
             has_turn: false,
+            has_no_line: false,
             is_time_over: false,
             has_failed: false,
             timer: None,
@@ -168,13 +171,23 @@ impl<'a, L: Founding, D: Disk, R: Wait> Client<'a, L, D, R> {
             return false;
         }
         if self.talk.waits().is_some() {
-            return self.has_turn || self.is_time_over;
+            return self.has_turn || self.has_no_line || self.is_time_over;
         }
         self.talk.has_next()
     }
 
     /// Makes the calls that can be made now, in this turn.
     pub(crate) fn work(&mut self, alloc: Global, turn: Turn<'a, L>) -> Option<Turn<'a, L>> {
+        let turn = self.make_calls(alloc, turn);
+        let is_in_line = match &turn {
+            Some(turn) => turn.is_waiting(self.number()),
+            None => false,
+        };
+        self.has_no_line = self.waits() && !is_in_line;
+        turn
+    }
+
+    fn make_calls(&mut self, alloc: Global, turn: Turn<'a, L>) -> Option<Turn<'a, L>> {
         if self.talk.waits().is_none() {
             return self.talk.take(alloc, turn);
         }
@@ -240,6 +253,11 @@ impl<'a, L: Founding, D: Disk, R: Wait> Client<'a, L, D, R> {
     /// Whether what it waits for has just begun. Said once.
     pub(crate) fn takes_new_timer(&mut self) -> bool {
         mem::replace(&mut self.begins, false)
+    }
+
+    /// Whether a call of it waits in no line, and is to be made again.
+    pub(crate) fn has_no_line(&self) -> bool {
+        self.has_no_line
     }
 
     /// Whether a call of it waits.

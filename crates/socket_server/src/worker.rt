@@ -29,7 +29,7 @@ const MOST_AT_ONCE: usize = 64;
 const WAKER: Token = Token(usize::MAX);
 
 /// How many milliseconds a worker waits before it goes on after a failure.
-const RETRY_MILLISECONDS: u64 = 20;
+const RETRY_MILLISECONDS: u64 = 10;
 
 /// A connection that was accepted.
 #[derive(Drop)]
@@ -85,6 +85,7 @@ pub(crate) fn run<L: Founding, D: Disk, R: Wait + Clock + AllocGlobal>(
         ready: VecDeque::new(alloc),
         worked: Vec::new(alloc),
         awaiting: Vec::new(alloc),
+        failed: Vec::new(alloc),
         due: Vec::new(alloc),
         reply: Frame::with_room(alloc, MAX_FRAME_CONTENT as usize)?,
     };
@@ -105,11 +106,12 @@ struct Work<'a, L: Founding, D: Disk, R: Wait + Clock> {
     clients: BTreeMap<u32, Client<'a, L, D, R>>,
     timers: Timers,
 
-    // For which of them there is something to do, for which something was done, and which await records. There is room
-    // for all of them.
+    // For which of them there is something to do, for which something was done, which await records, and for which an
+    // allocation failed that is tried again. There is room for all of them.
     ready: VecDeque<u32>,
     worked: Vec<u32>,
     awaiting: Vec<u32>,
+    failed: Vec<u32>,
 
     due: Vec<u32>,
     reply: Frame,
@@ -126,6 +128,7 @@ impl<'a, L: Founding, D: Disk, R: Wait + Clock + AllocGlobal> Work<'a, L, D, R> 
             self.rouse_awaiting();
         }
         self.note_times();
+        self.retry_failed();
         self.read();
         self.make_calls();
         self.answer();
@@ -133,11 +136,7 @@ impl<'a, L: Founding, D: Disk, R: Wait + Clock + AllocGlobal> Work<'a, L, D, R> 
 
     /// Waits until something came, or a time is over. Returns whether another thread woke it.
     fn wait(&mut self) -> bool {
-        let most = if self.ready.is_empty() {
-            self.timers.left(self.rt)
-        } else {
-            Some(Duration::from_millis(0))
-        };
+        let most = self.longest_wait();
         if self.poll.poll(&mut self.events, most).is_err() {
             thread::sleep(self.rt, Duration::from_millis(RETRY_MILLISECONDS));
         }
@@ -154,6 +153,19 @@ impl<'a, L: Founding, D: Disk, R: Wait + Clock + AllocGlobal> Work<'a, L, D, R> 
             }
         }
         is_woken
+    }
+
+    /// How long it waits at most.
+    fn longest_wait(&self) -> Option<Duration> {
+        if !self.ready.is_empty() {
+            return Some(Duration::from_millis(0));
+        }
+        let left = self.timers.left(self.rt);
+        if self.failed.is_empty() {
+            return left;
+        }
+        let retry = Duration::from_millis(RETRY_MILLISECONDS);
+        Some(left.map_or(retry, |left| left.min(retry)))
     }
 
     /// Takes in the connections that were accepted.
@@ -190,7 +202,8 @@ impl<'a, L: Founding, D: Disk, R: Wait + Clock + AllocGlobal> Work<'a, L, D, R> 
         let count = self.clients.len().saturating_add(1);
         self.ready.reserve(count)?;
         self.worked.reserve(count)?;
-        self.awaiting.reserve(count)
+        self.awaiting.reserve(count)?;
+        self.failed.reserve(count)
     }
 
     /// There is something to do for the sessions whose call's turn has come.
@@ -221,6 +234,16 @@ impl<'a, L: Founding, D: Disk, R: Wait + Clock + AllocGlobal> Work<'a, L, D, R> 
                 make_ready(client, session, &mut self.ready);
             }
         }
+    }
+
+    /// There is something to do for those for which an allocation failed.
+    fn retry_failed(&mut self) {
+        for session in self.failed.iter() {
+            if let Some(client) = self.clients.get_mut(session) {
+                make_ready(client, *session, &mut self.ready);
+            }
+        }
+        self.failed.clear();
     }
 
     /// Reads what there is for all that are ready.
@@ -327,6 +350,9 @@ impl<'a, L: Founding, D: Disk, R: Wait + Clock + AllocGlobal> Work<'a, L, D, R> 
                 client.timer = None;
             }
             _ => {}
+        }
+        if client.has_no_line() || (most.is_some() && client.timer.is_none()) {
+            let _ = self.failed.push(session);
         }
     }
 
