@@ -1,3 +1,4 @@
+mod Making
 mod Serves
 mod Showing
 mod Staying
