@@ -224,17 +224,18 @@ pub destroys_known : {E : Type 0} (base : State) (old new : KernelValue) (kept :
     (opened earlier taken older space : ℕ) (c : Call) → IsKernelCore base old kept opened earlier taken older
     → (r : Result TicketValue E) → IfOk r (λ ticket. Gives old space c ticket new)
     → IfOk r (λ ticket. DestroysKnown space c ticket)
-destroys_known base old new kept opened earlier taken older space c core (Ok ticket) gives recorded destroys =
-    by (is_gone old.kernel space) refl
+destroys_known base old new kept opened earlier taken older space c core (Ok ticket) gives =
+    λ recorded destroys. by (is_gone old.kernel space) refl recorded destroys
   where
     lawful : LawfulState old.kernel
     lawful =
         (runs_keep_lawful base (records_of kept) old.kernel core.applied.fit core.applied.lawful core.applied.acyclic
         core.applied.run).0
 
-    by : (gone : Bool) → is_gone old.kernel space ≡ gone → space ≤ MAX_SPACES
-    by false there = there_known old.kernel space lawful there
-    by true gone =
+    by : (gone : Bool) → is_gone old.kernel space ≡ gone → has_record c ticket.answer ≡ true
+        → is_destruction c ≡ true → space ≤ MAX_SPACES
+    by false there recorded destroys = there_known old.kernel space lawful there
+    by true gone recorded destroys =
         let same = is_the_destruction c destroys in
         let refused_is = (gone_is_refused old.kernel space c ticket.answer new.kernel gone gives.step).0 in
         absurd (cc (
@@ -263,8 +264,8 @@ counted_as made result (Some l) same counted = same ∙ counted
 
 pub zero_at : (count space : ℕ) → count_at (replicate count 0) space ≡ 0
 zero_at count space = elim (cases_lt space count) [
-  | inl low ↦ get_or-replicate count space 0 0 low
-  | inr past ↦ get_or_past (replicate count 0) space 0 (omega (arith, past, length-replicate count 0))
+  | inl low ↦ get_or-replicate {A = ℕ} count space 0 0 low
+  | inr past ↦ get_or_past (replicate count 0) space 0 (omega (arith, past, length-replicate {A = ℕ} count 0))
 ]
 
 pub level_ok : {X E : Type 0} (r : Result X E) (kept mine : List Entry) → OnOk r (mine ≡ kept)

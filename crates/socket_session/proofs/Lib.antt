@@ -1,4 +1,4 @@
-mod Making
+mod Unconfined
 mod Serves
 mod Showing
 mod Staying

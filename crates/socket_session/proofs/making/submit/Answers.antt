@@ -1,5 +1,5 @@
 use Rattle.std.proofs.Common.{sym, ◌∙◌}
-use Rattle.socket_session.proofs.Making.{made_free, some_made}
+use Rattle.socket_session.proofs.Unconfined.{made_free, some_made}
 use Rattle.socket_session.proofs.making.submit.Goals as goal
 
 pub returns-clause-made : goal.returns-clause-made

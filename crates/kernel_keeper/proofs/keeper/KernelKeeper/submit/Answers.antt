@@ -41,12 +41,12 @@ invariant_of-self g c =
           (λ same. (none same).3),
       tells_called c.self.inside.destructions c.note.new.self (entries_in c.self.inside.core)
           (entries_in c.apply-past.new.self) past.entries own_state.number own_state.space c.made-before.result
-          c.len-2.result c.args.call.now c.in-Ok.ticket c.self.invariant.1 c.made-before.ensures.all makes.entries level
-          c.len-2.ensures c.note.ensures,
+          _ c.args.call.now c.in-Ok.ticket c.self.invariant.1 c.made-before.ensures.all makes.entries level
+          c.len-in-Ok.ensures c.note.ensures,
     )
 
-pub note-requires-known : goal.note-requires-known
-note-requires-known g c =
+pub note-requires : goal.note-requires
+note-requires g c =
     let own_state = c.session.inside.own_state in
     let made = c.self.inside.core.half.log.made in
     let past = c.apply-past.result.0 in
@@ -57,9 +57,11 @@ note-requires-known g c =
     let known =
     subst (λ r. IfOk r (λ ticket. DestroysKnown own_state.space c.args.call.now ticket)) c.in-Ok.is
     c.apply-past.ensures.known in
-    known_noted g.L.Founding.base own_state.number own_state.space c.session.inside.past.entries c.args.call.now
-    c.in-Ok.ticket past.entries made c.apply-past.new.self.half.log.made c.made-before.result c.len-2.result did
-    c.made-before.ensures.made c.len-2.ensures known
+    record {
+      known = known_noted g.L.Founding.base own_state.number own_state.space c.session.inside.past.entries c.args.call.now
+          c.in-Ok.ticket past.entries made c.apply-past.new.self.half.log.made c.made-before.result _ did
+          c.made-before.ensures.made c.len-in-Ok.ensures known;
+    }
 
 pub invariant_of-result : goal.invariant_of-result
 invariant_of-result g c =
