@@ -165,7 +165,7 @@ class Standin:
         if connection.has_waited and is_closed(connection.socket):
             self.end(connection)
             return None
-        code, size, member, text = self.machine.mach_msg(connection.space, connection.halves[0][0])
+        code, size, member, text = self.machine.mach_msg(connection.here(), connection.halves[0][0])
         is_over = connection.end is not None and time.monotonic() >= connection.end
         if code in (MACH_SEND_TIMED_OUT, MACH_RCV_TIMED_OUT) and not is_over:
             connection.has_waited = True

@@ -4,6 +4,8 @@ import struct
 
 from machine import (
     ARGUMENTS,
+    ATTACH,
+    CONFINE,
     COPY_SEND,
     DEAD,
     DEAD_NAME_NOTICE,
@@ -31,8 +33,10 @@ from machine import (
 
 # How often each call is made.
 OFTEN = {0: 2, 1: 2, 2: 2, 3: 3, 4: 3, 5: 7, 6: 2, 7: 5, 8: 2, 9: 5, 10: 2, 11: 1, 12: 1, 13: 4, 14: 2, 15: 4}
-OFTEN |= {16: 9, 17: 9, 18: 7, MACH_MSG: 60, 20: 1, 21: 0.3, NUMBERED: 12, 99: 0.3}
-OF_SPACES = {0, 20, 21}
+OFTEN |= {16: 9, 17: 9, 18: 7, MACH_MSG: 60, 20: 1, 21: 0.3, NUMBERED: 12, CONFINE: 1, 99: 0.3}
+OF_SPACES = {ATTACH, 20, 21}
+# A connection that is confined sees no other space any more, so of those that may go to others only this part ever is.
+CONFINED_PART = 0.15
 
 # How many names and spaces there are before more is destroyed than made.
 MANY_NAMES, MANY_SPACES = 40, 4
@@ -45,32 +49,34 @@ def words(*values):
 
 
 class Frames:
-    """Frames of one connection. `is_alone`: it may go to other spaces, and nothing waits for anybody else."""
+    """Frames of one connection. `is_alone`: it may go to other spaces, and nothing waits for anybody else. One that may not
+    tries to as soon as it is confined, since nothing comes of it then."""
 
     def __init__(self, random, connection, is_alone=True):
         self.random = random
         self.connection = connection
         self.machine = connection.machine
         self.is_alone = is_alone
+        self.confines = not is_alone or random.random() < CONFINED_PART
 
     def next(self):
-        space = self.connection.space
-        if space not in self.machine.spaces and self.random.random() < 0.7:
-            return words(0, self.random.choice(list(self.machine.spaces)))
+        is_gone = self.connection.space not in self.machine.spaces and self.connection.confined is None
+        if is_gone and self.random.random() < 0.7:
+            return words(ATTACH, self.random.choice(list(self.machine.spaces)))
         number = self.number()
         if number == MACH_MSG:
             return words(number) + self.mach_msg()
         if number == NUMBERED:
             return words(number) + self.numbered()
         if number not in ARGUMENTS:
-            return words(self.random.choice([23, 99, LAST_WORD])) + bytes(self.random.choice([0, 1, 4, 8]))
+            return words(self.random.choice([24, 99, LAST_WORD])) + bytes(self.random.choice([0, 1, 4, 8]))
         arguments = words(*self.arguments(number))
         return words(number) + arguments + bytes(4 * (self.random.random() < 0.003))
 
     def numbered(self):
         """A request, most often the next one or the last one again, and a call, most often one that may be numbered."""
         chance = self.random.random()
-        last, _ = self.machine.kept.get(self.connection.space, (0, b""))
+        last, _ = self.machine.kept.get(self.connection.here(), (0, b""))
         others = [*[0, last - 1, last + 2] * 20, LAST_WORD]
         asked = last + 1 if chance < 0.7 else last if chance < 0.9 else self.random.choice(others)
         if chance > 0.98:
@@ -88,7 +94,10 @@ class Frames:
     def number(self):
         while True:
             (number,) = self.random.choices(list(OFTEN), list(OFTEN.values()))
-            if number in OF_SPACES and not self.is_alone:
+            if number == CONFINE and not self.confines:
+                continue
+            is_refused = number == ATTACH and self.connection.confined is not None
+            if number in OF_SPACES and not self.is_alone and not is_refused:
                 continue
             if number == 5 and sum(map(len, self.machine.spaces.values())) > MANY_NAMES:
                 return 6
@@ -99,7 +108,7 @@ class Frames:
     # Names.
 
     def held(self):
-        return self.machine.spaces.get(self.connection.space, {})
+        return self.machine.spaces.get(self.connection.here(), {})
 
     def name(self, is_wanted=None):
         """A name, most often one that is as wanted."""
@@ -153,6 +162,7 @@ class Frames:
             18: [right_name, disposition],
             20: [right_name, disposition],
             21: [],
+            CONFINE: [],
         }
         if number == 9:
             return self.changed_references()

@@ -32,7 +32,7 @@ FOR_HEADERS = range(MOVE_SEND, MAKE_SEND_ONCE + 1)
 PORT_DELETED, PORT_DESTROYED, NO_SENDERS, SEND_ONCE_NOTICE, DEAD_NAME_NOTICE = 65, 69, 70, 71, 72
 
 KERN_NO_SPACE, KERN_INVALID_ARGUMENT, KERN_FAILURE, KERN_RESOURCE_SHORTAGE = 3, 4, 5, 6
-KERN_NOT_IN_SET, KERN_NAME_EXISTS, KERN_INVALID_NAME, KERN_INVALID_TASK = 12, 13, 15, 16
+KERN_NO_ACCESS, KERN_NOT_IN_SET, KERN_NAME_EXISTS, KERN_INVALID_NAME, KERN_INVALID_TASK = 8, 12, 13, 15, 16
 KERN_INVALID_RIGHT, KERN_INVALID_VALUE, KERN_UREFS_OVERFLOW = 17, 18, 19
 KERN_INVALID_CAPABILITY, KERN_RIGHT_EXISTS = 20, 21
 MACH_SEND_INVALID_DEST, MACH_SEND_TIMED_OUT = 0x10000003, 0x10000004
@@ -46,15 +46,15 @@ MACH_RCV_HEADER_ERROR, MACH_MSG_IPC_SPACE = 0x1000400B, 0x2000
 
 SEND_MSG, RCV_MSG, SEND_TIMEOUT, RCV_TIMEOUT, RCV_LARGE = 1, 2, 0x10, 0x100, 0x800
 OPTIONS = SEND_MSG | RCV_MSG | SEND_TIMEOUT | RCV_TIMEOUT | RCV_LARGE
-MACH_MSG, NUMBERED = 19, 22
+ATTACH, MACH_MSG, NUMBERED, CONFINE = 0, 19, 22, 23
 
 MOST_NAMES, MOST_PORTS, MOST_SPACES, MOST_RIGHTS = 4096, 16384, 256, 256
 MOST_SENDS, MOST_DEAD, MOST_QUEUED, LONGEST = 65_534, 65_535, 64, 8192
 
 # How many words the arguments of each call have, mach_msg aside.
 ARGUMENTS = {0: 1, 1: 0, 2: 1, 3: 2, 4: 2, 5: 1, 6: 1, 7: 1, 8: 2, 9: 3, 10: 2, 11: 2, 12: 2}
-ARGUMENTS |= {13: 1, 14: 1, 15: 2, 16: 5, 17: 3, 18: 2, 20: 2, 21: 0}
-WITHOUT_RECORD = {0, 1, 2, 8, 13, 14}
+ARGUMENTS |= {13: 1, 14: 1, 15: 2, 16: 5, 17: 3, 18: 2, 20: 2, 21: 0, CONFINE: 0}
+WITHOUT_RECORD = {0, 1, 2, 8, 13, 14, CONFINE}
 
 # What number 22 takes: these calls, and of mach_msg a send and a receive that are one attempt.
 MAY_BE_NUMBERED = {3, 4, 5, 6, 7, 9, 10, 11, 12, 15, 16, 17, 18, 20}
@@ -167,6 +167,8 @@ class Machine:
         self.effects = deque()
         self.records = 0
         self.kept = {}
+        # How many spaces of a number were destroyed: by this a confined connection knows its own from a later one.
+        self.ended = {}
 
     # What is counted and found.
 
@@ -383,6 +385,9 @@ class Machine:
     def attach(self, _, wanted):
         refuse_if(wanted not in self.spaces, KERN_INVALID_TASK)
 
+    def confine(self, _):
+        """It changes only the connection."""
+
     def names(self, space):
         rows = sorted(self.spaces[space].items())
         return [len(rows), *(word for name, held in rows for word in (name, held.type_bits()))]
@@ -570,6 +575,7 @@ class Machine:
             self.destroy(space, name)
         del self.spaces[space]
         self.kept.pop(space, None)
+        self.ended[space] = self.ended.get(space, 0) + 1
 
     # Messages.
 
@@ -755,32 +761,44 @@ CALLS = {
     18: "extract_right",
     20: "space_create",
     21: "space_destroy",
+    CONFINE: "confine",
 }
 
 
 class Connection:
-    """A connection's frames, each answered in the space that it attached to last."""
+    """A connection's frames, each answered in the space that it attached to last, or for good in the one that it is
+    confined to."""
 
     def __init__(self, machine):
         self.machine = machine
         self.space = 1
+        self.confined = None  # how many spaces of this number had been destroyed then
+
+    def here(self):
+        """The space that it acts in. One that is no space where a confined connection's own is gone, whoever has the number."""
+        is_gone = self.confined is not None and self.confined != self.machine.ended.get(self.space, 0)
+        return NULL if is_gone else self.space
 
     def answer(self, frame):
         """The reply to a frame, both without their lengths."""
         (number,) = struct.unpack_from("<I", frame)
-        arguments = frame[4:]
+        arguments, space = frame[4:], self.here()
         if number == MACH_MSG:
-            code, size, member, text = self.machine.mach_msg(self.space, arguments)
+            code, size, member, text = self.machine.mach_msg(space, arguments)
             return struct.pack("<4I", number, code, size, member) + text
         if number == NUMBERED and len(arguments) >= 8:
-            code, results = self.machine.numbered(self.space, arguments)
+            code, results = self.machine.numbered(space, arguments)
             return struct.pack("<II", number, code) + results
         if len(arguments) != 4 * ARGUMENTS.get(number, -1):
             return struct.pack("<II", number, KERN_INVALID_ARGUMENT)
         words = struct.unpack(f"<{ARGUMENTS[number]}I", arguments)
-        code, results = self.machine.call(self.space, number, words)
-        if number == 0 and code == 0:
+        code, results = self.machine.call(space, number, words)
+        if number == ATTACH and self.confined is not None and space in self.machine.spaces:
+            code = KERN_NO_ACCESS
+        if number == ATTACH and code == 0:
             (self.space,) = words
+        if number == CONFINE and code == 0:
+            self.confined = self.machine.ended.get(self.space, 0)
         return struct.pack("<II", number, code) + results
 
 

@@ -7,12 +7,16 @@ this folder has examples.
 
 from __future__ import annotations
 
+import array
 import dataclasses
+import errno
+import os
 import random
 import socket
 import struct
 import threading
 import time
+import weakref
 from typing import Any, ClassVar, Dict, Iterator, List, NamedTuple, Optional, Sequence, Tuple, Type, Union
 
 PORT_NULL, PORT_DEAD = 0, 0xFFFFFFFF
@@ -34,7 +38,9 @@ NOTIFY_SEND_ONCE, NOTIFY_DEAD_NAME = 71, 72
 _SEND_MSG, _RCV_MSG, _SEND_TIMEOUT, _RCV_TIMEOUT, _RCV_LARGE = 1, 2, 0x10, 0x100, 0x800
 _COMPLEX = 0x80000000
 _LARGEST_MESSAGE, _LARGEST_FRAME = 8192, 65_532
-_MACH_MSG, _NUMBERED = 19, 22
+_MACH_MSG, _NUMBERED, _CONFINE = 19, 22, 23
+# What machrun's broker answers where the server can't be reached now, and how many seconds its answer is waited for.
+_LATER, _BROKER_PATIENCE = 255, 20.0
 # Calls that change something, and can be made as numbered requests.
 _CAN_BE_NUMBERED = {3, 4, 5, 6, 7, 9, 10, 11, 12, 15, 16, 17, 18, 19, 20}
 
@@ -80,6 +86,10 @@ class KERN_FAILURE(MachError, code=5):
 
 class KERN_RESOURCE_SHORTAGE(MachError, code=6):
     """Out of memory, ports, spaces, or room to store the call."""
+
+
+class KERN_NO_ACCESS(MachError, code=8):
+    """The connection is confined to its space."""
 
 
 class KERN_NOT_IN_SET(MachError, code=12):
@@ -379,16 +389,57 @@ class _Time:
         return True
 
 
+def _from_broker(broker: int) -> socket.socket:
+    """A connection of machrun's. It is asked for by one end of a pair, and comes to the other one, so that threads and
+    processes that share the broker's descriptor don't get one another's."""
+    wait = _Time(_BROKER_PATIENCE)
+    own, sent = socket.socketpair(socket.AF_UNIX, socket.SOCK_SEQPACKET)
+    with own:
+        with sent, socket.socket(fileno=os.dup(broker)) as asked:
+            rights = [(socket.SOL_SOCKET, socket.SCM_RIGHTS, array.array("i", [sent.fileno()]))]
+            while True:
+                try:
+                    asked.sendmsg([b"\0"], rights, socket.MSG_DONTWAIT | socket.MSG_NOSIGNAL)
+                    break
+                except OSError as fault:  # where others have filled the queue, there is room in a moment
+                    if fault.errno not in (errno.EAGAIN, errno.ETOOMANYREFS, errno.ENOBUFS) or not wait.pause():
+                        raise
+        own.settimeout(wait.left())
+        answer, ancillary, _, _ = own.recvmsg(1, socket.CMSG_LEN(4), socket.MSG_CMSG_CLOEXEC)
+    given = [it for _, _, data in ancillary for it in array.array("i", data)]
+    if given:
+        return socket.socket(fileno=given[0])
+    if not answer or answer[0] in (0, _LATER):
+        raise ConnectionError("machrun has no connection to the server now")
+    raise _refusal(answer[0])
+
+
+def _is_broker(descriptor: int) -> bool:
+    """Whether it is a descriptor to ask over, and not one that was closed, and perhaps opened as something else."""
+    try:
+        with socket.socket(fileno=os.dup(descriptor)) as found:
+            return found.family == socket.AF_UNIX and found.type == socket.SOCK_SEQPACKET
+    except OSError:
+        return False
+
+
+def _number_of_environment(variable: str, default: str = "") -> int:
+    try:
+        return int(os.environ.get(variable, default), 0)
+    except ValueError:
+        raise ValueError(f"{variable} of the environment is no number") from None
+
+
 def _milliseconds(seconds: Optional[float]) -> int:
     return 0 if seconds is None else min(max(0, int(seconds * 1000 + 0.999)), 0xFFFFFFFE)
 
 
 class Task:
-    """A connection to the server at `path`, in a space.
+    """A connection to the server at `path`, in a space; `Task.adopt` gives one to the server and space that machrun chose.
 
     A Task is for one thread at a time; `another` gives one more in the same space. Timeouts are seconds, and None waits
     forever. A connection that is cut raises MACH_SEND_INTERRUPTED or MACH_RCV_INTERRUPTED, and the next call connects
-    anew.
+    anew, as does the first one in a child of fork.
 
     With `once` each call that changes something has one effect and one answer however often the connection is cut: it
     goes as a numbered request, and is asked again until it is answered or `patience` seconds are over. `repeats` is how
@@ -398,12 +449,38 @@ class Task:
     def __init__(
         self, path: str, space: int = FIRST_SPACE, *, once: bool = False, patience: Optional[float] = 30.0
     ) -> None:
+        self._begin(path, None, space, once, patience)
+
+    @classmethod
+    def adopt(cls, *, once: bool = False, patience: Optional[float] = 30.0) -> Task:
+        """The task that the environment names, as machrun starts a program with it. `bootstrap` is the name of its first
+        right, and `start` which start of the task this is, from 1.
+
+        Where MACHIPC_FD is there, all connections come from machrun, over that descriptor, and are confined to the space.
+        ValueError: the environment has no task."""
+        path, broker = os.environ.get("MACHIPC_SOCKET", ""), None
+        space, bootstrap = _number_of_environment("MACHIPC_SPACE"), _number_of_environment("MACHIPC_BOOTSTRAP")
+        start = _number_of_environment("MACHIPC_START", "1")
+        if "MACHIPC_FD" in os.environ:
+            broker = _number_of_environment("MACHIPC_FD")
+        if not path if broker is None else not _is_broker(broker):
+            raise ValueError("the environment has no way to the task's server")
+        made = cls.__new__(cls)
+        made._begin(path, broker, space, once, patience)
+        made.bootstrap, made.start = bootstrap, start
+        return made
+
+    def _begin(self, path: str, broker: Optional[int], space: int, once: bool, patience: Optional[float]) -> None:
         self.path = path
         self.space = space
         self.patience = patience
         self.repeats = 0
+        self.bootstrap, self.start = PORT_NULL, 1
+        self._broker = broker
+        self._is_confined = broker is not None
         self._numbers: Optional[_Numbers] = None
         self._socket: Optional[socket.socket] = None
+        _tasks.add(self)
         if once:
             try:
                 self._numbers = self._numbers_of_space()
@@ -429,6 +506,7 @@ class Task:
         """A Task in the same space and mode, for another thread."""
         made = Task.__new__(Task)
         made.__dict__.update(self.__dict__, _socket=None, repeats=0)
+        _tasks.add(made)
         return made
 
     # Frames.
@@ -436,18 +514,28 @@ class Task:
     def _open(self) -> None:
         if self._socket:
             return
-        self._socket = socket.socket(socket.AF_UNIX)
         try:
-            self._socket.connect(self.path)
-            if self.space != FIRST_SPACE:
-                self._write(struct.pack("<2I", 0, self.space))
-                self._code_of(0, self._read())
+            if self._broker is None:
+                self._connect()
+            else:
+                self._socket = _from_broker(self._broker)
         except OSError as fault:
             self.close()
             raise MACH_SEND_INTERRUPTED(str(fault)) from None
         except BaseException:
             self.close()
             raise
+
+    def _connect(self) -> None:
+        """Connects, and goes to the space, for good where the Task is confined to it."""
+        self._socket = socket.socket(socket.AF_UNIX)
+        self._socket.connect(self.path)
+        if self.space != FIRST_SPACE:
+            self._write(struct.pack("<2I", 0, self.space))
+            self._code_of(0, self._read())
+        if self._is_confined:
+            self._write(struct.pack("<I", _CONFINE))
+            self._code_of(_CONFINE, self._read())
 
     def _write(self, frame: bytes) -> None:
         assert self._socket
@@ -583,7 +671,10 @@ class Task:
         return struct.unpack(f"<{len(results) // 4}I", results)
 
     def attach(self, space: int) -> None:
-        """Goes to another space. The names of this one stay there. KERN_INVALID_TASK: there is no such space."""
+        """Goes to another space. The names of this one stay there. KERN_INVALID_TASK: there is no such space;
+        KERN_NO_ACCESS: the Task is confined to another one."""
+        if self._is_confined and space != self.space:
+            raise KERN_NO_ACCESS()
         before, numbers = self.space, self._numbers
         self.close()
         self.space = space
@@ -594,6 +685,12 @@ class Task:
             self.close()
             self.space, self._numbers = before, numbers
             raise
+
+    def confine(self) -> None:
+        """Confines the Task to its space, for good: the server then refuses its connection every other space. Where that space
+        is destroyed, all calls are answered with KERN_INVALID_TASK, also when another one has its number."""
+        self._call(_CONFINE)
+        self._is_confined = True
 
     def names(self) -> Dict[int, int]:
         """All names of the space, ascending, with what each stands for."""
@@ -823,6 +920,18 @@ class Task:
                     raise MACH_RCV_INTERRUPTED(*fault.args) from None
             is_again = True
 
+
+_tasks: "weakref.WeakSet[Task]" = weakref.WeakSet()
+
+
+def _after_fork_in_child() -> None:
+    """A child has no part in its parent's connections, nor in how it numbers its calls."""
+    for task in list(_tasks):
+        task.close()
+        task._numbers = None
+
+
+os.register_at_fork(after_in_child=_after_fork_in_child)
 
 __all__ = ["Item"] + [
     name

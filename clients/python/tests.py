@@ -11,6 +11,7 @@ import sys
 import tempfile
 import threading
 import unittest
+import unittest.mock
 
 HERE = pathlib.Path(__file__).resolve().parent
 sys.path.insert(0, str(HERE))
@@ -94,6 +95,46 @@ class Calls(OfTask):
         self.assertEqual(set(self.task.names()), {self.port})
         with self.assertRaises(KERN_INVALID_TASK):
             Task(SOCKET, 9999)
+
+
+    def test_confine(self):
+        task, other = self.task, self.task.another()
+        task.confine()
+        task.confine()
+        with self.assertRaises(KERN_NO_ACCESS):
+            task.attach(FIRST_SPACE)
+        task.attach(task.space)
+        with self.assertRaises(KERN_NO_ACCESS):
+            task.another().attach(FIRST_SPACE)
+        # Its connection that is cut is made anew, and is confined too.
+        task._socket.shutdown(socket.SHUT_RDWR)
+        with self.assertRaises(ConnectionError):
+            task.names()
+        self.assertEqual(set(task.names()), {self.port})
+        with self.assertRaises(KERN_NO_ACCESS):
+            task._call(0, FIRST_SPACE)
+        other.attach(FIRST_SPACE)
+        other.close()
+
+    def test_adopt(self):
+        given = {"MACHIPC_SOCKET": SOCKET, "MACHIPC_SPACE": hex(self.task.space), "MACHIPC_BOOTSTRAP": str(self.port)}
+        for variable, value in (("SPACE", ""), ("BOOTSTRAP", "x"), ("SOCKET", ""), ("FD", "0"), ("START", "x")):
+            changed = {**given, f"MACHIPC_{variable}": value}
+            with self.subTest(variable=variable), unittest.mock.patch.dict(os.environ, changed):
+                self.assertRaises(ValueError, Task.adopt)
+        with unittest.mock.patch.dict(os.environ, given), Task.adopt() as task:
+            self.assertEqual((task.space, task.bootstrap, task.start), (self.task.space, self.port, 1))
+            self.assertEqual(task.type(self.port), type_of(RECEIVE))
+        with unittest.mock.patch.dict(os.environ, given, MACHIPC_START="2"), Task.adopt(once=True) as task:
+            self.assertEqual((task.start, task.type(task.allocate())), (2, type_of(RECEIVE)))
+
+    def test_fork(self):
+        """A child of fork has connections of its own."""
+        pid = os.fork()
+        if pid == 0:
+            os._exit(self.task.type(self.port) != type_of(RECEIVE))
+        self.assertEqual(os.waitpid(pid, 0)[1], 0)
+        self.assertEqual(self.task.type(self.port), type_of(RECEIVE))
 
 
 class Messages(OfTask):

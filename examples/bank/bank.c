@@ -1,9 +1,10 @@
 /*
- * bank SECONDS TELLER
+ * bank SECONDS MACHRUN TELLER
  *
- * Opens accounts with money, each in a space of its own, and runs the program TELLER for each of them. For so many seconds
- * tellers are killed at random and started again; the server may be killed too. Then it counts the money: no purse may be
- * lost, and none be there twice. The status is 1 where one is.
+ * Opens accounts with money, each in a space of its own, and runs the program TELLER for each of them, confined to that space
+ * by MACHRUN. For so many seconds tellers are killed at random and started again; the server may be killed too. Then it
+ * counts the money: no purse may be lost, and none be there twice. The status is 1 where one is. The bank itself goes to its
+ * accounts' spaces, so it isn't confined.
  */
 
 #include "../begin.h"
@@ -30,7 +31,7 @@ struct count {
     unsigned payments;
 };
 
-static const char *program;
+static const char *machrun, *program;
 
 /* Goes on with a call that has to be done. */
 static void must(kern_return_t code, const char *what) {
@@ -82,11 +83,13 @@ static void open_accounts(struct account *accounts) {
 static void start_teller(struct account *account) {
     account->teller = fork();
     if (account->teller == 0) {
+        setpgid(0, 0); /* so that machrun and its teller are killed together */
         if (machipc_task_export(&account->task) == KERN_SUCCESS) {
-            execl(program, program, (char *) NULL);
+            execl(machrun, machrun, "--adopt", getenv("MACHIPC_SOCKET"), program, (char *) NULL);
         }
         _exit(127);
     }
+    setpgid(account->teller, account->teller);
     account->task.start++;
 }
 
@@ -100,7 +103,7 @@ static unsigned run_tellers(struct account *accounts, unsigned seconds) {
     while (time(NULL) < end) {
         nanosleep(&(struct timespec){.tv_nsec = 50000000 + rand() % 200000000}, NULL);
         struct account *account = &accounts[rand() % ACCOUNTS];
-        kill(account->teller, SIGKILL);
+        kill(-account->teller, SIGKILL);
         waitpid(account->teller, NULL, 0);
         start_teller(account);
         killed++;
@@ -151,11 +154,12 @@ int main(int words_count, char **words) {
     struct account accounts[ACCOUNTS];
     struct count count = {0};
     machipc_task_t task;
-    if (words_count != 3) {
-        fprintf(stderr, "bank SECONDS TELLER\n");
+    if (words_count != 4) {
+        fprintf(stderr, "bank SECONDS MACHRUN TELLER\n");
         return 2;
     }
-    program = words[2];
+    machrun = words[2];
+    program = words[3];
     srand(1);
     must(begin_task(&task), "the bank's task");
     open_accounts(accounts);

@@ -1,10 +1,10 @@
 /*
  * teller
  *
- * Works for one account, in the space that the environment names: it pays what the account has to others, a purse at a
- * time, and collects what they pay. It may be killed at any moment and started again, since it remembers nothing: what it
- * has to know it reads from its space. Its calls aren't numbered: one whose connection was cut was made or not, and either
- * is right, since a payment is one call. It ends with status 0 at a SIGTERM.
+ * Works for one account, in the space that the environment names and that machrun confines it to: it pays what the account
+ * has to others, a purse at a time, and collects what they pay. It may be killed at any moment and started again, since it
+ * remembers nothing: what it has to know it reads from its space. Its calls aren't numbered: one whose connection was cut was
+ * made or not, and either is right, since a payment is one call. It ends with status 0 at a SIGTERM.
  */
 
 #include "../begin.h"

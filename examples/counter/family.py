@@ -1,9 +1,9 @@
 #!/usr/bin/env python3
 """The counter with its clients, for SECONDS, in the task that `machrun` made for this program.
 
-    machrun SOCKET examples/counter/family.py SECONDS FOLDER
+    machrun --open SOCKET examples/counter/family.py SECONDS FOLDER
 
-FOLDER has the programs. The status is 1 where the counter isn't what the clients' calls make: a call was lost then, or made
+FOLDER has the programs. This task starts others, so it isn't confined; the clients are. The status is 1 where the counter isn't what the clients' calls make: a call was lost then, or made
 twice.
 """
 

@@ -1,12 +1,13 @@
 #!/usr/bin/env python3
 """The name service with its services and clients, for SECONDS, in the task that `machrun` made for this program.
 
-    machrun SOCKET examples/names/family.py SECONDS FOLDER
+    machrun --open SOCKET examples/names/family.py SECONDS FOLDER
 
-FOLDER has the programs. The name service runs in this task's own space, since it receives at the port that all tasks under
-it know as their bootstrap port; services and clients run under a machrun of their own. Meanwhile the name service and the
-services are killed at random and started again. It prints what the clients made of it. The status is 1 where a request got
-a wrong answer, or neither an answer nor a notice, or where no client got an answer.
+FOLDER has the programs. This task starts others, so it isn't confined. The name service runs in this task's own space, since
+it receives at the port that all tasks under it know as their bootstrap port; services and clients run under a machrun of
+their own, which confines them. Meanwhile the name service and the services are killed at random and started again. It prints
+what the clients made of it. The status is 1 where a request got a wrong answer, or neither an answer nor a notice, or where
+no client got an answer.
 """
 
 import os

@@ -35,9 +35,20 @@ kern_return_t machipc_connect(const char *path);
 
 /*
  * Uses this space from now on, in all threads. Any space may be attached to, and any number of connections to one space.
- * It ends the mode of machipc_once. KERN_INVALID_TASK: there is no such space, and the process stays where it was.
+ * It ends the mode of machipc_once. KERN_INVALID_TASK: there is no such space; KERN_NO_ACCESS: the process is confined to
+ * another one. The process stays where it was then.
  */
 kern_return_t machipc_attach(machipc_space_t space);
+
+/*
+ * Confines the process to the space that it uses: the server then refuses all its connections every other space, and
+ * machipc_attach answers KERN_NO_ACCESS, until machipc_connect. It ends the mode of machipc_once. A connection whose space is
+ * destroyed has all its calls answered with KERN_INVALID_TASK, also when another space has the number; one that is made
+ * later is confined to the space that has it then. This guards a program against its own mistakes: it could connect anew. A
+ * program that is to be held is started confined, by machrun. KERN_INVALID_TASK: the space is gone; KERN_INVALID_ARGUMENT: the
+ * server is of an older version.
+ */
+kern_return_t machipc_confine(void);
 
 /* The space that the process uses. */
 machipc_space_t machipc_space(void);
@@ -65,9 +76,10 @@ kern_return_t machipc_space_destroy(void);
  * space keeps only the last request; the threads of the process take turns. A child of fork is in the same space
  * without this mode.
  *
- * KERN_INVALID_TASK: there is no such space; KERN_INVALID_ARGUMENT: the server has no numbered requests, or the space has
- * used up their 4,294,967,295 numbers; MACH_SEND_INTERRUPTED, MACH_RCV_INTERRUPTED: the server couldn't be reached for the
- * time of machipc_set_patience. The process stays where it was then.
+ * KERN_INVALID_TASK: there is no such space; KERN_NO_ACCESS: the process is confined to another one;
+ * KERN_INVALID_ARGUMENT: the server has no numbered requests, or the space has used up their 4,294,967,295 numbers;
+ * MACH_SEND_INTERRUPTED, MACH_RCV_INTERRUPTED: the server couldn't be reached for the time of machipc_set_patience. The
+ * process stays where it was then.
  */
 kern_return_t machipc_once(machipc_space_t space);
 
@@ -91,30 +103,35 @@ typedef struct machipc_task {
 
 /*
  * Begins a task: makes a space with one right of the caller's, as machipc_space_create does. With MACH_PORT_NULL it gets
- * the receive right of a new port instead, and nothing of the caller's. The caller stays in its own space; a process that
- * it starts gets the task by machipc_task_export before exec and machipc_adopt after it, or by machipc_attach after
- * fork. The same codes as of machipc_space_create, and of mach_port_allocate.
+ * the receive right of a new port instead, and nothing of the caller's. The right's name there is drawn by chance, so that
+ * the space is known from a later one of its number; a confined process leaves the name that the server gave. The caller
+ * stays in its own space; a process that it starts gets the task by machipc_task_export before exec and machipc_adopt after
+ * it, or by machipc_attach after fork. The same codes as of machipc_space_create, and of mach_port_allocate.
  */
 kern_return_t machipc_task_begin(mach_port_t name, mach_msg_type_name_t disposition, machipc_task_t *task);
 
 /*
  * Ends a task: destroys its space, over a connection of its own, so that all who hold names for its ports or wait for its
  * replies get their notices. A task whose space is gone has ended: KERN_SUCCESS. The caller's space stays. A task is ended
- * once, and by one side only, since another space may have its number afterwards.
+ * once, and by one side only, since another space may have its number afterwards. KERN_NO_ACCESS: the process is confined
+ * to another space.
  */
 kern_return_t machipc_task_end(const machipc_task_t *task);
 
 /*
  * Puts a task and the server's socket into the environment (MACHIPC_SOCKET, MACHIPC_SPACE, MACHIPC_BOOTSTRAP,
- * MACHIPC_START), from where a program that is started finds them. KERN_RESOURCE_SHORTAGE: out of memory. It changes the
- * environment, which no other thread may use meanwhile.
+ * MACHIPC_START; MACHIPC_FD is taken out), from where a program that is started finds them. KERN_RESOURCE_SHORTAGE: out of
+ * memory; KERN_NO_ACCESS: the process knows no socket, since it has its connections of machrun. It changes the environment,
+ * which no other thread may use meanwhile.
  */
 kern_return_t machipc_task_export(const machipc_task_t *task);
 
 /*
- * What a program does first that machrun or the like started: it connects to the server and attaches to the space that
- * the environment names. Where task->start is above 1 the program ran in this space before, and names of that time are
- * there still; machipc_sweep takes them back. KERN_INVALID_ARGUMENT: the environment has no task.
+ * What a program does first that machrun or the like started: it uses the space that the environment names, and connects.
+ * Where the environment has MACHIPC_FD, all connections of the process come from machrun, over that descriptor, and are
+ * confined to the space; else the process connects to MACHIPC_SOCKET and attaches. Where task->start is above 1 the program
+ * ran in this space before, and names of that time are there still; machipc_sweep takes them back. KERN_INVALID_ARGUMENT:
+ * the environment has no task; KERN_INVALID_TASK: its space is gone; MACH_SEND_INTERRUPTED: the server can't be reached.
  */
 kern_return_t machipc_adopt(machipc_task_t *task);
 

@@ -1,8 +1,21 @@
 /*
- * machrun [--keep] SOCKET COMMAND..
+ * machrun [--keep] [--open] [--adopt] [--user NAME] SOCKET COMMAND..
  *
  * Runs a command as a task: with a space of its own, which is destroyed when the command has ended, however it ended.
+ *
+ * The command is confined to the space, unless it is run with --open: it gets no path, and each of its connections comes from
+ * machrun, attached to the space and confined there by the server. One connection wouldn't do: each thread of the command
+ * needs one of its own, so does each child that it forks, and all of them need new ones when the server was killed and
+ * started again. So machrun is a broker, whom they ask (broker.h).
+ *
+ * The command may destroy its space, and then another one may get the number. machrun must neither give connections to that
+ * one nor destroy it. So it makes a connection of its own before the command starts, which is confined too, and by which no
+ * other space can be meant; and once that is lost it knows the space by the name of its first right, which machipc_task_begin
+ * drew by chance.
  */
+
+#include "broker.h"
+#include "child.h"
 
 #include <machipc.h>
 
@@ -12,16 +25,16 @@
 #include <stdio.h>
 #include <stdlib.h>
 #include <string.h>
+#include <sys/prctl.h>
 #include <sys/wait.h>
 #include <time.h>
 #include <unistd.h>
 
-enum { FAILED = 125, NOT_RUN = 126, NOT_FOUND = 127 };
-
 static const char usage[] =
-    "machrun [--keep] SOCKET COMMAND..\n"
-    "Makes a space on the server at SOCKET, runs the command with it, and destroys it when the command has ended.\n"
-    "With --keep a command that fails is started again in the same space.\n";
+    "machrun [--keep] [--open] [--adopt] [--user NAME] SOCKET COMMAND..\n"
+    "Makes a space on the server at SOCKET, runs the command confined to it, and destroys it when the command has ended.\n"
+    "With --keep a command that fails is started again in the same space, with --open it isn't confined, and with --user it\n"
+    "runs as that user. With --adopt it gets the space that the environment names, which stays.\n";
 
 static volatile sig_atomic_t command;     /* its process, or 0 */
 static volatile sig_atomic_t was_stopped; /* the signal that asked for the end, or 0 */
@@ -57,6 +70,10 @@ static void unhandle_signals(void) {
             sigaction(handed_on[i], &action, NULL);
         }
     }
+}
+
+static bool was_cut(kern_return_t code) {
+    return code == MACH_SEND_INTERRUPTED || code == MACH_RCV_INTERRUPTED;
 }
 
 static int fail(const char *what, kern_return_t code) {
@@ -99,11 +116,11 @@ static kern_return_t begin_once(const char *socket, machipc_task_t *task) {
 
 /* A server that is lost meanwhile, as one that is started again, is waited for. One that isn't there at first isn't, unless
    the environment says that it was. */
-static kern_return_t begin(const char *socket, machipc_task_t *task) {
+static kern_return_t begin(const char *socket, bool is_adopted, machipc_task_t *task) {
     kern_return_t code = has_task(socket) ? KERN_SUCCESS : machipc_connect(socket);
     for (int i = 0; i < TRIES && code == KERN_SUCCESS; i++) {
-        kern_return_t begun = begin_once(socket, task);
-        if ((begun != MACH_SEND_INTERRUPTED && begun != MACH_RCV_INTERRUPTED) || was_stopped) {
+        kern_return_t begun = is_adopted ? machipc_adopt(task) : begin_once(socket, task);
+        if (!was_cut(begun) || was_stopped) {
             return begun;
         }
         sleep_for(PAUSE);
@@ -111,48 +128,103 @@ static kern_return_t begin(const char *socket, machipc_task_t *task) {
     return code == KERN_SUCCESS ? MACH_RCV_INTERRUPTED : code;
 }
 
-static void run_command(char **words) {
-    execvp(words[0], words);
-    int error = errno;
-    fprintf(stderr, "machrun: %s: %s\n", words[0], strerror(error));
-    _exit(error == ENOENT ? NOT_FOUND : NOT_RUN);
+/* Goes to the command's space with a connection that is confined to it. */
+static kern_return_t hold(const machipc_task_t *task) {
+    kern_return_t code = MACH_SEND_INTERRUPTED;
+    for (int i = 0; i < TRIES && was_cut(code); i++) {
+        if (i > 0) {
+            sleep_for(PAUSE);
+        }
+        code = machipc_attach(task->space);
+        code = code == KERN_SUCCESS ? machipc_confine() : code;
+    }
+    if (code != KERN_SUCCESS) {
+        machipc_task_end(task);
+    }
+    return code;
+}
+
+static kern_return_t look(mach_port_t name) {
+    mach_port_type_t type;
+    return mach_port_type(mach_task_self(), name, &type);
+}
+
+/* Sees that the space has the name by which it is known, on a connection that is to that space and to no other. */
+static kern_return_t mark(mach_port_t name) {
+    kern_return_t code = look(name);
+    return code == KERN_INVALID_NAME ? mach_port_allocate_name(mach_task_self(), MACH_PORT_RIGHT_DEAD_NAME, name) : code;
+}
+
+/*
+ * Destroys the space of a confined command. On the first connection that is the space, whatever the command did to it. After a
+ * cut it is the space that has the name; where that had been given up before, nothing says whose the space is, and it stays.
+ */
+static kern_return_t end_confined(const machipc_task_t *task) {
+    kern_return_t code = mark(task->bootstrap);
+    bool was_marked = code == KERN_SUCCESS;
+    bool is_there = !was_cut(code) && code != KERN_INVALID_TASK; /* also where it could not be marked */
+    for (int i = 0; i < TRIES; i++) {
+        if (is_there) {
+            code = machipc_space_destroy();
+        }
+        if (!was_cut(code)) {
+            bool is_gone = code == KERN_INVALID_TASK || (code == KERN_INVALID_NAME && was_marked);
+            return is_gone ? KERN_SUCCESS : code;
+        }
+        sleep_for(PAUSE);
+        code = look(task->bootstrap);
+        is_there = code == KERN_SUCCESS;
+        was_marked = was_marked || is_there;
+    }
+    return code;
 }
 
 /* Starts the command, and gives its process. A signal that comes between the fork and the parent's knowing of it is handed
    on then. After one that came before, as while the space was made, nothing is started: 0. */
-static pid_t start(char **words) {
+static pid_t start(const struct child *child) {
     sigset_t signals, before;
     sigemptyset(&signals);
     for (int i = 0; i < HANDED_ON; i++) {
         sigaddset(&signals, handed_on[i]);
     }
     sigprocmask(SIG_BLOCK, &signals, &before);
-    pid_t child = was_stopped ? 0 : fork();
-    if (child == 0 && !was_stopped) {
+    pid_t process = was_stopped ? 0 : fork();
+    if (process == 0 && !was_stopped) {
         unhandle_signals();
         sigprocmask(SIG_SETMASK, &before, NULL);
-        run_command(words);
+        child_run(child);
     }
-    command = child > 0 ? child : 0;
+    command = process > 0 ? process : 0;
     sigprocmask(SIG_SETMASK, &before, NULL);
-    return child;
+    return process;
 }
 
-/* Starts the command and waits for its end, whose status it gives. */
-static int run_once(char **words) {
-    pid_t child = start(words);
-    if (child < 0) {
-        fprintf(stderr, "machrun: fork: %s\n", strerror(errno));
-        return FAILED;
-    }
-    if (child == 0) {
-        return 128 + was_stopped;
-    }
+/* Waits for the command's end, and gives its status. */
+static int wait_for(pid_t process) {
     int ended = 0;
-    while (waitpid(child, &ended, 0) < 0 && errno == EINTR) {
+    while (waitpid(process, &ended, 0) < 0 && errno == EINTR) {
     }
     command = 0;
     return WIFSIGNALED(ended) ? 128 + WTERMSIG(ended) : WEXITSTATUS(ended);
+}
+
+/* Starts the command and waits for its end, whose status it gives. Each start has a pair of its own, so that nothing that the
+   command did to the one before is left. */
+static int run_once(struct child *child, struct broker *broker, bool is_open) {
+    if (!is_open && !broker_begin(broker)) {
+        fprintf(stderr, "machrun: broker: %s\n", strerror(errno));
+        return FAILED;
+    }
+    child->broker = broker->end_of_command;
+    pid_t process = start(child);
+    int error = errno;
+    broker_was_given(broker);
+    int status = process > 0 ? wait_for(process) : process == 0 ? 128 + was_stopped : FAILED;
+    broker_end(broker);
+    if (process < 0) {
+        fprintf(stderr, "machrun: fork: %s\n", strerror(error));
+    }
+    return status;
 }
 
 /* Whether a command that ended so is started again. One that can't be started at all isn't. */
@@ -167,14 +239,22 @@ static void pause_after(time_t began) {
     }
 }
 
-static int run(char **words, bool is_kept, machipc_task_t *task) {
+struct options {
+    bool is_kept;
+    bool is_open;
+    bool is_adopted; /* the space is the environment's */
+    struct child child;
+};
+
+static int run(struct options *options, machipc_task_t *task) {
+    struct broker broker = {options->child.socket, task->space, task->bootstrap, -1, 0};
     for (;;) {
         time_t began = time(NULL);
         if (machipc_task_export(task) != KERN_SUCCESS) {
             return fail("environment", KERN_RESOURCE_SHORTAGE);
         }
-        int status = run_once(words);
-        if (!goes_on(is_kept, status)) {
+        int status = run_once(&options->child, &broker, options->is_open);
+        if (!goes_on(options->is_kept, status)) {
             return status;
         }
         pause_after(began);
@@ -185,23 +265,80 @@ static int run(char **words, bool is_kept, machipc_task_t *task) {
     }
 }
 
-int main(int count, char **words) {
-    if (count == 2 && strcmp(words[1], "--help") == 0) {
-        return fputs(usage, stdout) < 0 || fflush(stdout) != 0;
+/* Reads the command line. Whether it is one. */
+static bool read_options(char **words, struct options *options) {
+    *options = (struct options){.child.broker = -1};
+    while (*words != NULL && strncmp(*words, "--", 2) == 0) {
+        const char *option = *words++;
+        if (strcmp(option, "--keep") == 0) {
+            options->is_kept = true;
+        } else if (strcmp(option, "--open") == 0) {
+            options->is_open = true;
+        } else if (strcmp(option, "--adopt") == 0) {
+            options->is_adopted = true;
+        } else if (strcmp(option, "--user") == 0 && *words != NULL) {
+            options->child.user = *words++;
+        } else {
+            return false;
+        }
     }
-    bool is_kept = count > 1 && strcmp(words[1], "--keep") == 0;
-    int first = is_kept ? 2 : 1;
-    if (count - first < 2) {
-        fprintf(stderr, "machrun: command line\n%s", usage);
-        return FAILED;
+    if (words[0] == NULL || words[1] == NULL) {
+        return false;
     }
+    options->child.socket = words[0];
+    options->child.words = words + 1;
+    return true;
+}
+
+/* Whether machrun can do here what is asked of it. If not, a line on standard error says why. */
+static bool is_possible(struct options *options) {
+    if (getenv("MACHIPC_FD") != NULL) {
+        fprintf(stderr, "machrun: MACHIPC_FD is set: a confined task can't start tasks (machrun --open runs one that can)\n");
+        return false;
+    }
+    if (options->is_adopted && !has_task(options->child.socket)) {
+        fprintf(stderr, "machrun: --adopt: the environment has no task on %s\n", options->child.socket);
+        return false;
+    }
+    return child_find_user(&options->child);
+}
+
+/* Makes the command's space, runs the command and destroys the space. */
+static int run_in_space(struct options *options) {
     machipc_task_t task;
-    handle_signals();
-    kern_return_t code = begin(words[first], &task);
+    kern_return_t code = begin(options->child.socket, options->is_adopted, &task);
     if (code != KERN_SUCCESS) {
         return fail("no space", code);
     }
-    int status = run(words + first + 1, is_kept, &task);
-    code = machipc_task_end(&task);
+    for (int i = 0; i < TRIES && !child_find_socket(&options->child) && !was_stopped; i++) {
+        sleep_for(PAUSE);
+    }
+    if (options->is_adopted) {
+        return run(options, &task);
+    }
+    code = options->is_open ? KERN_SUCCESS : hold(&task);
+    if (code != KERN_SUCCESS) {
+        return fail("the command can't be confined", code);
+    }
+    int status = run(options, &task);
+    code = options->is_open ? machipc_task_end(&task) : end_confined(&task);
     return code == KERN_SUCCESS ? status : fail("the space was not destroyed", code);
+}
+
+int main(int count, char **words) {
+    struct options options;
+    if (count == 2 && strcmp(words[1], "--help") == 0) {
+        return fputs(usage, stdout) < 0 || fflush(stdout) != 0;
+    }
+    if (!read_options(words + 1, &options)) {
+        fprintf(stderr, "machrun: command line\n%s", usage);
+        return FAILED;
+    }
+    if (!is_possible(&options)) {
+        return FAILED;
+    }
+    /* Nobody else of the same user reads machrun's memory, or takes its connections. */
+    prctl(PR_SET_DUMPABLE, 0, 0, 0, 0);
+    handle_signals();
+    return run_in_space(&options);
 }

@@ -30,7 +30,8 @@ enum {
     CALL_MACH_MSG = 19,
     CALL_SPACE_CREATE = 20,
     CALL_SPACE_DESTROY = 21,
-    CALL_NUMBERED = 22
+    CALL_NUMBERED = 22,
+    CALL_CONFINE = 23
 };
 
 /* Whether the code says that the connection was cut, or that there is none. */

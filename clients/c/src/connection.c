@@ -1,5 +1,6 @@
 #include "connection.h"
 
+#include "brokered.h"
 #include "call.h"
 #include "settings.h"
 
@@ -22,26 +23,40 @@ static bool connect_to(struct connection *connection, const char *path) {
     /* A connect that a signal interrupts goes on by itself, and one that is made again says that it is connected. */
     while (connect(connection->socket, (struct sockaddr *) &address, sizeof address) != 0 && errno != EISCONN) {
         if (errno != EINTR && errno != EALREADY) {
-            int error = errno;
-            connection_close(connection);
-            errno = error;
             return false;
         }
     }
     return true;
 }
 
-/* Attaches the new socket to a space, with only the reply's frame, since the call's may hold a call that is made again. */
-static kern_return_t attach(struct connection *connection, machipc_space_t space) {
+/* Makes the call in the reply's frame: the call's frame may hold one that is made again. */
+static kern_return_t ask(struct connection *connection, uint32_t number) {
     struct frame *frame = &connection->reply;
-    frame_begin(frame, CALL_ATTACH);
-    frame_put(frame, space);
     if (!frame_send(frame, connection->socket) || !frame_receive(frame, connection->socket)) {
         return MACH_SEND_INTERRUPTED;
     }
-    uint32_t number = frame_take(frame);
+    uint32_t found = frame_take(frame);
     uint32_t code = frame_take(frame);
-    return frame->is_bad || number != CALL_ATTACH ? MIG_REPLY_MISMATCH : (kern_return_t) code;
+    return frame->is_bad || found != number ? MIG_REPLY_MISMATCH : (kern_return_t) code;
+}
+
+/* Takes the new socket to the settings' space, for good where the process is confined to it. */
+static kern_return_t enter(struct connection *connection, const struct settings *settings) {
+    kern_return_t code = KERN_SUCCESS;
+    if (settings->space != MACHIPC_FIRST_SPACE) {
+        frame_begin(&connection->reply, CALL_ATTACH);
+        frame_put(&connection->reply, settings->space);
+        code = ask(connection, CALL_ATTACH);
+    }
+    if (code == KERN_SUCCESS && settings->is_confined) {
+        frame_begin(&connection->reply, CALL_CONFINE);
+        code = ask(connection, CALL_CONFINE);
+    }
+    return code;
+}
+
+static kern_return_t connect_and_enter(struct connection *connection, const struct settings *settings) {
+    return connect_to(connection, settings->path) ? enter(connection, settings) : MACH_SEND_INTERRUPTED;
 }
 
 kern_return_t connection_open(struct connection *connection, const struct settings *settings) {
@@ -50,12 +65,12 @@ kern_return_t connection_open(struct connection *connection, const struct settin
     }
     connection_close(connection);
     connection->generation = settings->generation;
-    if (!connect_to(connection, settings->path)) {
-        return MACH_SEND_INTERRUPTED;
-    }
-    kern_return_t code = settings->space == MACHIPC_FIRST_SPACE ? KERN_SUCCESS : attach(connection, settings->space);
+    kern_return_t code = settings->broker >= 0 ? brokered_open(connection, settings->broker)
+                                               : connect_and_enter(connection, settings);
     if (code != KERN_SUCCESS) {
+        int error = errno;
         connection_close(connection);
+        errno = error;
     }
     return code;
 }

@@ -30,8 +30,13 @@ void connection_free(struct connection *connection);
 bool connection_make_socket(struct connection *connection);
 void connection_close(struct connection *connection);
 
+/* Between these two no thread forks: what is opened meanwhile is closed again or the connection's own at the end, so that
+   no child keeps it. */
+void connection_hold_forks(void);
+void connection_release_forks(void);
+
 /* Sees that the connection has a socket, to the server and in the space of these settings. MACH_SEND_INTERRUPTED: nobody
-   listens; KERN_INVALID_TASK: the space is gone. */
+   listens, or machrun has no connection to give; KERN_INVALID_TASK: the space is gone. */
 kern_return_t connection_open(struct connection *connection, const struct settings *settings);
 
 /* Sends the call's frame and reads the reply's, once. MACH_SEND_INTERRUPTED and MACH_RCV_INTERRUPTED: cut before the

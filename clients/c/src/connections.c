@@ -90,6 +90,14 @@ struct connection *connection_of_thread(void) {
     return connection;
 }
 
+void connection_hold_forks(void) {
+    pthread_mutex_lock(&lock);
+}
+
+void connection_release_forks(void) {
+    pthread_mutex_unlock(&lock);
+}
+
 bool connection_make_socket(struct connection *connection) {
     pthread_mutex_lock(&lock);
     connection->socket = socket(AF_UNIX, SOCK_STREAM, 0);

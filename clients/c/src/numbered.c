@@ -127,10 +127,11 @@ kern_return_t machipc_once(machipc_space_t space) {
     pthread_once(&prepared, prepare);
     pthread_mutex_lock(&turn);
     struct settings wanted = settings_now();
+    bool may_use = settings_may_use(&wanted, space);
     wanted.space = space;
     connection_close(connection);
     uint32_t last = 0;
-    kern_return_t code = find_last(connection, &wanted, &last);
+    kern_return_t code = may_use ? find_last(connection, &wanted, &last) : KERN_NO_ACCESS;
     if (code == KERN_SUCCESS) {
         /* The next number is left to a request that a process before this one may have on its way to the server yet: it
            had no more than one, and whenever that comes it is another's or too old. */

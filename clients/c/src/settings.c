@@ -5,7 +5,7 @@
 
 static pthread_mutex_t lock = PTHREAD_MUTEX_INITIALIZER;
 static pthread_once_t prepared = PTHREAD_ONCE_INIT;
-static struct settings shared = {.space = MACHIPC_FIRST_SPACE, .patience = 30000};
+static struct settings shared = {.broker = -1, .space = MACHIPC_FIRST_SPACE, .patience = 30000};
 
 /* A fork takes the lock first, so that the child finds the settings whole. */
 
@@ -43,14 +43,25 @@ bool settings_fits(const char *path) {
     return path != NULL && path[0] != '\0' && strlen(path) < sizeof shared.path;
 }
 
-void settings_use_server(const char *path) {
+/* Another server: what was chosen of the one before it counts no more. */
+static void use(const char *path, int broker, machipc_space_t space) {
     take_lock();
     memset(shared.path, 0, sizeof shared.path);
     memcpy(shared.path, path, strlen(path));
-    shared.space = MACHIPC_FIRST_SPACE;
+    shared.broker = broker;
+    shared.space = space;
+    shared.is_confined = broker >= 0;
     shared.is_once = false;
     shared.generation++;
     pthread_mutex_unlock(&lock);
+}
+
+void settings_use_server(const char *path) {
+    use(path, -1, MACHIPC_FIRST_SPACE);
+}
+
+void settings_use_broker(int broker, machipc_space_t space) {
+    use("", broker, space);
 }
 
 unsigned long settings_use_space(machipc_space_t space, bool is_once) {
@@ -61,6 +72,20 @@ unsigned long settings_use_space(machipc_space_t space, bool is_once) {
     unsigned long generation = shared.generation;
     pthread_mutex_unlock(&lock);
     return generation;
+}
+
+unsigned long settings_confine(machipc_space_t space) {
+    take_lock();
+    shared.space = space;
+    shared.is_confined = true;
+    shared.is_once = false;
+    unsigned long generation = ++shared.generation;
+    pthread_mutex_unlock(&lock);
+    return generation;
+}
+
+bool settings_may_use(const struct settings *settings, machipc_space_t space) {
+    return !settings->is_confined || settings->space == space;
 }
 
 void settings_use_patience(uint32_t milliseconds) {

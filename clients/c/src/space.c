@@ -22,11 +22,28 @@ kern_return_t machipc_attach(machipc_space_t space) {
         return KERN_RESOURCE_SHORTAGE;
     }
     struct settings wanted = settings_now();
+    if (!settings_may_use(&wanted, space)) {
+        return KERN_NO_ACCESS;
+    }
     wanted.space = space;
     connection_close(connection);
     kern_return_t code = connection_open(connection, &wanted);
     if (code == KERN_SUCCESS) {
         connection->generation = settings_use_space(space, false);
+    }
+    return code;
+}
+
+kern_return_t machipc_confine(void) {
+    struct connection *connection = connection_of_thread();
+    if (connection == NULL) {
+        return KERN_RESOURCE_SHORTAGE;
+    }
+    struct settings settings = settings_now();
+    frame_begin(&connection->call, CALL_CONFINE);
+    kern_return_t code = call_make(connection, &settings, CALL_CONFINE);
+    if (code == KERN_SUCCESS) {
+        connection->generation = settings_confine(settings.space);
     }
     return code;
 }

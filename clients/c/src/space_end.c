@@ -7,19 +7,7 @@
 #include "space_end.h"
 
 #include "call.h"
-#include "clock.h"
-
-#include <stdlib.h>
-#include <time.h>
-#include <unistd.h>
-
-/* A name above those that servers give by themselves, and hardly one that another process draws. */
-static mach_port_t draw(void) {
-    struct timespec time;
-    clock_gettime(CLOCK_REALTIME, &time);
-    uint32_t mixed = (uint32_t) time.tv_nsec * 2654435761u ^ (uint32_t) getpid() << 16 ^ (uint32_t) time.tv_sec;
-    return 0x80000000u | (mixed & 0x7ffffffeu);
-}
+#include "chance.h"
 
 static kern_return_t mark(struct connection *connection, const struct settings *settings, mach_port_t name) {
     frame_begin(&connection->call, CALL_ALLOCATE_NAME);
@@ -43,7 +31,7 @@ static kern_return_t destroy(struct connection *connection, const struct setting
 }
 
 kern_return_t space_end(struct connection *connection, const struct settings *settings) {
-    mach_port_t name = draw();
+    mach_port_t name = chance_name();
     kern_return_t code = mark(connection, settings, name);
     if (code == KERN_NO_SPACE) {
         return destroy(connection, settings); /* there is no name left for the mark */

@@ -1,13 +1,17 @@
+#include "brokered.h"
 #include "call.h"
+#include "chance.h"
 #include "connection.h"
 #include "settings.h"
 #include "space_end.h"
 
 #include <errno.h>
+#include <limits.h>
 #include <stdio.h>
 #include <stdlib.h>
 
-kern_return_t machipc_task_begin(mach_port_t name, mach_msg_type_name_t disposition, machipc_task_t *task) {
+/* Makes the space, with a right of the caller's or that of a new port. */
+static kern_return_t make_space(mach_port_t name, mach_msg_type_name_t disposition, machipc_task_t *task) {
     mach_port_t made = MACH_PORT_NULL;
     if (name == MACH_PORT_NULL) {
         kern_return_t code = mach_port_allocate(mach_task_self(), MACH_PORT_RIGHT_RECEIVE, &made);
@@ -25,14 +29,47 @@ kern_return_t machipc_task_begin(mach_port_t name, mach_msg_type_name_t disposit
     return code;
 }
 
+/* Gives the task's first right a name by chance, by which its space is known from a later one of its number. A confined process
+   can't do that, and leaves the name that the server gave. */
+static kern_return_t name_by_chance(struct connection *connection, machipc_task_t *task) {
+    struct settings there = settings_now();
+    if (there.is_confined) {
+        return KERN_SUCCESS;
+    }
+    mach_port_t name = chance_name();
+    there.space = task->space;
+    frame_begin(&connection->call, CALL_RENAME);
+    frame_put(&connection->call, task->bootstrap);
+    frame_put(&connection->call, name);
+    kern_return_t code = call_repeated(connection, &there, CALL_RENAME);
+    code = code == KERN_INVALID_NAME ? KERN_SUCCESS : code; /* it was done before a cut */
+    task->bootstrap = name;
+    if (code != KERN_SUCCESS && !call_was_cut(code)) {
+        space_end(connection, &there);
+    }
+    return code;
+}
+
+kern_return_t machipc_task_begin(mach_port_t name, mach_msg_type_name_t disposition, machipc_task_t *task) {
+    struct connection *to_task = connection_new();
+    if (to_task == NULL) {
+        return KERN_RESOURCE_SHORTAGE;
+    }
+    kern_return_t code = make_space(name, disposition, task);
+    code = code == KERN_SUCCESS ? name_by_chance(to_task, task) : code;
+    connection_free(to_task);
+    return code;
+}
+
 kern_return_t machipc_task_end(const machipc_task_t *task) {
     struct connection *connection = connection_new();
     if (connection == NULL) {
         return KERN_RESOURCE_SHORTAGE;
     }
     struct settings there = settings_now();
+    bool may_use = settings_may_use(&there, task->space);
     there.space = task->space;
-    kern_return_t code = space_end(connection, &there);
+    kern_return_t code = may_use ? space_end(connection, &there) : KERN_NO_ACCESS;
     connection_free(connection);
     return code == KERN_INVALID_TASK ? KERN_SUCCESS : code;
 }
@@ -45,8 +82,12 @@ static bool export_number(const char *variable, uint32_t number) {
 
 kern_return_t machipc_task_export(const machipc_task_t *task) {
     struct settings settings = settings_now();
-    bool is_done = setenv("MACHIPC_SOCKET", settings.path, 1) == 0 && export_number("MACHIPC_SPACE", task->space) &&
-                   export_number("MACHIPC_BOOTSTRAP", task->bootstrap) && export_number("MACHIPC_START", task->start);
+    if (settings.broker >= 0) {
+        return KERN_NO_ACCESS;
+    }
+    bool is_done = unsetenv("MACHIPC_FD") == 0 && setenv("MACHIPC_SOCKET", settings.path, 1) == 0 &&
+                   export_number("MACHIPC_SPACE", task->space) && export_number("MACHIPC_BOOTSTRAP", task->bootstrap) &&
+                   export_number("MACHIPC_START", task->start);
     return is_done ? KERN_SUCCESS : KERN_RESOURCE_SHORTAGE;
 }
 
@@ -63,16 +104,34 @@ static bool import_number(const char *variable, uint32_t *number) {
     return errno == 0 && *end == '\0' && found <= UINT32_MAX;
 }
 
+/* Uses the connections that machrun gives. A descriptor that was closed, and perhaps opened as something else, isn't
+   written to. */
+static kern_return_t adopt_brokered(machipc_space_t space) {
+    uint32_t descriptor;
+    if (!import_number("MACHIPC_FD", &descriptor) || descriptor > INT_MAX || !brokered_is_broker((int) descriptor)) {
+        return KERN_INVALID_ARGUMENT;
+    }
+    struct connection *connection = connection_of_thread();
+    if (connection == NULL) {
+        return KERN_RESOURCE_SHORTAGE;
+    }
+    settings_use_broker((int) descriptor, space);
+    struct settings settings = settings_now();
+    return connection_open(connection, &settings);
+}
+
 kern_return_t machipc_adopt(machipc_task_t *task) {
-    const char *path = getenv("MACHIPC_SOCKET");
-    if (path == NULL || !import_number("MACHIPC_SPACE", &task->space) ||
-        !import_number("MACHIPC_BOOTSTRAP", &task->bootstrap)) {
+    if (!import_number("MACHIPC_SPACE", &task->space) || !import_number("MACHIPC_BOOTSTRAP", &task->bootstrap)) {
         return KERN_INVALID_ARGUMENT;
     }
     if (!import_number("MACHIPC_START", &task->start)) {
         task->start = 1;
     }
-    kern_return_t code = machipc_connect(path);
+    if (getenv("MACHIPC_FD") != NULL) {
+        return adopt_brokered(task->space);
+    }
+    const char *path = getenv("MACHIPC_SOCKET");
+    kern_return_t code = path == NULL ? KERN_INVALID_ARGUMENT : machipc_connect(path);
     return code == KERN_SUCCESS ? machipc_attach(task->space) : code;
 }
 

@@ -17,7 +17,7 @@ static void names(mach_port_t first) {
     mach_port_type_array_t types;
     mach_msg_type_number_t count, types_count;
     CHECK_OK(mach_port_names(SELF, &found, &count, &types, &types_count));
-    CHECK(count == 4 && types_count == 4 && found[0] == first && found[1] == port && types[1] == check_type(port));
+    CHECK(count == 4 && types_count == 4 && found[0] == port && types[0] == check_type(port) && found[3] == first);
     free(found);
     free(types);
 

@@ -44,6 +44,8 @@ static void *first_calls(void *nothing) {
     allowed = 0;
     CHECK_CODE(machipc_space_destroy(), KERN_RESOURCE_SHORTAGE);
     allowed = 0;
+    CHECK_CODE(machipc_confine(), KERN_RESOURCE_SHORTAGE);
+    allowed = 0;
     CHECK_CODE(machipc_task_end(&task), KERN_RESOURCE_SHORTAGE);
     allowed = 0;
     CHECK(mig_get_reply_port() == MACH_PORT_NULL);
@@ -74,6 +76,19 @@ static void lists(void) {
     CHECK(check_type(set) == MACH_PORT_TYPE_NONE && check_type(port) == MACH_PORT_TYPE_RECEIVE);
 }
 
+static void tasks(void) {
+    machipc_task_t task = {0}, next = {0};
+    CHECK_OK(machipc_task_begin(port, MACH_MSG_TYPE_MAKE_SEND, &next));
+    CHECK_OK(machipc_task_end(&next));
+    allowed = 0;
+    CHECK_CODE(machipc_task_begin(port, MACH_MSG_TYPE_MAKE_SEND, &task), KERN_RESOURCE_SHORTAGE);
+    CHECK_OK(machipc_task_begin(port, MACH_MSG_TYPE_MAKE_SEND, &task));
+    CHECK(task.space == next.space); /* none was left */
+    allowed = 0;
+    CHECK_CODE(machipc_task_end(&task), KERN_RESOURCE_SHORTAGE);
+    CHECK_OK(machipc_task_end(&task));
+}
+
 static boolean_t demux(mach_msg_header_t *request, mach_msg_header_t *reply) {
     (void) request;
     (void) reply;
@@ -88,6 +103,7 @@ int main(int count, char **words) {
     CHECK(pthread_create(&thread, NULL, first_calls, NULL) == 0);
     pthread_join(thread, NULL);
     lists();
+    tasks();
     for (int i = 0; i < 2; i++) {
         allowed = i;
         CHECK_CODE(mach_msg_server(demux, 100, port), KERN_RESOURCE_SHORTAGE);

@@ -2,6 +2,7 @@
 
 #include "check.h"
 
+#include <pthread.h>
 #include <stdlib.h>
 
 static mach_msg_id_t notice_at(mach_port_t port) {
@@ -17,7 +18,7 @@ static void begun_and_ended(mach_port_t port) {
     CHECK_OK(mach_port_request_notification(SELF, port, MACH_NOTIFY_NO_SENDERS, 1, port, MACH_MSG_TYPE_MAKE_SEND_ONCE,
                                             &previous));
     CHECK_OK(machipc_task_begin(port, MACH_MSG_TYPE_MAKE_SEND, &task));
-    CHECK(machipc_space() == own && task.space != own && task.start == 1);
+    CHECK(machipc_space() == own && task.space != own && task.start == 1 && task.bootstrap >= 0x80000000u);
     CHECK_OK(machipc_task_end(&task));
     CHECK(notice_at(port) == MACH_NOTIFY_NO_SENDERS);
     CHECK_OK(machipc_task_end(&task));
@@ -48,6 +49,10 @@ static void adopted_and_swept(mach_port_t port) {
     CHECK_OK(machipc_attach(own));
     CHECK_OK(machipc_task_end(&task));
 
+    setenv("MACHIPC_FD", "0", 1); /* which is no pair of sockets */
+    CHECK_CODE(machipc_adopt(&found), KERN_INVALID_ARGUMENT);
+    CHECK_OK(machipc_task_export(&task));
+    CHECK(getenv("MACHIPC_FD") == NULL);
     setenv("MACHIPC_SPACE", "12x", 1);
     CHECK_CODE(machipc_adopt(&found), KERN_INVALID_ARGUMENT);
     setenv("MACHIPC_SPACE", "99999999999", 1);
@@ -59,9 +64,43 @@ static void adopted_and_swept(mach_port_t port) {
     CHECK_OK(machipc_attach(own));
 }
 
+static void *call_and_attach(void *unused) {
+    mach_port_t name;
+    (void) unused;
+    CHECK_OK(mach_port_allocate(SELF, MACH_PORT_RIGHT_RECEIVE, &name));
+    CHECK_CODE(machipc_attach(MACHIPC_FIRST_SPACE), KERN_NO_ACCESS);
+    return NULL;
+}
+
+/* A process that confined itself is so in all its threads, until it connects anew. */
+static void confined_itself(mach_port_t port, const char *path) {
+    machipc_task_t task = {0};
+    machipc_space_t own = machipc_space();
+    pthread_t thread;
+    CHECK_OK(machipc_task_begin(port, MACH_MSG_TYPE_MAKE_SEND, &task));
+    CHECK_OK(machipc_attach(task.space));
+    CHECK_OK(machipc_confine());
+    CHECK_OK(machipc_confine());
+    CHECK_CODE(machipc_attach(own), KERN_NO_ACCESS);
+    CHECK_CODE(machipc_once(own), KERN_NO_ACCESS);
+    CHECK_CODE(machipc_task_end(&(machipc_task_t){.space = own}), KERN_NO_ACCESS);
+    CHECK_OK(machipc_attach(task.space));
+    CHECK(machipc_space() == task.space && check_type(task.bootstrap) == MACH_PORT_TYPE_SEND);
+    CHECK(pthread_create(&thread, NULL, call_and_attach, NULL) == 0);
+    pthread_join(thread, NULL);
+    CHECK_OK(machipc_once(task.space));
+    call_and_attach(NULL);
+    CHECK_OK(machipc_space_destroy());
+    CHECK_CODE(machipc_confine(), KERN_INVALID_TASK);
+    CHECK_OK(machipc_connect(path));
+    CHECK_CODE(machipc_attach(task.space), KERN_INVALID_TASK);
+    CHECK_OK(machipc_attach(own));
+}
+
 int main(int count, char **words) {
     mach_port_t port = check_begin(count, words);
     begun_and_ended(port);
     adopted_and_swept(port);
+    confined_itself(port, words[1]);
     return check_end();
 }

@@ -1,6 +1,6 @@
 -- What frames ask for.
-use Rattle.std.proofs.Common.{◌≡◌, ◌≢◌, ℕ, Bool, true, false, ◌==◌, ◌||◌, List, ◌++◌, drop, ◌⊎◌, Result, Ok, Err, IfOk, bit_and, if◌then◌else◌, sym, ap, subst, ◌∙◌, arith}
-use Rattle.codes.specs.declared.call_number.TheConstants.{MACH_MSG, NUMBERED}
+use Rattle.std.proofs.Common.{◌≡◌, ◌≢◌, ℕ, Bool, true, false, ◌==◌, ◌||◌, List, [], ◌++◌, drop, ◌⊎◌, Result, Ok, Err, IfOk, bit_and, if◌then◌else◌, sym, ap, subst, ◌∙◌, arith}
+use Rattle.codes.specs.declared.call_number.TheConstants.{CONFINE, MACH_MSG, NUMBERED}
 use Rattle.codes.specs.declared.kern_return.KernReturn.TheVariants.{Success, InvalidArgument}
 use Rattle.ipc_model.specs.declared.call.Call.{Call}
 use Rattle.ipc_model.specs.declared.call.Call.TheVariants.{Plain, Numbered, Unnumberable}
@@ -34,11 +34,15 @@ of_asked P m message nothing unknown =
 never_one : (c : Call) (m : MachMsg) → request.One c ≡ asked m → ⊥
 never_one c m = of_asked (λ r. request.One c ≡ r → ⊥) m (λ e. cc) (λ e. cc) (λ e. cc)
 
+never_confine : (m : MachMsg) → request.Confine ≡ asked m → ⊥
+never_confine m = of_asked (λ r. request.Confine ≡ r → ⊥) m (λ e. cc) (λ e. cc) (λ e. cc)
+
 front_of : (content arguments : List ℕ) (q : Request) → content ≡ word MACH_MSG ++ arguments → AsksMachMsg arguments q
     → Asks content q
 front_of content arguments (request.One c) is (m, fits, encoded, e) = absurd (never_one c m e)
 front_of content arguments (request.Message m) is asks = (arguments, is, asks)
 front_of content arguments (request.Answered code) is asks = (arguments, is, asks)
+front_of content arguments request.Confine is (m, fits, encoded, e) = absurd (never_confine m e)
 
 -- what the arguments of a mach_msg ask for, its frame asks for
 pub asks_in_front : (content arguments : List ℕ) (r : Result Request CallFault) → content ≡ word MACH_MSG ++ arguments
@@ -52,6 +56,10 @@ unfolding call_encoding
 not_one content arguments c is other encoding =
     other (same_word (number_of_call c) MACH_MSG (arguments_encoding c) arguments (number-fits c) (omega arith)
     (sym encoding ∙ is))
+
+not_confine : (arguments : List ℕ) → word MACH_MSG ++ arguments ≡ word CONFINE → ⊥
+not_confine arguments same =
+    absurd (omega (arith, same_word MACH_MSG CONFINE arguments [] (omega arith) (omega arith) same))
 
 beyond : (arguments others : List ℕ) (q : Request) → word MACH_MSG ++ arguments ≡ word MACH_MSG ++ others
     → AsksMachMsg others q → AsksMachMsg arguments q
@@ -77,3 +85,4 @@ asks_after content arguments r is only (request.Message m) (others, encoding, as
     only (request.Message m) (beyond arguments others (request.Message m) (sym is ∙ encoding) asks)
 asks_after content arguments r is only (request.Answered code) (others, encoding, asks) =
     only (request.Answered code) (beyond arguments others (request.Answered code) (sym is ∙ encoding) asks)
+asks_after content arguments r is only request.Confine encoding = absurd (not_confine arguments (sym is ∙ encoding))

@@ -30,6 +30,7 @@ code-fits kern.NoSpace = omega arith
 code-fits kern.InvalidArgument = omega arith
 code-fits kern.Failure = omega arith
 code-fits kern.ResourceShortage = omega arith
+code-fits kern.NoAccess = omega arith
 code-fits kern.NotInSet = omega arith
 code-fits kern.NameExists = omega arith
 code-fits kern.InvalidName = omega arith

@@ -1,7 +1,7 @@
 -- Calls of number 22, and replies to them.
-use Rattle.std.proofs.Common.{◌≡◌, ◌≢◌, ◌⊎◌, ℕ, ◌<◌, ◌≤◌, ◌^◌, true, ◌==◌, List, [], ◌++◌, length, drop, Option, None, Some, Result, Ok, Err, IfOk, IfSome, IsErrOf, OnErr, if◌then◌else◌, inl, inr, refl, sym, ap, subst, ◌∙◌, arith}
+use Rattle.std.proofs.Common.{◌≡◌, ◌≢◌, ◌⊎◌, ℕ, ◌<◌, ◌≤◌, ◌^◌, true, ◌==◌, List, [], ◌++◌, length, drop, Option, None, Some, Result, Ok, Err, IfOk, IfSome, IfErr, IsErrOf, OnErr, if◌then◌else◌, inl, inr, refl, sym, ap, subst, ◌∙◌, arith}
 use Rattle.std.specs.declared.alloc.AllocError.{AllocError}
-use Rattle.codes.specs.declared.call_number.TheConstants.{MACH_MSG, NUMBERED}
+use Rattle.codes.specs.declared.call_number.TheConstants.{CONFINE, MACH_MSG, NUMBERED}
 use Rattle.ipc_model.specs.calls.PlainStep.{number_of_call, may_be_numbered}
 use Rattle.ipc_model.specs.declared.call.Call.{Call}
 use Rattle.ipc_model.specs.declared.call.Call.TheVariants.{Plain, Numbered, Unnumberable}
@@ -21,7 +21,7 @@ use Rattle.ipc_laws.specs.EncodingReading.{number-fits}
 use Rattle.ipc_laws.specs.RecordEncodings.{apart}
 use Rattle.words.specs.Words.{word}
 use Rattle.calls.specs.declared.request.CallFault.{CallFault}
-use Rattle.calls.specs.declared.request.CallFault.TheVariants.{NoMemory}
+use Rattle.calls.specs.declared.request.CallFault.TheVariants.{NoCall, NoMemory}
 use Rattle.calls.specs.declared.request.Request.{Request}
 use Rattle.calls.specs.declared.request.Request.TheVariants as request
 use Rattle.calls.specs.Replies.{Answers}
@@ -189,6 +189,8 @@ asks_numbered content arguments (request.Message m) front (others, same, is) =
     absurd (apart_numbers others arguments (sym same ∙ front))
 asks_numbered content arguments (request.Answered code) front (others, same, is) =
     absurd (apart_numbers others arguments (sym same ∙ front))
+asks_numbered content arguments request.Confine front is =
+    absurd (omega (arith, (word_once NUMBERED CONFINE arguments [] (omega arith) (omega arith) (sym front ∙ is)).0))
 
 -- and the other way round
 pub asked_numbered : (content arguments : List ℕ) (c : Call) → content ≡ word NUMBERED ++ arguments
@@ -337,3 +339,46 @@ own_reply number content r only none (reply.Repeated a) is = absurd is.well_form
 pub no_memory : (fault : CallFault) → IsErrOf {T = Request} (Err fault) NoMemory
     → IsErrOf {T = Call} (Err fault) NoMemory
 no_memory fault is = let same : fault ≡ NoMemory = cc in ap (λ (f : CallFault). Err f) same
+
+no_call_confines : (c : PlainCall) → number_of_call c ≡ CONFINE → ⊥
+no_call_confines (call.Attach space) is = absurd (omega (arith, is))
+no_call_confines c is = absurd (omega (arith, is))
+
+-- what a frame of number 23 asks for: it has no arguments
+asks_confine : (content arguments : List ℕ) (q : Request) → content ≡ word CONFINE ++ arguments → Asks content q
+    → (q ≡ request.Confine) × (arguments ≡ [])
+unfolding plain_calls.call_encoding
+asks_confine content arguments (request.One (Plain c)) front (other, fits, is) =
+    absurd (no_call_confines c
+    (word_once (number_of_call c) CONFINE (arguments_encoding c) arguments (number-fits c) (omega arith)
+    (sym is ∙ front)).0)
+asks_confine content arguments (request.One (Numbered numbered)) front (others, same, is) =
+    absurd (omega (arith, (word_once NUMBERED CONFINE others arguments (omega arith) (omega arith) (sym same ∙ front)).0))
+asks_confine content arguments (request.One Unnumberable) front (others, same, is) =
+    absurd (omega (arith, (word_once NUMBERED CONFINE others arguments (omega arith) (omega arith) (sym same ∙ front)).0))
+asks_confine content arguments (request.Message m) front (others, same, is) =
+    absurd (omega (arith, (word_once MACH_MSG CONFINE others arguments (omega arith) (omega arith) (sym same ∙ front)).0))
+asks_confine content arguments (request.Answered code) front (others, same, is) =
+    absurd (omega (arith, (word_once MACH_MSG CONFINE others arguments (omega arith) (omega arith) (sym same ∙ front)).0))
+asks_confine content arguments request.Confine front is = (refl, ap (λ (l : List ℕ). drop 4 l) (sym front ∙ is))
+
+abbrev ReadsConfine : List ℕ → Result Request CallFault → Type 0
+ReadsConfine arguments r = IfOk r (λ q. (q ≡ request.Confine) × (arguments ≡ []))
+
+pub confine_found : (content arguments : List ℕ) (r : Result Request CallFault) → content ≡ word CONFINE ++ arguments
+    → ReadsConfine arguments r → IfOk r (λ q. Asks content q)
+confine_found content arguments (Ok q) front is =
+    subst (λ (s : Request). Asks content s) (sym is.0) (front ∙ ap (λ (l : List ℕ). word CONFINE ++ l) is.1)
+confine_found content arguments (Err fault) front is = tt
+
+pub confine_only : (content arguments : List ℕ) (r : Result Request CallFault) → content ≡ word CONFINE ++ arguments
+    → ReadsConfine arguments r → OnErr r (arguments ≢ []) → (q : Request) → Asks content q
+    → (r ≡ Ok q) ⊎ (r ≡ Err NoMemory)
+confine_only content arguments (Ok k) front is none q asks =
+    inl (ap (λ (s : Request). Ok s) (is.0 ∙ sym (asks_confine content arguments q front asks).0))
+confine_only content arguments (Err fault) front is none q asks =
+    absurd (none (asks_confine content arguments q front asks).1)
+
+pub confine_lacks_nothing : (r : Result Request CallFault) → IfErr r (λ fault. fault ≡ NoCall) → IsErrOf r NoMemory → ⊥
+confine_lacks_nothing (Ok q) none is = absurd (cc is)
+confine_lacks_nothing (Err fault) none is = absurd (cc (is, none))

@@ -1,6 +1,6 @@
 -- What a frame asks for.
 use Rattle.std.specs.Prelude.{◌≡◌, ◌≢◌, ◌⊎◌, ℕ, ◌<◌, ◌≤◌, ◌^◌, Bool, true, false, IsTrue, ◌==◌, ◌||◌, List, ◌++◌, length, Option, None, Some, bit_and, if◌then◌else◌}
-use Rattle.codes.specs.declared.call_number.TheConstants.{MACH_MSG, NUMBERED}
+use Rattle.codes.specs.declared.call_number.TheConstants.{CONFINE, MACH_MSG, NUMBERED}
 use Rattle.codes.specs.declared.kern_return.KernReturn.TheVariants.{Success, InvalidArgument}
 use Rattle.ipc_model.specs.declared.call.Call.{Call}
 use Rattle.ipc_model.specs.declared.call.Call.TheVariants.{Plain, Numbered, Unnumberable}
@@ -132,11 +132,12 @@ AsksNumbered arguments Unnumberable =
     (request : ℕ) × (content : List ℕ) × (request < 2 ^ 32) × (arguments ≡ word request ++ content)
     × (4 ≤ length content) × ((c : PlainCall) → Numbers content c → ⊥)
 
--- A frame of this content asks for this.
+-- A frame of this content asks for this. The one that confines its connection has no arguments.
 abbrev pub Asks : List ℕ → Request → Type 0
 Asks content (request.One (Plain c)) = (number_of_call c ≢ MACH_MSG) × FitsCall c × (content ≡ call_encoding c)
 Asks content (request.One c) =
     (arguments : List ℕ) × (content ≡ word NUMBERED ++ arguments) × AsksNumbered arguments c
+Asks content request.Confine = content ≡ word CONFINE
 Asks content asks = (arguments : List ℕ) × (content ≡ word MACH_MSG ++ arguments) × AsksMachMsg arguments asks
 
 -- the arguments of a mach_msg that sends

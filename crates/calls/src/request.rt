@@ -1,4 +1,4 @@
-ghost use Rattle.std.specs.Prelude.{◌≡◌, ◌⊎◌, ◌<◌, ◌^◌, ◌++◌, ◌||◌, ℕ, List, Ok, Err, IsTrue, IfOk, IfSome, IfNone, OnErr, IsErrOf, length};
+ghost use Rattle.std.specs.Prelude.{◌≡◌, ◌≢◌, ◌⊎◌, ◌<◌, ◌^◌, ◌++◌, ◌||◌, ℕ, List, [], Ok, Err, IsTrue, IfOk, IfErr, IfSome, IfNone, OnErr, IsErrOf, length};
 ghost use Rattle.codes.specs.MessageOptions.{bits_of};
 ghost use Rattle.words.specs.Words.{word};
 ghost use Rattle.calls.specs.declared.request.Request.{Request};
@@ -7,7 +7,7 @@ ghost use Rattle.calls.specs.Requests as requests;
 use crate::arguments::read_arguments;
 use crate::numbered::read_numbered;
 use bitflags::Flags;
-use codes::{KernReturn, MACH_MSG, MessageOptions, NUMBERED};
+use codes::{CONFINE, KernReturn, MACH_MSG, MessageOptions, NUMBERED};
 use ipc_model::{Call, PlainCall, Sequence};
 use std::alloc::{AllocError, Global};
 use wire::Frame;
@@ -37,6 +37,8 @@ pub enum Request {
     /// A `mach_msg` that is answered with this code at once, with size 0 and no port's name: `InvalidArgument` if an
     /// option isn't known, `Success` if it asks for nothing.
     Answered(KernReturn),
+    /// Number 23: the connection is confined to the space that it is attached to. It is no call of the machine.
+    Confine,
 }
 
 /// Why a frame is no request.
@@ -161,6 +163,19 @@ fn read_mach_msg(alloc: Global, arguments: &[u8]) -> Result<Request, CallFault>
     Ok(request)
 }
 
+/// What number 23 asks for with these arguments. It has none.
+fn read_confine(arguments: &[u8]) -> Result<Request, CallFault>
+    ensures found { IfOk result (λ request. (request ≡ Request.Confine) × (arguments.now ≡ [])) }
+    ensures none { OnErr result (arguments.now ≢ []) }
+    ensures fault { IfErr result (λ fault. fault ≡ CallFault.NoCall) }
+{
+    if arguments.is_empty() {
+        Ok(Request::Confine)
+    } else {
+        Err(CallFault::NoCall)
+    }
+}
+
 /// What a frame asks for. `NoCall`: no call has this number and arguments of this length. `NoMemory`, only for a send,
 /// which may be numbered: out of memory for its message.
 #[tactic(auto, unfolding(ipc_model::specs::encodings::PlainCalls::call_encoding))]
@@ -183,6 +198,9 @@ pub fn read_request(alloc: Global, frame: &Frame) -> Result<Request, CallFault>
             Ok(call) => Ok(Request::One(call)),
             Err(fault) => Err(fault),
         };
+    }
+    if number == CONFINE {
+        return read_confine(arguments);
     }
     match read_arguments(number, arguments) {
         Some(call) => Ok(Request::One(Call::Plain(call))),

@@ -4,7 +4,7 @@ use Rattle.std.specs.Prelude.{IfSome, find}
 use Rattle.std.proofs.lemmas.Bool.Decides.{nat_tests}
 use Rattle.codes.specs.KernReturn.{all_codes, number_of}
 use Rattle.codes.specs.declared.kern_return.KernReturn.{KernReturn}
-use Rattle.codes.specs.declared.kern_return.KernReturn.TheVariants.{Success, NoSpace, InvalidArgument, Failure, ResourceShortage, NotInSet, NameExists, InvalidName, InvalidTask, InvalidRight, InvalidValue, UrefsOverflow, InvalidCapability, RightExists, SendInvalidDest, SendTimedOut, SendMsgTooSmall, SendInvalidReply, SendInvalidRight, SendInvalidMemory, SendNoBuffer, SendInvalidType, SendInvalidHeader, RcvInvalidName, RcvTimedOut, RcvTooLarge, RcvPortChanged, RcvPortDied, RcvInSet, RcvHeaderErrorKernel, RcvHeaderErrorSpace}
+use Rattle.codes.specs.declared.kern_return.KernReturn.TheVariants.{Success, NoSpace, InvalidArgument, Failure, ResourceShortage, NoAccess, NotInSet, NameExists, InvalidName, InvalidTask, InvalidRight, InvalidValue, UrefsOverflow, InvalidCapability, RightExists, SendInvalidDest, SendTimedOut, SendMsgTooSmall, SendInvalidReply, SendInvalidRight, SendInvalidMemory, SendNoBuffer, SendInvalidType, SendInvalidHeader, RcvInvalidName, RcvTimedOut, RcvTooLarge, RcvPortChanged, RcvPortDied, RcvInSet, RcvHeaderErrorKernel, RcvHeaderErrorSpace}
 
 abbrev pub code_with : ℕ → Option KernReturn
 code_with n = find (λ code. number_of code == n) all_codes
@@ -32,6 +32,7 @@ code_again NoSpace = refl
 code_again InvalidArgument = refl
 code_again Failure = refl
 code_again ResourceShortage = refl
+code_again NoAccess = refl
 code_again NotInSet = refl
 code_again NameExists = refl
 code_again InvalidName = refl

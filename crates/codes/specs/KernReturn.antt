@@ -1,7 +1,7 @@
 -- The numbers of the return codes, as Mach's headers have them.
 use Rattle.std.specs.Prelude.{List, [], ℕ, ◌∷◌}
 use Rattle.codes.specs.declared.kern_return.KernReturn.{KernReturn}
-use Rattle.codes.specs.declared.kern_return.KernReturn.TheVariants.{Success, NoSpace, InvalidArgument, Failure, ResourceShortage, NotInSet, NameExists, InvalidName, InvalidTask, InvalidRight, InvalidValue, UrefsOverflow, InvalidCapability, RightExists, SendInvalidDest, SendTimedOut, SendMsgTooSmall, SendInvalidReply, SendInvalidRight, SendInvalidMemory, SendNoBuffer, SendInvalidType, SendInvalidHeader, RcvInvalidName, RcvTimedOut, RcvTooLarge, RcvPortChanged, RcvPortDied, RcvInSet, RcvHeaderErrorKernel, RcvHeaderErrorSpace}
+use Rattle.codes.specs.declared.kern_return.KernReturn.TheVariants.{Success, NoSpace, InvalidArgument, Failure, ResourceShortage, NoAccess, NotInSet, NameExists, InvalidName, InvalidTask, InvalidRight, InvalidValue, UrefsOverflow, InvalidCapability, RightExists, SendInvalidDest, SendTimedOut, SendMsgTooSmall, SendInvalidReply, SendInvalidRight, SendInvalidMemory, SendNoBuffer, SendInvalidType, SendInvalidHeader, RcvInvalidName, RcvTimedOut, RcvTooLarge, RcvPortChanged, RcvPortDied, RcvInSet, RcvHeaderErrorKernel, RcvHeaderErrorSpace}
 
 abbrev pub number_of : KernReturn → ℕ
 number_of Success = 0
@@ -9,6 +9,7 @@ number_of NoSpace = 3
 number_of InvalidArgument = 4
 number_of Failure = 5
 number_of ResourceShortage = 6
+number_of NoAccess = 8
 number_of NotInSet = 12
 number_of NameExists = 13
 number_of InvalidName = 15
@@ -39,7 +40,7 @@ number_of RcvHeaderErrorSpace = 0x1000_600b
 -- the return codes, in the order of their numbers
 abbrev pub all_codes : List KernReturn
 all_codes =
-    Success ∷ NoSpace ∷ InvalidArgument ∷ Failure ∷ ResourceShortage ∷ NotInSet ∷
+    Success ∷ NoSpace ∷ InvalidArgument ∷ Failure ∷ ResourceShortage ∷ NoAccess ∷ NotInSet ∷
     NameExists ∷ InvalidName
     ∷ InvalidTask ∷ InvalidRight ∷ InvalidValue ∷ UrefsOverflow ∷ InvalidCapability ∷
     RightExists ∷ SendInvalidDest ∷ SendTimedOut

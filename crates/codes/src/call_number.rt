@@ -47,3 +47,5 @@ pub const SPACE_CREATE: u32 = 20;
 pub const SPACE_DESTROY: u32 = 21;
 /// Makes another call once, under a number that the task chooses.
 pub const NUMBERED: u32 = 22;
+/// Confines the connection to the space that it is attached to. It is no call of the machine.
+pub const CONFINE: u32 = 23;

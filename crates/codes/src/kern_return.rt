@@ -11,6 +11,7 @@ pub enum KernReturn {
     InvalidArgument = 4,
     Failure = 5,
     ResourceShortage = 6,
+    NoAccess = 8,
     NotInSet = 12,
     NameExists = 13,
     InvalidName = 15,
@@ -50,7 +51,7 @@ impl KernReturn {
     }
 
     /// All codes, in the order of their numbers.
-    pub fn all() -> [KernReturn; 31]
+    pub fn all() -> [KernReturn; 32]
         ensures { result ≡ all_codes }
     {
         [
@@ -59,6 +60,7 @@ impl KernReturn {
             KernReturn::InvalidArgument,
             KernReturn::Failure,
             KernReturn::ResourceShortage,
+            KernReturn::NoAccess,
             KernReturn::NotInSet,
             KernReturn::NameExists,
             KernReturn::InvalidName,

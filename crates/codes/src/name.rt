@@ -9,3 +9,6 @@ pub const FIRST_NAME: u32 = 0x100;
 
 /// The number of the space that exists from the start. A connection's task is attached to it at first.
 pub const FIRST_SPACE: u32 = 1;
+
+/// The number that stands for no space. A task that is attached to it is refused every call.
+pub const NO_SPACE: u32 = 0;

@@ -1,7 +1,7 @@
 -- What a connection did, and then did.
 use Rattle.std.proofs.Common.{◌≡◌, ◌+◌, ℕ, List, [], ◌∷◌, ◌++◌, length, Option, Some, refl, sym, ap, subst, ◌∙◌, arith, append_assoc, length-append}
 use Rattle.std.proofs.lemmas.List.{append-nil}
-use Rattle.ipc_model.specs.declared.call.Call.{Call}
+use Rattle.calls.specs.declared.request.Request.{Request}
 use Rattle.ipc_model.specs.declared.reply.Reply.{Reply}
 use Rattle.ipc_model.specs.encodings.Encodings.{reply_encoding}
 use Rattle.store_fault.specs.declared.fault.StoreFault.{StoreFault}
@@ -24,7 +24,7 @@ replies_both (acknowledged reply ∷ acts) more =
     ap (λ l. frame_encoding (reply_encoding reply) ++ l) (replies_both acts more)
     ∙ sym (append_assoc (frame_encoding (reply_encoding reply)) (replies_of acts) (replies_of more))
 
-module _ {C T : Type 0} (answer : T → Reply) (makes : C → Call → T → C → Type 0) (lacks : C → Call → C → Type 0)
+module _ {C T : Type 0} (answer : T → Reply) (makes : C → Request → T → C → Type 0) (lacks : C → Request → C → Type 0)
     (acknowledges : C → T → C → Type 0) (fails : C → T → StoreFault → C → Type 0) where
   pub acted_both : (old mid new : C) (queue between left : List (PendingFrame T)) (acts more : List (Act T))
       → Acted answer makes lacks acknowledges fails old queue acts between mid

@@ -68,6 +68,11 @@ pub refused_fits : (n : ℕ) (code : KernReturn)
     → length (plain_calls.reply_encoding (plain_reply.Refused n code)) ≤ MAX_FRAME_CONTENT
 refused_fits n code = let fits = short_refusal n code in omega (arith, fits)
 
+-- So does that of a call that was done and has no results.
+pub done_fits : (n : ℕ) → length (plain_calls.reply_encoding (plain_reply.Done n)) ≤ MAX_FRAME_CONTENT
+unfolding plain_calls.reply_encoding
+done_fits n = omega (arith, two_words n 0)
+
 plain_shortage_short : (c : PlainCall) → IsShort (plain_shortage_of c)
 plain_shortage_short (call.Send message) = short_message _
 plain_shortage_short (call.Receive limit large name waited) = short_message _

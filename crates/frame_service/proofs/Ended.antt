@@ -2,7 +2,7 @@
 use Rattle.std.proofs.Common.{◌≡◌, ◌-◌, ◌^◌, inl, inr, List, [], ℕ, ◌++◌, Option, Some, IfSome, Result, Err, refl, sym, subst, ◌∙◌}
 use Rattle.std.specs.Io.KnownBytes.{Appends}
 use Rattle.std.proofs.lemmas.List.{append-nil}
-use Rattle.ipc_model.specs.declared.call.Call.{Call}
+use Rattle.calls.specs.declared.request.Request.{Request}
 use Rattle.ipc_model.specs.declared.reply.Reply.{Reply}
 use Rattle.ipc_model.specs.encodings.Encodings.{reply_encoding}
 use Rattle.store_fault.specs.declared.fault.StoreFault.{StoreFault}
@@ -21,7 +21,7 @@ pub part_whole : (out bytes : List ℕ) (new : Option (List ℕ)) → new ≡ So
     → AppendsPart (Some out) new bytes
 part_whole out bytes new is = (bytes, [], sym (append-nil bytes), subst (λ o. Appends (Some out) o bytes) (sym is) refl)
 
-module _ {C : Type 0} (answers : C → Call → Reply → C → Type 0) (fails : C → Call → StoreFault → C → Type 0)
+module _ {C : Type 0} (answers : C → Request → Reply → C → Type 0) (fails : C → Request → StoreFault → C → Type 0)
     (rests : C → C → Type 0) (breaks : C → StoreFault → C → Type 0) (old : C) (input before : List ℕ) where
   served_so_far : (mid : C) (left written : Option (List ℕ)) (count : ℕ)
       (so_far : Going answers rests old mid input before left written count)

@@ -3,7 +3,7 @@ use Rattle.std.proofs.Common.{◌≡◌, ℕ, Bool, true, false, cond, nat_lt, t
 use Rattle.std.proofs.lemmas.List.{append-nil}
 use Rattle.std.proofs.Math.Dec.{eqb-suc-zero}
 use Rattle.std.specs.Io.KnownBytes.{Appends, Keeps}
-use Rattle.ipc_model.specs.declared.call.Call.{Call}
+use Rattle.calls.specs.declared.request.Request.{Request}
 use Rattle.ipc_model.specs.declared.reply.Reply.{Reply}
 use Rattle.ipc_model.specs.encodings.Encodings.{reply_encoding}
 use Rattle.words.specs.Words.{frame_encoding}
@@ -27,7 +27,7 @@ keeps_is out old new e is = known new (subst (λ o. Keeps o new) e is)
     known None h = absurd h
     known (Some ys) h = ap (λ l. Some l) h
 
-module _ {C : Type 0} (answers : C → Call → Reply → C → Type 0) (rests : C → C → Type 0) where
+module _ {C : Type 0} (answers : C → Request → Reply → C → Type 0) (rests : C → C → Type 0) where
   -- some of the input was served
   pub record Going (old now : C) (input before : List ℕ) (left written : Option (List ℕ)) (count : ℕ) : Type 0 where
     pub exchanges : Exchanges

@@ -17,7 +17,7 @@ use Rattle.ipc_model.specs.declared.reply.Reply.{Reply}
 use Rattle.ipc_model.specs.declared.reply.Reply.TheVariants as reply
 use Rattle.ipc_model.specs.encodings.Encodings.{reply_encoding}
 use Rattle.store_fault.specs.declared.fault.StoreFault.{StoreFault}
-use Rattle.frame_service.specs.Serving.{IsRefused, LacksMemory, only_code, shortage_of}
+use Rattle.frame_service.specs.Serving.{IsRefused, LacksMemory, confine_shortage, only_code, shortage_of}
 use Rattle.frame_service.specs.declared.asking.PendingFrame.{PendingFrame}
 use Rattle.frame_service.specs.declared.asking.PendingFrame.TheVariants.{Settled, Waits}
 use Rattle.frame_service.specs.declared.asking.Ready.{Ready}
@@ -65,13 +65,19 @@ pub data Act (T : Type 0) : Type 0 where
   took : List ℕ → PendingFrame T → Act T
   acknowledged : Reply → Act T
 
--- A caller that is asked, as it describes itself: the reply that a ticket keeps, that a call was made for a ticket, and
--- that a call wasn't made because of a shortage of memory or of room for its record.
-module _ {C T : Type 0} (answer : T → Reply) (makes : C → Call → T → C → Type 0) (lacks : C → Call → C → Type 0) where
+-- A caller that is asked, as it describes itself: the reply that a ticket keeps, that what was asked for was done for a
+-- ticket, and that it wasn't because of a shortage of memory or of room for a record. It is asked for one call at a
+-- time, or to confine its connection.
+module _ {C T : Type 0} (answer : T → Reply) (makes : C → Request → T → C → Type 0) (lacks : C → Request → C → Type 0) where
   -- A call was made once, or it wasn't made, and its reply is known.
   abbrev pub AsksOne : C → Call → Ready T → C → Type 0
-  AsksOne old c (Made ticket) new = makes old c ticket new
-  AsksOne old c (Known known) new = (known ≡ shortage_of c) × lacks old c new
+  AsksOne old c (Made ticket) new = makes old (request.One c) ticket new
+  AsksOne old c (Known known) new = (known ≡ shortage_of c) × lacks old (request.One c) new
+
+  -- The same of a connection that was to be confined.
+  abbrev pub AsksConfine : C → Ready T → C → Type 0
+  AsksConfine old (Made ticket) new = makes old request.Confine ticket new
+  AsksConfine old (Known known) new = (known ≡ confine_shortage) × lacks old request.Confine new
 
   -- whether this is that a call was made and found nothing to do
   abbrev pub found_nothing : Ready T → Bool
@@ -84,7 +90,7 @@ module _ {C T : Type 0} (answer : T → Reply) (makes : C → Call → T → C �
   Tries old c bound left (Settled ready) new = AsksOne old c ready new × (bound ≡ None → found_nothing ready ≡ false)
   Tries old c bound left (Waits rest) new =
       (rest ≡ left) × (is_patient bound ≡ true)
-      × ((ticket : T) × makes old c ticket new × (timed_out (answer ticket) ≡ true))
+      × ((ticket : T) × makes old (request.One c) ticket new × (timed_out (answer ticket) ≡ true))
 
   -- whether a send that was done is in hand
   abbrev pub is_sent : Call → PendingFrame T → Bool
@@ -104,7 +110,7 @@ module _ {C T : Type 0} (answer : T → Reply) (makes : C → Call → T → C �
       (Tries old send m.send_timeout
       (left_of (Some (again send)) m.receive m.send_timeout m.receive_timeout) pending new
       × (is_sent send pending ≡ false))
-      ⊎ ((ticket : T) × (mid : C) × makes old send ticket mid × (succeeded (answer ticket) ≡ true)
+      ⊎ ((ticket : T) × (mid : C) × makes old (request.One send) ticket mid × (succeeded (answer ticket) ≡ true)
       × Tries mid receive m.receive_timeout
       (left_of None (Some (again receive)) m.send_timeout m.receive_timeout) pending new)
 
@@ -113,11 +119,16 @@ module _ {C T : Type 0} (answer : T → Reply) (makes : C → Call → T → C �
   TakesOne old c (Settled ready) new = AsksOne old c ready new
   TakesOne old c (Waits rest) new = ⊥
 
+  abbrev pub TakesConfine : C → PendingFrame T → C → Type 0
+  TakesConfine old (Settled ready) new = AsksConfine old ready new
+  TakesConfine old (Waits rest) new = ⊥
+
   abbrev pub TakesRequest : C → Request → PendingFrame T → C → Type 0
   TakesRequest old (request.One c) pending new = TakesOne old c pending new
   TakesRequest old (request.Message m) pending new = Proceeds old m m.send m.receive pending new
   TakesRequest old (request.Answered code) pending new =
       (pending ≡ Settled (Known (only_code code))) × (new ≡ old)
+  TakesRequest old request.Confine pending new = TakesConfine old pending new
 
   -- A frame of this content was taken in hand.
   abbrev pub IsTaken : C → List ℕ → PendingFrame T → C → Type 0
@@ -146,7 +157,7 @@ module _ {C T : Type 0} (answer : T → Reply) (makes : C → Call → T → C �
       × ((bound_of last ≡ None) ⊎ (2 ^ 64 - 1 ≤ count))
 
 -- and further: that a ticket's reply was given, and that the store failed before
-module _ {C T : Type 0} (answer : T → Reply) (makes : C → Call → T → C → Type 0) (lacks : C → Call → C → Type 0)
+module _ {C T : Type 0} (answer : T → Reply) (makes : C → Request → T → C → Type 0) (lacks : C → Request → C → Type 0)
     (acknowledges : C → T → C → Type 0) (fails : C → T → StoreFault → C → Type 0) where
   -- what waits for nothing was answered, or couldn't be
   abbrev pub IsGiven : C → Ready T → Reply → C → Type 0
@@ -207,7 +218,7 @@ replies_of (acknowledged reply ∷ acts) = frame_encoding (reply_encoding reply)
 abbrev pub IsLeft : List ℕ → Option (List ℕ) → Type 0
 IsLeft rest left = (left ≡ Some rest) ⊎ ((fault : WireFault) × IsReadOf rest (Err fault) left)
 
-module _ {C T : Type 0} (answer : T → Reply) (makes : C → Call → T → C → Type 0) (lacks : C → Call → C → Type 0)
+module _ {C T : Type 0} (answer : T → Reply) (makes : C → Request → T → C → Type 0) (lacks : C → Request → C → Type 0)
     (acknowledges : C → T → C → Type 0) (fails : C → T → StoreFault → C → Type 0) where
   -- So far: this rest of the input isn't taken, and what was sent is what was sent before and then the replies.
   pub record Went (old : C) (all_pending : List (PendingFrame T)) (now : C) (input before rest sent : List ℕ)

@@ -4,7 +4,7 @@ use Rattle.byteorder.specs.Endian.{little_number}
 use Rattle.calls.specs.Requests.{Asks, IsNumberedSend, IsSend}
 use Rattle.calls.specs.declared.request.Request.{Request}
 use Rattle.calls.specs.declared.request.Request.TheVariants as request
-use Rattle.codes.specs.declared.call_number.TheConstants.{MACH_MSG, NUMBERED}
+use Rattle.codes.specs.declared.call_number.TheConstants.{CONFINE, MACH_MSG, NUMBERED}
 use Rattle.codes.specs.declared.kern_return.KernReturn.{KernReturn}
 use Rattle.codes.specs.declared.kern_return.KernReturn.TheVariants.{Success, InvalidArgument, ResourceShortage, SendNoBuffer, RcvHeaderErrorKernel}
 use Rattle.codes.specs.declared.name.TheConstants.{MACH_PORT_NULL}
@@ -46,34 +46,39 @@ shortage_of (Plain c) = reply.Plain (plain_shortage_of c)
 shortage_of (Numbered numbered) = reply.Plain (Refused NUMBERED ResourceShortage)
 shortage_of Unnumberable = reply.Plain (Refused NUMBERED ResourceShortage)
 
+-- and where a connection was to be confined
+abbrev pub confine_shortage : Reply
+confine_shortage = refused_of CONFINE ResourceShortage
+
 -- a step of the machine, or, where memory or room for a record runs out, nothing but that refusal
 abbrev pub StepOrShortage : State → ℕ → Call → Reply → State → Type 0
 StepOrShortage old space c answer new =
     Step old space c answer new ⊎ ((answer ≡ shortage_of c) × (new ≡ old))
 
 -- A send, and a receive if the send's code is 0: two calls, of which the last that was made is answered.
-abbrev pub AnswersBoth : {C : Type 0} → (C → Call → Reply → C → Type 0) → C → Call → Call → Reply → C → Type 0
+abbrev pub AnswersBoth : {C : Type 0} → (C → Request → Reply → C → Type 0) → C → Call → Call → Reply → C → Type 0
 AnswersBoth {C} answers old send receive answer new =
-    (sent : Reply) × (mid : C) × answers old send sent mid
-    × MatchBool (succeeded sent) (answers mid receive answer new) ((answer ≡ sent) × (new ≡ mid))
+    (sent : Reply) × (mid : C) × answers old (request.One send) sent mid
+    × MatchBool (succeeded sent) (answers mid (request.One receive) answer new) ((answer ≡ sent) × (new ≡ mid))
 
 -- a mach_msg that asks for a send, a receive, both or neither got this answer
-abbrev pub AnswersMessage : {C : Type 0} → (C → Call → Reply → C → Type 0) → C → Option Call → Option Call → Reply → C
+abbrev pub AnswersMessage : {C : Type 0} → (C → Request → Reply → C → Type 0) → C → Option Call → Option Call → Reply → C
     → Type 0
 AnswersMessage answers old None None answer new = (answer ≡ only_code Success) × (new ≡ old)
-AnswersMessage answers old (Some send) None answer new = answers old send answer new
-AnswersMessage answers old None (Some receive) answer new = answers old receive answer new
+AnswersMessage answers old (Some send) None answer new = answers old (request.One send) answer new
+AnswersMessage answers old None (Some receive) answer new = answers old (request.One receive) answer new
 AnswersMessage answers old (Some send) (Some receive) answer new = AnswersBoth answers old send receive answer new
 
 -- what a frame asks for got this answer
-abbrev pub AnswersRequest : {C : Type 0} → (C → Call → Reply → C → Type 0) → C → Request → Reply → C → Type 0
-AnswersRequest answers old (request.One c) answer new = answers old c answer new
+abbrev pub AnswersRequest : {C : Type 0} → (C → Request → Reply → C → Type 0) → C → Request → Reply → C → Type 0
+AnswersRequest answers old (request.One c) answer new = answers old (request.One c) answer new
 AnswersRequest answers old (request.Message m) answer new = AnswersMessage answers old m.send m.receive answer new
 AnswersRequest answers old (request.Answered code) answer new =
     (answer ≡ only_code code) × (new ≡ old)
+AnswersRequest answers old request.Confine answer new = answers old request.Confine answer new
 
 -- a frame whose content asks for something got this answer
-abbrev pub IsServed : {C : Type 0} → (C → Call → Reply → C → Type 0) → C → List ℕ → Reply → C → Type 0
+abbrev pub IsServed : {C : Type 0} → (C → Request → Reply → C → Type 0) → C → List ℕ → Reply → C → Type 0
 IsServed answers old content answer new =
     (asks : Request) × Asks content asks × AnswersRequest answers old asks answer new
 
@@ -95,7 +100,7 @@ abbrev pub LacksMemory : {C : Type 0} → C → List ℕ → Reply → C → Typ
 LacksMemory old content answer new = IsLacking content answer × (new ≡ old)
 
 -- A frame with this content got this answer.
-abbrev pub IsAnswered : {C : Type 0} → (C → Call → Reply → C → Type 0) → C → List ℕ → Reply → C → Type 0
+abbrev pub IsAnswered : {C : Type 0} → (C → Request → Reply → C → Type 0) → C → List ℕ → Reply → C → Type 0
 IsAnswered answers old content answer new =
     IsServed answers old content answer new ⊎ (IsRefused old content answer new ⊎ LacksMemory old content answer new)
 
@@ -104,7 +109,7 @@ abbrev pub Exchanges : Type 0
 Exchanges = List (List ℕ × Reply)
 
 -- the caller answered these, one after another, and was given time after each
-abbrev pub Answers : {C : Type 0} → (C → Call → Reply → C → Type 0) → (C → C → Type 0) → C → Exchanges → C → Type 0
+abbrev pub Answers : {C : Type 0} → (C → Request → Reply → C → Type 0) → (C → C → Type 0) → C → Exchanges → C → Type 0
 Answers answers rests old [] new = new ≡ old
 Answers {C} answers rests old (exchange ∷ exchanges) new =
     (mid later : C) × IsAnswered answers old exchange.0 exchange.1 mid × rests mid later
@@ -121,7 +126,7 @@ replies_encoding (exchange ∷ exchanges) = frame_encoding (reply_encoding excha
 
 -- All of the input was served: it is the frames of these exchanges, nothing of it is left, and their replies were
 -- written after what was written before.
-pub record ServesAll {C : Type 0} (answers : C → Call → Reply → C → Type 0) (rests : C → C → Type 0) (old new : C)
+pub record ServesAll {C : Type 0} (answers : C → Request → Reply → C → Type 0) (rests : C → C → Type 0) (old new : C)
     (input before : List ℕ) (left written : Option (List ℕ)) : Type 0 where
   pub exchanges : Exchanges
   pub calls : Answers answers rests old exchanges new
@@ -131,34 +136,36 @@ pub record ServesAll {C : Type 0} (answers : C → Call → Reply → C → Type
 
 -- How the calls that a frame asks for fail in the store: one of them did. The receive of a mach_msg is called only
 -- after a send whose code is 0.
-abbrev pub FailsBoth : {C : Type 0} → (C → Call → Reply → C → Type 0) → (C → Call → StoreFault → C → Type 0) → C → Call
+abbrev pub FailsBoth : {C : Type 0} → (C → Request → Reply → C → Type 0) → (C → Request → StoreFault → C → Type 0) → C → Call
     → Call → StoreFault → C → Type 0
 FailsBoth {C} answers fails old send receive fault new =
-    fails old send fault new ⊎ ((sent : Reply) × (mid : C) × answers old send sent mid × (succeeded sent ≡ true)
-    × fails mid receive fault new)
+    fails old (request.One send) fault new
+    ⊎ ((sent : Reply) × (mid : C) × answers old (request.One send) sent mid × (succeeded sent ≡ true)
+    × fails mid (request.One receive) fault new)
 
-abbrev pub FailsMessage : {C : Type 0} → (C → Call → Reply → C → Type 0) → (C → Call → StoreFault → C → Type 0) → C
+abbrev pub FailsMessage : {C : Type 0} → (C → Request → Reply → C → Type 0) → (C → Request → StoreFault → C → Type 0) → C
     → Option Call → Option Call → StoreFault → C → Type 0
 FailsMessage answers fails old None None fault new = ⊥
-FailsMessage answers fails old (Some send) None fault new = fails old send fault new
-FailsMessage answers fails old None (Some receive) fault new = fails old receive fault new
+FailsMessage answers fails old (Some send) None fault new = fails old (request.One send) fault new
+FailsMessage answers fails old None (Some receive) fault new = fails old (request.One receive) fault new
 FailsMessage answers fails old (Some send) (Some receive) fault new = FailsBoth answers fails old send receive fault new
 
-abbrev pub FailsRequest : {C : Type 0} → (C → Call → Reply → C → Type 0) → (C → Call → StoreFault → C → Type 0) → C
+abbrev pub FailsRequest : {C : Type 0} → (C → Request → Reply → C → Type 0) → (C → Request → StoreFault → C → Type 0) → C
     → Request → StoreFault → C → Type 0
-FailsRequest answers fails old (request.One c) fault new = fails old c fault new
+FailsRequest answers fails old (request.One c) fault new = fails old (request.One c) fault new
 FailsRequest answers fails old (request.Message m) fault new = FailsMessage answers fails old m.send m.receive fault new
 FailsRequest answers fails old (request.Answered code) fault new = ⊥
+FailsRequest answers fails old request.Confine fault new = fails old request.Confine fault new
 
 -- what a frame's content asks for failed in the store with this fault
-abbrev pub IsFailed : {C : Type 0} → (C → Call → Reply → C → Type 0) → (C → Call → StoreFault → C → Type 0) → C → List ℕ
+abbrev pub IsFailed : {C : Type 0} → (C → Request → Reply → C → Type 0) → (C → Request → StoreFault → C → Type 0) → C → List ℕ
     → StoreFault → C → Type 0
 IsFailed answers fails old content fault new =
     (asks : Request) × Asks content asks × FailsRequest answers fails old asks fault new
 
 -- Some of the input was served: the frames of these exchanges stood at its front, followed by the rest, and what was
 -- written before and their replies is all that is sent.
-pub record Exchanged {C : Type 0} (answers : C → Call → Reply → C → Type 0) (rests : C → C → Type 0) (old now : C)
+pub record Exchanged {C : Type 0} (answers : C → Request → Reply → C → Type 0) (rests : C → C → Type 0) (old now : C)
     (input before rest sent : List ℕ) : Type 0 where
   pub exchanges : Exchanges
   pub calls : Answers answers rests old exchanges now
@@ -166,7 +173,7 @@ pub record Exchanged {C : Type 0} (answers : C → Call → Reply → C → Type
   pub replies : sent ≡ before ++ replies_encoding exchanges
 
 -- A connection that ends with a fault, by where it ends.
-module _ {C : Type 0} (answers : C → Call → Reply → C → Type 0) (fails : C → Call → StoreFault → C → Type 0)
+module _ {C : Type 0} (answers : C → Request → Reply → C → Type 0) (fails : C → Request → StoreFault → C → Type 0)
     (rests : C → C → Type 0) (breaks : C → StoreFault → C → Type 0) (old new : C) (input before : List ℕ)
     (left written : Option (List ℕ)) where
   -- there is no memory for the replies before anything is read

@@ -1,14 +1,14 @@
 ghost use Rattle.std.specs.Prelude.{◌≡◌, ◌≤◌, length, IfErr, IfNone, IfOk, IfSome};
 ghost use Rattle.codes.specs.declared.limits.TheConstants.{MAX_FRAME_CONTENT};
 ghost use Rattle.ipc_model.specs.calls.Step.{succeeded};
-ghost use Rattle.ipc_model.specs.declared.call.Call.{Call};
+ghost use Rattle.calls.specs.declared.request.Request.{Request};
 ghost use Rattle.ipc_model.specs.declared.reply.Reply.{Reply};
 ghost use Rattle.ipc_model.specs.encodings.Encodings.{reply_encoding};
 ghost use Rattle.store_fault.specs.declared.fault.StoreFault.{StoreFault};
 ghost use Rattle.frame_service.specs.Asking.{timed_out};
 
 use crate::short_reply::ShortReply;
-use calls::MessageRequest;
+use calls::{MessageRequest, Request};
 use ipc_model::{Call, Reply};
 use store_fault::StoreFault;
 
@@ -41,11 +41,12 @@ pub trait Asker {
     /// The reply that a ticket keeps.
     ghost answer: { Self.Ticket → Reply };
 
-    /// What it is after a call for which it returned a ticket.
-    ghost makes: { Self → Call → Self.Ticket → Self → Type 0 };
+    /// What it is after it returned a ticket for what it was asked for. It is asked for one call at a time, or to
+    /// confine its connection.
+    ghost makes: { Self → Request → Self.Ticket → Self → Type 0 };
 
-    /// What it is after a call that it didn't make, since memory or room for the record ran out, or its task has gone.
-    ghost lacks: { Self → Call → Self → Type 0 };
+    /// What it is after it didn't do that, since memory or room for the record ran out, or its task has gone.
+    ghost lacks: { Self → Request → Self → Type 0 };
 
     /// What it is after it gave a ticket's reply.
     ghost acknowledges: { Self → Self.Ticket → Self → Type 0 };
@@ -64,8 +65,14 @@ pub trait Asker {
     /// Makes a call. If the call finds nothing to do and may wait, its wait begins. `None`: it isn't made, since memory
     /// or room for its record ran out, or its task has gone.
     fn submit(&mut self, call: &Call, may_wait: bool) -> Option<Self::Ticket>
-        ensures makes { IfSome result (λ ticket. makes self.old call.now ticket self.new) }
-        ensures lacks { IfNone result (lacks self.old call.now self.new) };
+        ensures makes { IfSome result (λ ticket. makes self.old (Request.One call.now) ticket self.new) }
+        ensures lacks { IfNone result (lacks self.old (Request.One call.now) self.new) };
+
+    /// Confines its connection to the space that it is attached to. The ticket keeps the reply of number 23. `None`: it
+    /// isn't confined, since memory ran out.
+    fn confine(&mut self) -> Option<Self::Ticket>
+        ensures makes { IfSome result (λ ticket. makes self.old Request.Confine ticket self.new) }
+        ensures lacks { IfNone result (lacks self.old Request.Confine self.new) };
 
     /// Whether a ticket's call was done, which is code 0.
     fn is_done(&self, ticket: &Self::Ticket) -> bool

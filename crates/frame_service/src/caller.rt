@@ -2,12 +2,13 @@ ghost use Rattle.std.specs.Prelude.{◌≡◌, ◌≤◌, false, length, IfErr, 
 ghost use Rattle.ipc_model.specs.calls.PlainStep as plain;
 ghost use Rattle.ipc_model.specs.calls.Step.{has_record};
 ghost use Rattle.ipc_model.specs.encodings.PlainCalls as plain_calls;
-ghost use Rattle.ipc_model.specs.declared.call.Call.{Call};
+ghost use Rattle.calls.specs.declared.request.Request.{Request};
 ghost use Rattle.ipc_model.specs.declared.reply.Reply.{Reply};
 ghost use Rattle.ipc_model.specs.encodings.Encodings.{reply_encoding};
 ghost use Rattle.store_fault.specs.declared.fault.StoreFault.{StoreFault};
 ghost use Rattle.frame_service.specs.Serving.{plain_shortage_of, shortage_of};
 
+use calls::Request;
 use codes::{KernReturn, MACH_PORT_NULL, MAX_FRAME_CONTENT, NUMBERED};
 use ipc_model::{Call, PlainCall, PlainReply, Reply};
 use std::alloc::Global;
@@ -15,11 +16,12 @@ use store_fault::StoreFault;
 
 /// Makes the calls of a connection.
 pub trait Caller {
-    /// What it may answer to a call, and what it is afterwards.
-    ghost answers: { Self → Call → Reply → Self → Type 0 };
+    /// What it may answer to what it is asked for, and what it is afterwards. It is asked for one call at a time, or to
+    /// confine its connection.
+    ghost answers: { Self → Request → Reply → Self → Type 0 };
 
-    /// How a call may fail in the store, and what it is afterwards.
-    ghost fails: { Self → Call → StoreFault → Self → Type 0 };
+    /// How that may fail in the store, and what it is afterwards.
+    ghost fails: { Self → Request → StoreFault → Self → Type 0 };
 
     /// What it may be after it was given time between two frames.
     ghost rests: { Self → Self → Type 0 };
@@ -29,9 +31,15 @@ pub trait Caller {
 
     /// Makes a call. A reply is given only when all that it reports is stored, and it fits in a frame.
     fn call(&mut self, call: Call) -> Result<Reply, StoreFault>
-        ensures answers { IfOk result (λ reply. answers self.old call reply self.new) }
+        ensures answers { IfOk result (λ reply. answers self.old (Request.One call) reply self.new) }
         ensures fits { IfOk result (λ reply. length (reply_encoding reply) ≤ MAX_FRAME_CONTENT) }
-        ensures fails { IfErr result (λ fault. fails self.old call fault self.new) };
+        ensures fails { IfErr result (λ fault. fails self.old (Request.One call) fault self.new) };
+
+    /// Confines its connection to the space that it is attached to. The reply is that of number 23.
+    fn confine(&mut self) -> Result<Reply, StoreFault>
+        ensures answers { IfOk result (λ reply. answers self.old Request.Confine reply self.new) }
+        ensures fits { IfOk result (λ reply. length (reply_encoding reply) ≤ MAX_FRAME_CONTENT) }
+        ensures fails { IfErr result (λ fault. fails self.old Request.Confine fault self.new) };
 
     /// Takes time after a frame's reply was written, for what no reply waits for. Returns whether there was memory for
     /// it.

@@ -123,6 +123,7 @@ fn answer_request<C: Caller>(
         Request::One(call) => caller.call(call),
         Request::Message(message) => answer_message(alloc, caller, message.send, message.receive),
         Request::Answered(code) => Ok(only_code(alloc, code)),
+        Request::Confine => caller.confine(),
     }
 }
 

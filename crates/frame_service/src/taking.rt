@@ -1,13 +1,15 @@
 ghost use Rattle.std.specs.Prelude.{◌≡◌, ◌⊎◌, true, false, None, Some, IfErr, IfOk};
 ghost use Rattle.ipc_model.specs.calls.Step.{succeeded};
+ghost use Rattle.calls.specs.declared.request.Request.{Request};
 ghost use Rattle.ipc_model.specs.declared.call.Call.{Call};
-ghost use Rattle.frame_service.specs.Asking.{AsksOne, IsTaken, Proceeds, TakesRequest, Tries, again, found_nothing, is_patient, is_sent, left_of, timed_out};
-ghost use Rattle.frame_service.specs.Serving.{only_code, shortage_of};
+ghost use Rattle.frame_service.specs.Asking.{AsksConfine, AsksOne, IsTaken, Proceeds, TakesRequest, Tries, again, found_nothing, is_patient, is_sent, left_of, timed_out};
+ghost use Rattle.frame_service.specs.Serving.{confine_shortage, only_code, shortage_of};
 ghost use Rattle.frame_service.specs.declared.asking.PendingFrame.TheVariants.{Settled, Waits};
 ghost use Rattle.frame_service.specs.declared.asking.Ready.TheVariants as ready;
 
 use crate::asking::{Asker, PendingFrame, Ready};
 use crate::caller::shortage;
+use crate::confining::confine_shortage;
 use crate::service::{no_call, no_memory, only_code};
 use crate::short_reply::ShortReply;
 use calls::{CallFault, MessageRequest, Request, read_request};
@@ -60,6 +62,7 @@ fn take_request<A: Asker>(alloc: Global, asker: &mut A, asked: Request) -> Pendi
         Request::One(call) => PendingFrame::Settled(ask_one(alloc, asker, &call)),
         Request::Message(message) => proceed(alloc, asker, message, true),
         Request::Answered(code) => PendingFrame::Settled(known_code(alloc, code)),
+        Request::Confine => PendingFrame::Settled(ask_to_confine(alloc, asker)),
     }
 }
 
@@ -71,6 +74,23 @@ fn ask_one<A: Asker>(alloc: Global, asker: &mut A, call: &Call) -> Ready<A::Tick
         Some(ticket) => Ready::Made(ticket),
         None => lacking(alloc, call),
     }
+}
+
+/// Confines the connection.
+fn ask_to_confine<A: Asker>(alloc: Global, asker: &mut A) -> Ready<A::Ticket>
+    ensures { AsksConfine A.answer A.makes A.lacks asker.old result asker.new }
+{
+    match asker.confine() {
+        Some(ticket) => Ready::Made(ticket),
+        None => unconfined(alloc),
+    }
+}
+
+/// The answer to number 23 where memory ran out.
+fn unconfined<T>(alloc: Global) -> Ready<T>
+    ensures { result ≡ ready.Known confine_shortage }
+{
+    Ready::Known(ShortReply::new(confine_shortage(alloc)))
 }
 
 /// Makes the calls of a `mach_msg` as far as they can be made now. One that finds nothing to do and may wait is left to
@@ -156,7 +176,7 @@ fn send_and_receive<A: Asker>(
     ensures { (Tries A.answer A.makes A.lacks asker.old send bounds.send
         (left_of (Some (again send)) (Some receive) bounds.send bounds.receive) result asker.new
         × (is_sent A.answer A.makes A.lacks send result ≡ false))
-        ⊎ ((ticket : A.Ticket) × (mid : A) × A.makes asker.old send ticket mid
+        ⊎ ((ticket : A.Ticket) × (mid : A) × A.makes asker.old (Request.One send) ticket mid
         × (succeeded (A.answer ticket) ≡ true)
         × Tries A.answer A.makes A.lacks mid receive bounds.receive
         (left_of None (Some (again receive)) bounds.send bounds.receive) result asker.new) }
@@ -208,7 +228,7 @@ fn try_call<A: Asker>(
         (λ ready. bound ≡ None → found_nothing A.answer A.makes A.lacks ready ≡ false) }
     ensures again { IfErr result (λ next. next ≡ again call) }
     ensures patient { IfErr result (λ next. is_patient bound ≡ true) }
-    ensures found { IfErr result (λ next. (ticket : A.Ticket) × A.makes asker.old call ticket asker.new
+    ensures found { IfErr result (λ next. (ticket : A.Ticket) × A.makes asker.old (Request.One call) ticket asker.new
         × (timed_out (A.answer ticket) ≡ true)) }
 {
     let may_wait = may_wait && is_patient(bound);

@@ -154,7 +154,8 @@ code_among n (first ∷ codes) = if number_of first == n then first else code_am
 
 abbrev all_codes : List KernReturn
 all_codes =
-    code.Success ∷ code.NoSpace ∷ code.InvalidArgument ∷ code.Failure ∷ code.ResourceShortage ∷ code.NotInSet ∷
+    code.Success ∷ code.NoSpace ∷ code.InvalidArgument ∷ code.Failure ∷ code.ResourceShortage ∷ code.NoAccess ∷
+    code.NotInSet ∷
     code.NameExists ∷ code.InvalidName
     ∷ code.InvalidTask ∷ code.InvalidRight ∷ code.InvalidValue ∷ code.UrefsOverflow ∷ code.InvalidCapability ∷
     code.RightExists ∷ code.SendInvalidDest ∷ code.SendTimedOut
@@ -173,6 +174,7 @@ code_back code.NoSpace = refl
 code_back code.InvalidArgument = refl
 code_back code.Failure = refl
 code_back code.ResourceShortage = refl
+code_back code.NoAccess = refl
 code_back code.NotInSet = refl
 code_back code.NameExists = refl
 code_back code.InvalidName = refl
@@ -206,6 +208,7 @@ code-fits code.NoSpace = omega arith
 code-fits code.InvalidArgument = omega arith
 code-fits code.Failure = omega arith
 code-fits code.ResourceShortage = omega arith
+code-fits code.NoAccess = omega arith
 code-fits code.NotInSet = omega arith
 code-fits code.NameExists = omega arith
 code-fits code.InvalidName = omega arith

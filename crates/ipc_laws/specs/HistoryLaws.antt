@@ -8,7 +8,7 @@ use Rattle.ipc_model.specs.declared.reply.Reply.{Reply}
 use Rattle.ipc_model.specs.declared.record.Record.{Record}
 use Rattle.ipc_model.specs.calls.Step.{Run, has_record}
 use Rattle.ipc_model.specs.state.State.{State}
-use Rattle.ipc_model.specs.history.History.{Session, Operation, called, redeemed, redeemed_for_another, looked, IsAnswered, IsAcknowledgedUpTo, Leads, After, AfterAll, IsNew, Legal, Meet}
+use Rattle.ipc_model.specs.history.History.{Session, Operation, called, redeemed, redeemed_for_another, looked, detached, IsAnswered, IsAcknowledgedUpTo, Leads, After, AfterAll, IsNew, Legal, Meet}
 
 -- places ascend, from a least one on, and lie below a number
 abbrev pub AscendWithin : ℕ → ℕ → List ℕ → Type 0
@@ -71,6 +71,13 @@ led_order base history old looked new more within led order =
       acknowledged = omega (arith, more, order.acknowledged);
       places = ascend_further 0 old.seen new.seen old.places more order.places;
     })
+led_order base history old detached new more within led order =
+    subst (IsInOrder history) (sym led)
+    (record {
+      seen = within;
+      acknowledged = omega (arith, more, order.acknowledged);
+      places = ascend_further 0 old.seen new.seen old.places more order.places;
+    })
 
 lived_order : (base : State) (history : List Record) (old : Session) (operations : List Operation) (new : Session)
     → AfterAll base history old operations new → IsInOrder history old → IsInOrder history new
@@ -121,6 +128,7 @@ recorded_calls (called c answer ∷ operations) =
 recorded_calls (redeemed seen ∷ operations) = recorded_calls operations
 recorded_calls (redeemed_for_another seen ∷ operations) = recorded_calls operations
 recorded_calls (looked ∷ operations) = recorded_calls operations
+recorded_calls (detached ∷ operations) = recorded_calls operations
 
 -- the call and reply that stand at a place
 abbrev pub call_at : List Record → ℕ → Option (Call × Reply)
@@ -170,6 +178,9 @@ lived_calls base history old (redeemed_for_another seen ∷ operations) new (mid
 lived_calls base history old (looked ∷ operations) new (mid, after, rest) =
     lived_calls base history mid operations new rest ∙ ap
     (λ (s : Session). map (call_at history) s.places ++ some_calls (recorded_calls operations)) after.leads
+lived_calls base history old (detached ∷ operations) new (mid, after, rest) =
+    lived_calls base history mid operations new rest ∙ ap
+    (λ (s : Session). map (call_at history) s.places ++ some_calls (recorded_calls operations)) after.leads
 
 -- At a legal session's places stand its calls with records, in their order, and nothing else.
 abbrev pub PlacesHoldCalls : Type 0
@@ -216,6 +227,7 @@ led_further base history more old (called c answer) new within (inr is) = inr (r
 led_further base history more old (redeemed seen) new within led = led
 led_further base history more old (redeemed_for_another seen) new within led = led
 led_further base history more old looked new within led = led
+led_further base history more old detached new within led = led
 
 lived_further : (base : State) (history more : List Record) (old : Session) (operations : List Operation)
     (new : Session) → AfterAll base history old operations new → AfterAll base (history ++ more) old operations new

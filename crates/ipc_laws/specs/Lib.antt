@@ -7,6 +7,7 @@ pub mod CanonicalRecords
 pub mod Circles
 pub mod Counted
 pub mod Dangling
+pub mod DetachedLaws
 pub mod EffectParts
 pub mod EffectRanks
 pub mod EffectWeights

@@ -4,6 +4,7 @@ ghost use Rattle.ipc_laws.specs.NumberedSteps.{OneNewState, StepsKeepLawful};
 ghost use Rattle.ipc_laws.specs.RunsKeep.{OneRun, RunsKeepLawful};
 ghost use Rattle.ipc_laws.specs.EffectRanks.{EffectsKeepAcyclic, SettledIsLawful};
 ghost use Rattle.ipc_laws.specs.EffectsKeep.{EffectsKeepLawful};
+ghost use Rattle.ipc_laws.specs.DetachedLaws.{DetachedIsRefused, GoneIsRefused, OwnAttachAsks};
 ghost use Rattle.ipc_laws.specs.HistoryLaws.{LegalIsInOrder, LegalStaysLegal, MeetingIsLegal, PlacesHoldCalls, ReadsOwnWrites};
 ghost use Rattle.ipc_laws.specs.ImageLaws.{ImagesHaveOneEncoding};
 ghost use Rattle.ipc_laws.specs.ItemLaws.{ItemsTileBodies, TiledBodiesHaveItems};
@@ -264,6 +265,21 @@ pub fn legal_stays_legal()
 /// Two legal sessions of one history are legal after they have met.
 pub fn meeting_is_legal()
     ensures { MeetingIsLegal }
+{}
+
+/// A task whose space isn't there is refused every call, and nothing changes.
+pub fn gone_is_refused()
+    ensures { GoneIsRefused }
+{}
+
+/// So is a task that is attached to no space, whatever spaces are made.
+pub fn detached_is_refused()
+    ensures { DetachedIsRefused }
+{}
+
+/// An attach to the space that its task is attached to asks whether that space is there, and changes nothing.
+pub fn own_attach_asks()
+    ensures { OwnAttachAsks }
 {}
 
 /// If the sessions are all that there were, each record of a legal history stands at a place of one of them.

@@ -3,13 +3,14 @@ use Rattle.std.proofs.Common.{◌≡◌, ℕ, zero, suc, ◌⊎◌, List, [], �
 use Rattle.std.specs.Prelude.{option_map, slice_get}
 use Rattle.std.proofs.lemmas.List.{length-map}
 use Rattle.std.proofs.Math.Seq.{take-length}
+use Rattle.codes.specs.declared.name.TheConstants.{NO_SPACE}
 use Rattle.history.proofs.Beginnings.{begins_itself, begins_length, begins_records, begins_rest}
 use Rattle.history.specs.Entries.{Begins, records_of}
 use Rattle.history.specs.Pasts.{PastValue}
 use Rattle.history.specs.declared.entry.Entry.{Entry}
 use Rattle.ipc_laws.specs.HistoryLaws.{after_more, legal_stays_legal}
 use Rattle.ipc_model.specs.declared.record.Record.{Record}
-use Rattle.ipc_model.specs.history.History.{Operation, looked, Legal}
+use Rattle.ipc_model.specs.history.History.{Operation, detached, looked, Legal}
 use Rattle.ipc_model.specs.state.State.{State}
 use Rattle.kernel_keeper.specs.Tokens.{SessionValue, AreOwn, IsHistory, IsSession, Did}
 
@@ -113,3 +114,32 @@ has_read base old past amount count is session =
     let same : past.entries ≡ old.past.entries = ap (λ (p : PastValue). p.entries) is in
     looks base old past amount (subst (IsHistory base) (sym same) session.history) session
     (subst (Begins old.past.entries) (sym same) (begins_itself old.past.entries))
+
+-- A session whose space has gone.
+
+abbrev pub detaching : SessionValue → SessionValue
+detaching old =
+    record {
+      number = old.number;
+      past = old.past;
+      task = record old.task { space = NO_SPACE; seen = length old.past.entries };
+    }
+
+pub did_detach : (base : State) (old : SessionValue) → old.task.seen ≡ length old.past.entries
+    → Did base old detached (detaching old)
+did_detach base old seen = record {
+  after =
+      record {
+        leads = refl;
+        more = omega (arith, seen);
+        within = omega (arith, length-map old.past.entries (λ (e : Entry). e.«record»));
+      };
+  begins = begins_itself old.past.entries;
+  same = refl;
+}
+
+pub detaches : (base : State) (old : SessionValue) (amount : ℕ) → IsSession base old amount
+    → IsSession base (detaching old) amount
+detaches base old amount is =
+    did_session base old detached (detaching old) amount amount is.history is (did_detach base old is.seen) refl is.own
+    is.counted

@@ -1,6 +1,6 @@
 ghost use Rattle.std.specs.Prelude.{◌≡◌, ◌⊎◌, ◌+◌, ◌<◌, ◌≤◌, ◌∷◌, [], ◌++◌, Some, false, length, IfOk, IfErr, IfSome, IfNone, IsErrOf, MatchBool, OnErr};
 ghost use Rattle.codes.specs.declared.name.TheConstants.{FIRST_SPACE};
-ghost use Rattle.ipc_model.specs.history.History.{called, looked, space_after};
+ghost use Rattle.ipc_model.specs.history.History.{called, detached, looked, space_after};
 ghost use Rattle.ipc_model.specs.state.Circular.{Acyclic};
 ghost use Rattle.ipc_model.specs.state.LawfulState.{LawfulState};
 ghost use Rattle.kernel_keeper.specs.Keeping.{Ends, IsApart, IsSame, Loads, Makes, entries_in, first_core};
@@ -13,6 +13,7 @@ ghost use Rattle.waiting.specs.Waiting.{Wakes};
 use crate::acknowledged::Acknowledged;
 use crate::admissions::Admission;
 use crate::counting::Tally;
+use crate::destructions::Destructions;
 use crate::making::KernelCore;
 use crate::session::{Session, SessionState};
 use boxcar::tag::{Names, Tag};
@@ -34,14 +35,20 @@ use waiting::Places;
 pub struct KernelKeeper<L: Founding> {
     core: KernelCore<L>,
     book: Book<L>,
+    destructions: Destructions,
 }
 
 // Written out, so that proofs above know one function and not its parts.
 impl<L: Founding> Drop for KernelKeeper<L> {
     fn drop(self) {
-        let KernelKeeper { core, book } = self;
+        let KernelKeeper {
+            core,
+            book,
+            destructions,
+        } = self;
         drop(core);
         drop(book);
+        drop(destructions);
     }
 }
 
@@ -67,6 +74,7 @@ impl<L: Founding> KernelKeeper<L> {
         records: u64,
         past: Past<L>,
         book: Book<L>,
+        destructions: Destructions,
     ) -> Self
         requires base { (kernel ≡ L.base) × LawfulState L.base × Acyclic L.base.ipc }
         requires none { (past.entries ≡ []) × (book.total ≡ 0) }
@@ -75,6 +83,7 @@ impl<L: Founding> KernelKeeper<L> {
         KernelKeeper {
             core: KernelCore::new(alloc, kernel, epoch, records, past),
             book,
+            destructions,
         }
     }
 
@@ -104,9 +113,8 @@ impl<L: Founding> KernelKeeper<L> {
     {
         let Session { own_state, past } = session;
         let before = self.core.made();
-        let (past, made) = self
-            .core
-            .apply(own_state.number, own_state.space, past, call, places);
+        let space = own_state.space;
+        let (past, made) = self.core.apply(own_state.number, space, past, call, places);
         match made {
             Ok(ticket) => {
                 let mut own_state = own_state;
@@ -118,6 +126,8 @@ impl<L: Founding> KernelKeeper<L> {
                     call,
                     &ticket,
                 );
+                self.destructions
+                    .note(space, call, before, past.len() as u64);
                 (Session { own_state, past }, Ok(ticket))
             }
             Err(fault) => (Session { own_state, past }, Err(fault)),
@@ -126,6 +136,19 @@ impl<L: Founding> KernelKeeper<L> {
 }
 
 impl<L: Founding> KernelKeeper<L> {
+    /// The session of a task that is confined to its space since so many records were made. If the space was destroyed
+    /// after these, it is detached, whether or not there is a new space under the number.
+    pub fn settle(&self, session: Session<L>, since: u64) -> Session<L>
+        ensures settled { (result ≡ session) ⊎ Did L.base session detached result }
+        ensures reads { KeepsRead session.past result.past }
+    {
+        if self.destructions.has_since(session.own_state.space, since) {
+            session.detach()
+        } else {
+            session
+        }
+    }
+
     /// The places where a call of a session waits if it finds nothing to do. `None`: an allocation failed, or it is a
     /// send that is refused whatever its names stand for.
     pub fn places_of_call(&self, session: &Session<L>, call: &Call) -> Option<Vec<u128>>
@@ -174,7 +197,12 @@ impl<L: Founding> KernelKeeper<L> {
         ensures history { IsHistory L.base result.past.entries }
         ensures counted { result.book.total ≡ length result.past.entries }
     {
-        let KernelKeeper { core, book } = self;
+        let KernelKeeper {
+            core,
+            book,
+            destructions,
+        } = self;
+        drop(destructions);
         Tally {
             past: core.into_past(),
             book,

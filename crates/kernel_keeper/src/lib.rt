@@ -7,6 +7,7 @@ mod admissions;
 mod both_pasts;
 mod copies;
 mod counting;
+mod destructions;
 mod keeper;
 mod making;
 mod meeting;
@@ -14,6 +15,7 @@ mod session;
 mod showing;
 
 pub use admissions::{Admission, Admissions, MOST_SESSIONS};
+pub use destructions::Destructions;
 pub use history::{EntryBlock, Founding, Past};
 pub use keeper::KernelKeeper;
 pub use meeting::{MeetFault, Unmet, meet};

@@ -1,11 +1,12 @@
 ghost use Rattle.std.specs.Prelude.{◌≡◌, ◌⊎◌, ◌+◌, ◌≤◌, ◌<◌, ◌-◌, Some, length, option_map, slice_get, IfOk, IfErr, MatchOption, OnOk, OnErr};
 ghost use Rattle.codes.specs.declared.limits.TheConstants.{MAX_FRAME_CONTENT};
-ghost use Rattle.ipc_model.specs.history.History.{looked, redemption};
+ghost use Rattle.ipc_model.specs.history.History.{detached, looked, redemption};
 ghost use Rattle.ipc_model.specs.encodings.Encodings.{reply_encoding};
 ghost use Rattle.kernel_keeper.specs.Tokens.{Did, HasRead, KeepsRead};
 
 use crate::acknowledged::Acknowledged;
 use boxcar::tag::Tag;
+use codes::NO_SPACE;
 use history::{Founding, Past};
 use ipc_model::{Record, Reply};
 use std::alloc::AllocError;
@@ -120,6 +121,16 @@ impl<L: Founding> Session<L> {
         ensures { Did L.base self.now looked self.now }
     {
         let _ = &self.own_state;
+    }
+
+    /// Its space has gone: its task is attached to none from then on, also where a new space gets the number.
+    pub(crate) fn detach(self) -> Self
+        ensures detached { Did L.base self detached result }
+        ensures reads { KeepsRead self.past result.past }
+    {
+        let mut session = self;
+        session.own_state.space = NO_SPACE;
+        session
     }
 
     /// Reads the records of the entry block that it saw last. It takes no lock. If an allocation fails, what was read

@@ -15,6 +15,7 @@ pub fn code_word(code: KernReturn) -> &'static [u8]
         KernReturn::InvalidArgument => b"KERN_INVALID_ARGUMENT",
         KernReturn::Failure => b"KERN_FAILURE",
         KernReturn::ResourceShortage => b"KERN_RESOURCE_SHORTAGE",
+        KernReturn::NoAccess => b"KERN_NO_ACCESS",
         KernReturn::NotInSet => b"KERN_NOT_IN_SET",
         KernReturn::NameExists => b"KERN_NAME_EXISTS",
         KernReturn::InvalidName => b"KERN_INVALID_NAME",

@@ -1,6 +1,6 @@
 -- The post-crash contents while a single connection is served.
 use Rattle.std.specs.Prelude.{if◌then◌else◌, MatchBool}
-use Rattle.std.proofs.Common.{◌≡◌, inl, inr, ℕ, suc, ◌+◌, ◌≤◌, Bool, true, false, List, [], ◌∷◌, ◌++◌, length, take, Option, None, Some, refl, sym, ap, subst, ◌∙◌, arith, length-append}
+use Rattle.std.proofs.Common.{◌≡◌, inl, inr, ℕ, suc, ◌+◌, ◌≤◌, Bool, true, false, ◌&&◌, List, [], ◌∷◌, ◌++◌, length, take, Option, None, Some, refl, sym, ap, subst, ◌∙◌, arith, length-append}
 use Rattle.std.proofs.lemmas.Bool.{cases_lt}
 use Rattle.std.proofs.lemmas.List.{take-append-le}
 use Rattle.calls.specs.Requests.{Asks}
@@ -19,8 +19,10 @@ use Rattle.ipc_model.specs.declared.record.Record.{Record}
 use Rattle.ipc_model.specs.state.State.{State}
 use Rattle.store_fault.specs.declared.fault.StoreFault.{StoreFault}
 use Rattle.server.proofs.Keeping.{no_time, passes_so}
-use Rattle.server.specs.Keeping.{AloneValue, AnswersKept, BreaksKept, FailsKept, IsHeld, RestsKept}
+use Rattle.server.proofs.Confining.{before_made, kept_makes_none, made_free, made_kept, own_before, own_makes_none, shown_free}
+use Rattle.server.specs.Keeping.{AloneValue, AnswersAsked, AnswersKept, BreaksKept, FailsAsked, IsHeld, RestsKept}
 use Rattle.store_layout.specs.Gates.{StandForState}
+use Rattle.frame_service.specs.Confining.{attach_to, is_attach}
 use Rattle.frame_service.specs.Serving.{Answers, AnswersMessage, AnswersRequest, Exchanges, FailsMessage, FailsRequest, IsAnswered, IsFailed, StepOrShortage, plain_shortage_of, shortage_of}
 use Rattle.server.specs.Crashing.{IsStoredFrame, IsStoredWhole, Makes, MakesAll, MakesMessage, MakesRequest, StandsWithin, AreOf, calls_of, given}
 use Rattle.ipc_model.specs.world.World.{record_of}
@@ -169,6 +171,34 @@ module _ {D : Type 0} (honest : Type 0) (view : D → View) where
             time = no_time view old.store.disk new.store.disk _ (ap (λ (a : AloneValue D). a.store.disk) moved);
           }
 
+  -- one call, as it is made of what is asked for
+  one_reach : (old : AloneValue D) (c : Call) (answer : Reply) (new : AloneValue D) → honest
+      → IsHeld (view old.store.disk) old.kernel → AnswersAsked honest view old (request.One c) answer new
+      → Reach view old (record_of old.space c answer) new
+  one_reach old c answer new is_honest held (said, kept, is) = by (old.confined && is_attach c) refl
+    where
+      by : (b : Bool) → (old.confined && is_attach c) ≡ b → Reach view old (record_of old.space c answer) new
+      by true own =
+          subst (λ (l : List Record). Reach view old l new)
+          (own_makes_none old.space said ∙ sym (kept_makes_none old.confined old.space c answer own))
+          (call_reach old (attach_to old.space) said new is_honest held
+          (subst (λ (k : Call). AnswersKept honest view old k said new) (made_kept old.confined old.space c own) kept))
+      by false free =
+          subst (λ (r : Reply). Reach view old (record_of old.space c r) new)
+          (sym (is ∙ shown_free old.confined c said free))
+          (call_reach old c said new is_honest held
+          (subst (λ (k : Call). AnswersKept honest view old k said new) (made_free old.confined old.space c free) kept))
+
+  confine_reach : (old : AloneValue D) (answer : Reply) (new : AloneValue D) → honest
+      → IsHeld (view old.store.disk) old.kernel → AnswersAsked honest view old request.Confine answer new
+      → Reach view old [] new
+  confine_reach old answer new is_honest held (said, mid, kept, is, after) =
+      let here =
+      subst (λ (l : List Record). Reach view old l mid) (own_makes_none old.space said)
+      (call_reach old (attach_to old.space) said mid is_honest held kept) in
+      subst (λ (a : AloneValue D). Reach view old [] a) (sym after)
+      (record { held = here.held; run = here.run; time = here.time })
+
   -- time in which no call is made
   rest_reach : (old new : AloneValue D) → honest → IsHeld (view old.store.disk) old.kernel
       → RestsKept honest view old new → Reach view old [] new
@@ -185,31 +215,31 @@ module _ {D : Type 0} (honest : Type 0) (view : D → View) where
     reach : Reach view old records new
 
   message_made : (send receive : Option Call) (old : AloneValue D) (answer : Reply) (new : AloneValue D) → honest
-      → IsHeld (view old.store.disk) old.kernel → AnswersMessage (AnswersKept honest view) old send receive answer new
-      → Made (λ n. MakesMessage (AnswersKept honest view) old send receive answer n) old new
+      → IsHeld (view old.store.disk) old.kernel → AnswersMessage (AnswersAsked honest view) old send receive answer new
+      → Made (λ n. MakesMessage (AnswersAsked honest view) old send receive answer n) old new
   message_made None None old answer new is_honest held (said, same) =
       record { records = []; made = (said, same, refl); reach = same_reach old new held same }
   message_made (Some send) None old answer new is_honest held answered =
       record {
         records = record_of old.space send answer;
         made = (answered, refl);
-        reach = call_reach old send answer new is_honest held answered;
+        reach = one_reach old send answer new is_honest held answered;
       }
   message_made None (Some receive) old answer new is_honest held answered =
       record {
         records = record_of old.space receive answer;
         made = (answered, refl);
-        reach = call_reach old receive answer new is_honest held answered;
+        reach = one_reach old receive answer new is_honest held answered;
       }
   message_made (Some send) (Some receive) old answer new is_honest held (sent, mid, first, second) =
       by (succeeded sent) refl second
     where
       reach : Reach view old (record_of old.space send sent) mid
-      reach = call_reach old send sent mid is_honest held first
+      reach = one_reach old send sent mid is_honest held first
 
       by : (b : Bool) → succeeded sent ≡ b
-          → MatchBool b (AnswersKept honest view mid receive answer new) ((answer ≡ sent) × (new ≡ mid))
-          → Made (λ n. MakesMessage (AnswersKept honest view) old (Some send) (Some receive) answer n) old new
+          → MatchBool b (AnswersAsked honest view mid (request.One receive) answer new) ((answer ≡ sent) × (new ≡ mid))
+          → Made (λ n. MakesMessage (AnswersAsked honest view) old (Some send) (Some receive) answer n) old new
       by true is done = record {
         records = record_of old.space send sent ++ record_of mid.space receive answer;
         made = (
@@ -217,14 +247,14 @@ module _ {D : Type 0} (honest : Type 0) (view : D → View) where
           mid,
           first,
           subst (λ (b : Bool). MatchBool b
-              (AnswersKept honest view mid receive answer new
+              (AnswersAsked honest view mid (request.One receive) answer new
               × (record_of old.space send sent ++ record_of mid.space receive answer
               ≡ record_of old.space send sent ++ record_of mid.space receive answer))
               ((answer ≡ sent) × (new ≡ mid)
               × (record_of old.space send sent ++ record_of mid.space receive answer
               ≡ record_of old.space send sent))) (sym is) (done, refl),
         );
-        reach = joined old mid new _ _ reach (call_reach mid receive answer new is_honest reach.held done);
+        reach = joined old mid new _ _ reach (one_reach mid receive answer new is_honest reach.held done);
       }
       by false is done = record {
         records = record_of old.space send sent;
@@ -233,7 +263,7 @@ module _ {D : Type 0} (honest : Type 0) (view : D → View) where
           mid,
           first,
           subst (λ (b : Bool). MatchBool b
-              (AnswersKept honest view mid receive answer new
+              (AnswersAsked honest view mid (request.One receive) answer new
               × (record_of old.space send sent ≡ record_of old.space send sent
               ++ record_of mid.space receive answer))
               ((answer ≡ sent) × (new ≡ mid)
@@ -244,23 +274,25 @@ module _ {D : Type 0} (honest : Type 0) (view : D → View) where
       }
 
   request_made : (asks : Request) (old : AloneValue D) (answer : Reply) (new : AloneValue D) → honest
-      → IsHeld (view old.store.disk) old.kernel → AnswersRequest (AnswersKept honest view) old asks answer new
-      → Made (λ n. MakesRequest (AnswersKept honest view) old asks answer n) old new
+      → IsHeld (view old.store.disk) old.kernel → AnswersRequest (AnswersAsked honest view) old asks answer new
+      → Made (λ n. MakesRequest (AnswersAsked honest view) old asks answer n) old new
   request_made (request.One c) old answer new is_honest held answered =
       record {
         records = record_of old.space c answer;
         made = (answered, refl);
-        reach = call_reach old c answer new is_honest held answered;
+        reach = one_reach old c answer new is_honest held answered;
       }
   request_made (request.Message m) old answer new is_honest held answered =
       let all = message_made m.send m.receive old answer new is_honest held answered in
       record { records = all.records; made = all.made; reach = all.reach }
   request_made (request.Answered code) old answer new is_honest held (said, same) =
       record { records = []; made = (said, same, refl); reach = same_reach old new held same }
+  request_made request.Confine old answer new is_honest held answered =
+      record { records = []; made = (answered, refl); reach = confine_reach old answer new is_honest held answered }
 
   frame_made : (content : List ℕ) (old : AloneValue D) (answer : Reply) (new : AloneValue D) → honest
-      → IsHeld (view old.store.disk) old.kernel → IsAnswered (AnswersKept honest view) old content answer new
-      → Made (λ n. Makes (AnswersKept honest view) old content answer n) old new
+      → IsHeld (view old.store.disk) old.kernel → IsAnswered (AnswersAsked honest view) old content answer new
+      → Made (λ n. Makes (AnswersAsked honest view) old content answer n) old new
   frame_made content old answer new is_honest held (inl (asks, asked, answered)) =
       let all = request_made asks old answer new is_honest held answered in
       record { records = all.records; made = inl (asks, asked, all.made); reach = all.reach }
@@ -270,8 +302,8 @@ module _ {D : Type 0} (honest : Type 0) (view : D → View) where
       record { records = []; made = inr (inr lacks, refl); reach = same_reach old new held lacks.1 }
 
   all_made : (exchanges : Exchanges) (old new : AloneValue D) → honest → IsHeld (view old.store.disk) old.kernel
-      → Answers (AnswersKept honest view) (RestsKept honest view) old exchanges new
-      → Made (λ n. MakesAll (AnswersKept honest view) (RestsKept honest view) old exchanges n) old new
+      → Answers (AnswersAsked honest view) (RestsKept honest view) old exchanges new
+      → Made (λ n. MakesAll (AnswersAsked honest view) (RestsKept honest view) old exchanges n) old new
   all_made [] old new is_honest held same =
       record { records = []; made = (same, refl); reach = same_reach old new held same }
   all_made (exchange ∷ exchanges) old new is_honest held (mid, later, first, rested, rest) =
@@ -286,7 +318,7 @@ module _ {D : Type 0} (honest : Type 0) (view : D → View) where
 
   pub stored_whole : (old : AloneValue D) (exchanges : Exchanges) (new : AloneValue D) → honest
       → IsHeld (view old.store.disk) old.kernel
-      → Answers (AnswersKept honest view) (RestsKept honest view) old exchanges new
+      → Answers (AnswersAsked honest view) (RestsKept honest view) old exchanges new
       → IsStoredWhole honest view old exchanges new
   stored_whole old exchanges new is_honest held answered =
       let all = all_made exchanges old new is_honest held answered in
@@ -300,7 +332,7 @@ module _ {D : Type 0} (honest : Type 0) (view : D → View) where
       }
 
   pub stored_frame : (old : AloneValue D) (content : List ℕ) (answer : Reply) (new : AloneValue D) → honest
-      → IsHeld (view old.store.disk) old.kernel → IsAnswered (AnswersKept honest view) old content answer new
+      → IsHeld (view old.store.disk) old.kernel → IsAnswered (AnswersAsked honest view) old content answer new
       → IsStoredFrame honest view old content answer new
   stored_frame old content answer new is_honest held answered =
       let all = frame_made content old answer new is_honest held answered in
@@ -323,10 +355,11 @@ module _ {D : Type 0} (honest : Type 0) (view : D → View) where
 
   -- one call that failed
   one_failed : (old : AloneValue D) (c : Call) (fault : StoreFault) (new : AloneValue D) → honest
-      → IsHeld (view old.store.disk) old.kernel → FailsKept honest view old c fault new
+      → IsHeld (view old.store.disk) old.kernel → FailsAsked honest view old (request.One c) fault new
       → Passes (view old.store.disk) (view new.store.disk) (Stood (c ∷ []) old)
   one_failed old c fault new is_honest held failed =
-      passes_so (view old.store.disk) (view new.store.disk) _ _ (failed.passes is_honest) (λ s stands. elim stands [
+      passes_so (view old.store.disk) (view new.store.disk) _ _ (failed.passes is_honest)
+      (λ s stands. elim (before_made old.confined old.kernel new.kernel old.space c s stands) [
         | inl before ↦ stood_first (c ∷ []) old s before
         | inr after ↦ (
           (record { space = old.space; call = c; reply = after.0 }) ∷ [],
@@ -340,6 +373,13 @@ module _ {D : Type 0} (honest : Type 0) (view : D → View) where
           },
         )
       ])
+
+  confine_failed : (old : AloneValue D) (fault : StoreFault) (new : AloneValue D) → honest
+      → FailsAsked honest view old request.Confine fault new
+      → Passes (view old.store.disk) (view new.store.disk) (Stood [] old)
+  confine_failed old fault new is_honest failed =
+      passes_so (view old.store.disk) (view new.store.disk) _ _ (failed.passes is_honest)
+      (λ s stands. stood_first [] old s (own_before old.kernel new.kernel old.space s stands))
 
   any_more : (c d : Call) (records : List Record) → AreOf (c ∷ []) records → AreOf (c ∷ d ∷ []) records
   any_more c d [] all = tt
@@ -362,7 +402,7 @@ module _ {D : Type 0} (honest : Type 0) (view : D → View) where
 
   message_failed : (send receive : Option Call) (old : AloneValue D) (fault : StoreFault) (new : AloneValue D) → honest
       → IsHeld (view old.store.disk) old.kernel
-      → FailsMessage (AnswersKept honest view) (FailsKept honest view) old send receive fault new
+      → FailsMessage (AnswersAsked honest view) (FailsAsked honest view) old send receive fault new
       → Passes (view old.store.disk) (view new.store.disk) (Stood (given send ++ given receive) old)
   message_failed None None old fault new is_honest held failed = absurd failed
   message_failed (Some send) None old fault new is_honest held failed =
@@ -373,7 +413,7 @@ module _ {D : Type 0} (honest : Type 0) (view : D → View) where
       passes_so (view old.store.disk) (view new.store.disk) _ _ (one_failed old send fault new is_honest held failed)
       (λ s stood. (stood.0, any_more send receive stood.0 stood.1, stood.2))
   message_failed (Some send) (Some receive) old fault new is_honest held (inr (sent, mid, first, done, failed)) =
-      let reach = call_reach old send sent mid is_honest held first in
+      let reach = one_reach old send sent mid is_honest held first in
       let made = record_of old.space send sent in
       let among = record_among send receive old.space sent (has_record send sent) in
       passes_join (view old.store.disk) (view mid.store.disk) (view new.store.disk) _ _ _ reach.time
@@ -388,16 +428,17 @@ module _ {D : Type 0} (honest : Type 0) (view : D → View) where
 
   request_failed : (asks : Request) (old : AloneValue D) (fault : StoreFault) (new : AloneValue D) → honest
       → IsHeld (view old.store.disk) old.kernel
-      → FailsRequest (AnswersKept honest view) (FailsKept honest view) old asks fault new
+      → FailsRequest (AnswersAsked honest view) (FailsAsked honest view) old asks fault new
       → Passes (view old.store.disk) (view new.store.disk) (Stood (calls_of asks) old)
   request_failed (request.One c) old fault new is_honest held failed = one_failed old c fault new is_honest held failed
   request_failed (request.Message m) old fault new is_honest held failed =
       message_failed m.send m.receive old fault new is_honest held failed
   request_failed (request.Answered code) old fault new is_honest held failed = absurd failed
+  request_failed request.Confine old fault new is_honest held failed = confine_failed old fault new is_honest failed
 
   pub lost_nothing : (old : AloneValue D) (content : List ℕ) (fault : StoreFault) (new : AloneValue D) → honest
       → IsHeld (view old.store.disk) old.kernel
-      → IsFailed (AnswersKept honest view) (FailsKept honest view) old content fault new → (c : Slots)
+      → IsFailed (AnswersAsked honest view) (FailsAsked honest view) old content fault new → (c : Slots)
       → LeftSince (view new.store.disk) (view old.store.disk).moment c
       → (asks : Request) × Asks content asks × Stood (calls_of asks) old c
   lost_nothing old content fault new is_honest held (asks, asked, failed) c left = (

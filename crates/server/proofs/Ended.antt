@@ -4,7 +4,7 @@ use Rattle.std.specs.Prelude.{OnErr, ◌≢◌}
 use Rattle.std.specs.Io.KnownBytes.{Appends}
 use Rattle.std.proofs.KnownBytes.{Appends-trans}
 use Rattle.disk.specs.Moments.{ReadsOnly, View}
-use Rattle.server.specs.Keeping.{AloneValue, AnswersKept, BreaksKept, FailsKept, IsHeld, RestsKept}
+use Rattle.server.specs.Keeping.{AloneValue, AnswersAsked, BreaksKept, FailsAsked, IsHeld, RestsKept}
 use Rattle.server.specs.Program.{IsRun, IsUnopenable, RunsInFolder, ServesFrom}
 use Rattle.frame_service.specs.Serving.{Ends}
 use Rattle.frame_service.specs.declared.service.ServeFault.{ServeFault}
@@ -55,16 +55,16 @@ module _ {D : Type 0} (honest : Type 0) (view : D → View) (o p left written : 
     (result : Result (Unit {0}) ServeFault) where
   -- an opened store that was served
   pub serves_from : (opened : OpenedValue D) (old new : AloneValue D) (last : D) → old.kernel ≡ opened.kernel
-      → old.store.disk ≡ opened.disk → old.space ≡ 1 → old.failed ≡ false
+      → old.store.disk ≡ opened.disk → old.space ≡ 1 → old.confined ≡ false → old.failed ≡ false
       → (honest → IsHeld (view old.store.disk) old.kernel) → last ≡ new.store.disk
       → (honest → new.failed ≡ false → IsHeld (view last) new.kernel)
       → IfSome o (λ input. IfSome p
-      (λ before. Ends (AnswersKept honest view) (FailsKept honest view) (RestsKept honest view)
+      (λ before. Ends (AnswersAsked honest view) (FailsAsked honest view) (RestsKept honest view)
       (BreaksKept honest view) old new input before left written result))
       → IfSome o (λ input. IfSome p (λ before. ServesFrom honest view input before left written opened last result))
-  serves_from opened old new last kernel disk attached works held closed at_end ends =
+  serves_from opened old new last kernel disk attached unconfined works held closed at_end ends =
       both_known o p
-      (λ input before. Ends (AnswersKept honest view) (FailsKept honest view) (RestsKept honest view)
+      (λ input before. Ends (AnswersAsked honest view) (FailsAsked honest view) (RestsKept honest view)
       (BreaksKept honest view) old new input before left written result)
       (λ input before. ServesFrom honest view input before left written opened last result)
       (λ input before ends. record {
@@ -74,6 +74,7 @@ module _ {D : Type 0} (honest : Type 0) (view : D → View) (o p left written : 
         disk = disk;
         serves = record {
           attached = attached;
+          unconfined = unconfined;
           works = works;
           held = held;
           ends = ends;

@@ -1,4 +1,6 @@
 mod Ended
 mod Keeping
 mod Making
+mod Confining
 mod Crashing
+mod Staying

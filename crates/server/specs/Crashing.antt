@@ -15,19 +15,20 @@ use Rattle.ipc_model.specs.state.State.{State}
 use Rattle.store_fault.specs.declared.fault.StoreFault.{StoreFault}
 use Rattle.ipc_model.specs.world.World.{record_of}
 use Rattle.store_layout.specs.Gates.{StandForState}
-use Rattle.server.specs.Keeping.{AloneValue, AnswersKept, BreaksKept, FailsKept, IsHeld, RestsKept}
+use Rattle.server.specs.Keeping.{AloneValue, AnswersAsked, BreaksKept, FailsAsked, IsHeld, RestsKept}
 use Rattle.frame_service.specs.Serving.{Answers, Exchanges, IsAnswered, IsFailed, IsRefused, LacksMemory, only_code}
 
 -- the records that the calls of frames made, in order
-module _ {D : Type 0} (answers : AloneValue D → Call → Reply → AloneValue D → Type 0) where
+module _ {D : Type 0} (answers : AloneValue D → Request → Reply → AloneValue D → Type 0) where
   abbrev pub MakesOne : AloneValue D → Call → Reply → AloneValue D → List Record → Type 0
-  MakesOne old c answer new records = answers old c answer new × (records ≡ record_of old.space c answer)
+  MakesOne old c answer new records =
+      answers old (request.One c) answer new × (records ≡ record_of old.space c answer)
 
   abbrev pub MakesBoth : AloneValue D → Call → Call → Reply → AloneValue D → List Record → Type 0
   MakesBoth old send receive answer new records =
-      (sent : Reply) × (mid : AloneValue D) × answers old send sent mid
+      (sent : Reply) × (mid : AloneValue D) × answers old (request.One send) sent mid
       × MatchBool (succeeded sent)
-      (answers mid receive answer new
+      (answers mid (request.One receive) answer new
       × (records ≡ record_of old.space send sent ++ record_of mid.space receive answer))
       ((answer ≡ sent) × (new ≡ mid) × (records ≡ record_of old.space send sent))
 
@@ -43,6 +44,7 @@ module _ {D : Type 0} (answers : AloneValue D → Call → Reply → AloneValue 
   MakesRequest old (request.Message m) answer new records = MakesMessage old m.send m.receive answer new records
   MakesRequest old (request.Answered code) answer new records =
       (answer ≡ only_code code) × (new ≡ old) × (records ≡ [])
+  MakesRequest old request.Confine answer new records = answers old request.Confine answer new × (records ≡ [])
 
   abbrev pub Makes : AloneValue D → List ℕ → Reply → AloneValue D → List Record → Type 0
   Makes old content answer new records =
@@ -75,6 +77,7 @@ abbrev pub calls_of : Request → List Call
 calls_of (request.One c) = c ∷ []
 calls_of (request.Message m) = given m.send ++ given m.receive
 calls_of (request.Answered code) = []
+calls_of request.Confine = []
 
 -- each of these records is of one of these calls
 abbrev pub IsAmong : Call → List Call → Type 0
@@ -90,7 +93,7 @@ AreOf calls (entry ∷ records) = IsAmong entry.call calls × AreOf calls record
 pub record IsStoredWhole {D : Type 0} (honest : Type 0) (view : D → View) (old : AloneValue D) (exchanges : Exchanges)
     (new : AloneValue D) : Type 0 where
   pub records : List Record
-  pub made : MakesAll (AnswersKept honest view) (RestsKept honest view) old exchanges new records
+  pub made : MakesAll (AnswersAsked honest view) (RestsKept honest view) old exchanges new records
   pub held : IsHeld (view new.store.disk) new.kernel
   pub any_moment : (c : Slots) → LeftSince (view new.store.disk) (view old.store.disk).moment c
       → StandsWithin old.kernel records c
@@ -98,7 +101,7 @@ pub record IsStoredWhole {D : Type 0} (honest : Type 0) (view : D → View) (old
 abbrev pub AnsweredIsStored : {D : Type 0} → Type 0 → (D → View) → Type 0
 AnsweredIsStored {D} honest view =
     (old : AloneValue D) (exchanges : Exchanges) (new : AloneValue D) → honest → IsHeld (view old.store.disk) old.kernel
-    → Answers (AnswersKept honest view) (RestsKept honest view) old exchanges new
+    → Answers (AnswersAsked honest view) (RestsKept honest view) old exchanges new
     → IsStoredWhole honest view old exchanges new
 
 -- One frame that was answered, before any time is given: the last one of a connection whose reply couldn't be written,
@@ -106,7 +109,7 @@ AnsweredIsStored {D} honest view =
 pub record IsStoredFrame {D : Type 0} (honest : Type 0) (view : D → View) (old : AloneValue D) (content : List ℕ)
     (answer : Reply) (new : AloneValue D) : Type 0 where
   pub records : List Record
-  pub made : Makes (AnswersKept honest view) old content answer new records
+  pub made : Makes (AnswersAsked honest view) old content answer new records
   pub held : IsHeld (view new.store.disk) new.kernel
   pub any_moment : (c : Slots) → LeftSince (view new.store.disk) (view old.store.disk).moment c
       → StandsWithin old.kernel records c
@@ -115,7 +118,7 @@ abbrev pub FrameIsStored : {D : Type 0} → Type 0 → (D → View) → Type 0
 FrameIsStored {D} honest view =
     (old : AloneValue D) (content : List ℕ) (answer : Reply) (new : AloneValue D) → honest
     → IsHeld (view old.store.disk) old.kernel
-    → IsAnswered (AnswersKept honest view) old content answer new → IsStoredFrame honest view old content answer new
+    → IsAnswered (AnswersAsked honest view) old content answer new → IsStoredFrame honest view old content answer new
 
 -- A frame whose calls failed in the store: a crash at any moment since it began leaves the state after some records,
 -- maybe none, each of which is of one of its calls.
@@ -123,7 +126,7 @@ abbrev pub FailureLosesNothing : {D : Type 0} → Type 0 → (D → View) → Ty
 FailureLosesNothing {D} honest view =
     (old : AloneValue D) (content : List ℕ) (fault : StoreFault) (new : AloneValue D) → honest
     → IsHeld (view old.store.disk) old.kernel
-    → IsFailed (AnswersKept honest view) (FailsKept honest view) old content fault new → (c : Slots)
+    → IsFailed (AnswersAsked honest view) (FailsAsked honest view) old content fault new → (c : Slots)
     → LeftSince (view new.store.disk) (view old.store.disk).moment c
     → (asks : Request) × Asks content asks
     × ((records : List Record) × AreOf (calls_of asks) records × StandsWithin old.kernel records c)

@@ -1,3 +1,4 @@
+pub mod Confining
 pub mod Ending
 pub mod Keeping
 pub mod Program

@@ -5,7 +5,7 @@ use Rattle.disk.specs.Slots.{Slots}
 use Rattle.store_fault.specs.Fault as store
 use Rattle.store_fault.specs.declared.fault.StoreFault.{StoreFault}
 use Rattle.store_fault.specs.declared.fault.StoreFault.TheVariants.{Damaged, Device, NoMemory, Version}
-use Rattle.server.specs.Keeping.{AloneValue, AnswersKept, BreaksKept, FailsKept, IsHeld, RestsKept}
+use Rattle.server.specs.Keeping.{AloneValue, AnswersAsked, BreaksKept, FailsAsked, IsHeld, RestsKept}
 use Rattle.frame_service.specs.Serving.{Ends}
 use Rattle.server.specs.declared.program.LoneEnd.{LoneEnd}
 use Rattle.server.specs.declared.program.LoneEnd.TheVariants.{Served, CommandLine, InUse, Unlockable, Fault}
@@ -75,13 +75,14 @@ module _ {D : Type 0} (honest : Type 0) (view : D → View) (input before : List
     pub unread : left ≡ Some input
     pub unwritten : written ≡ Some before
 
-  -- A caller that begins with an opened store, attached to space 1, was served. Unless the store failed, a crash at the
+  -- A caller that begins with an opened store, attached to space 1 and not confined, was served. Unless the store failed, a crash at the
   -- end leaves the state that it came to.
   pub record Serves (old new : AloneValue D) (last : D) (result : Result (Unit {0}) ServeFault) : Type 0 where
     pub attached : old.space ≡ 1
+    pub unconfined : old.confined ≡ false
     pub works : old.failed ≡ false
     pub held : honest → IsHeld (view old.store.disk) old.kernel
-    pub ends : Ends (AnswersKept honest view) (FailsKept honest view) (RestsKept honest view)
+    pub ends : Ends (AnswersAsked honest view) (FailsAsked honest view) (RestsKept honest view)
         (BreaksKept honest view) old new input before left written result
     pub closed : last ≡ new.store.disk
     pub held_at_end : honest → new.failed ≡ false → IsHeld (view last) new.kernel

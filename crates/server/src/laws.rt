@@ -1,5 +1,6 @@
 // Laws over what `serve` says of a single caller, as contracts of functions that do nothing, so that the check proves
 // them.
+ghost use Rattle.server.specs.Confining.{AnswerSaysConfined, ConfinedConnectionsStay};
 ghost use Rattle.server.specs.Crashing.{AnsweredIsStored, BreakingLosesNothing, FailureLosesNothing, FrameIsStored};
 
 use disk::Disk;
@@ -25,4 +26,16 @@ pub fn failure_loses_nothing<D: Disk>()
 /// the state as it was.
 pub fn breaking_loses_nothing<D: Disk>()
     ensures { BreakingLosesNothing D.honest D.view }
+{}
+
+/// A caller that is confined stays confined, and attached to the space that it was attached to, whatever frames are
+/// answered.
+pub fn confined_connections_stay<D: Disk>()
+    ensures { ConfinedConnectionsStay D.honest D.view }
+{}
+
+/// The answer to number 23 says whether the connection is confined: code 0 says that it is, to the space that it was
+/// attached to, and any other that nothing changed.
+pub fn answer_says_confined<D: Disk>()
+    ensures { AnswerSaysConfined D.honest D.view }
 {}

@@ -11,7 +11,8 @@ pub use alone::Alone;
 pub use ending::SocketEnd;
 pub use frame_service::{Caller, ServeFault, serve, shortage};
 pub use laws::{
-    answered_is_stored, breaking_loses_nothing, failure_loses_nothing, frame_is_stored,
+    answer_says_confined, answered_is_stored, breaking_loses_nothing, confined_connections_stay,
+    failure_loses_nothing, frame_is_stored,
 };
 pub use lock::{LockFault, LockFile, lock_disk, lock_folder};
 pub use program::{LoneEnd, lone, run_alone, serve_disk};

@@ -31,6 +31,10 @@ impl<C: Caller> Caller for Tiring<C> {
         self.caller.call(call)
     }
 
+    fn confine(&mut self) -> Result<Reply, StoreFault> {
+        self.caller.confine()
+    }
+
     fn rest(&mut self) -> Result<bool, StoreFault> {
         match self.bears.checked_sub(1) {
             Some(left) => {

@@ -12,7 +12,7 @@ use crate::seat::{Peer, Seat};
 use crate::turn::{News, Turn};
 use disk::Disk;
 use ipc_model::{Call, Reply};
-use kernel_keeper::{Admission, EntryBlock, Founding, KernelKeeper, Past, Session};
+use kernel_keeper::{Admission, Destructions, EntryBlock, Founding, KernelKeeper, Past, Session};
 use std::alloc::Global;
 use std::sync::ledger::Book;
 use std::sync::{Arc, Condvar, Mutex, Wait};
@@ -94,8 +94,20 @@ impl<L: Founding, D: Disk, G: Drop> Shared<L, D, G> {
             drop(kernel);
             return Err(disk);
         };
+        let Ok(destructions) = Destructions::none(alloc) else {
+            drop(kernel);
+            return Err(disk);
+        };
         let store_keeper = StoreKeeper::new(disk, segment, mine, storing);
-        let keeper = KernelKeeper::new(alloc, kernel, segment.epoch, segment.records, past, book);
+        let keeper = KernelKeeper::new(
+            alloc,
+            kernel,
+            segment.epoch,
+            segment.records,
+            past,
+            book,
+            destructions,
+        );
         Ok(Shared {
             alloc,
             gate,

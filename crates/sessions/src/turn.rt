@@ -1,6 +1,6 @@
 //! Several calls under one hold of the kernel's lock.
-ghost use Rattle.std.specs.Prelude.{◌≡◌, IfOk, OnErr};
-ghost use Rattle.ipc_model.specs.history.History.{called, looked};
+ghost use Rattle.std.specs.Prelude.{◌≡◌, ◌⊎◌, IfOk, OnErr};
+ghost use Rattle.ipc_model.specs.history.History.{called, detached, looked};
 ghost use Rattle.kernel_keeper.specs.Tokens.{Did, KeepsRead};
 
 use crate::guarded::KernelGuarded;
@@ -50,6 +50,21 @@ impl<'a, L: Founding> Turn<'a, L> {
     /// Whether the next call has to wait for an epoch, which doesn't begin while the lock is held.
     pub fn awaits_epoch(&self) -> bool {
         self.guarded.awaits_epoch()
+    }
+
+    /// How many records have been made.
+    pub fn made(&self) -> u64 {
+        self.guarded.keeper.made()
+    }
+
+    /// The session of a task that is confined to its space since so many records were made (`made`). If the space was
+    /// destroyed after these, it is detached. A call that is made before the turn ends is then made in the space that
+    /// it was confined to.
+    pub fn settle(&self, session: Session<L>, since: u64) -> Session<L>
+        ensures settled { (result ≡ session) ⊎ Did L.base session detached result }
+        ensures reads { KeepsRead session.past result.past }
+    {
+        self.guarded.keeper.settle(session, since)
     }
 
     /// Makes a call of a session, for the task of this seat, as `Shared::submit_for` does.

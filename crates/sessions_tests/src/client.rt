@@ -18,6 +18,9 @@ const MOST_TURNS: u32 = 5000;
 /// For how many milliseconds a client waits for a reply that has to come.
 const REPLY_MILLISECONDS: u64 = 5000;
 
+/// How many bytes the longest answer has that a test compares as a row.
+const LONGEST_ANSWER: usize = 24;
+
 /// `mach_port_allocate` of a receive right.
 pub(crate) const ALLOCATE: [u8; 12] = [8, 0, 0, 0, 5, 0, 0, 0, 1, 0, 0, 0];
 
@@ -76,7 +79,7 @@ pub(crate) fn path_of(rt: &HostRuntime, name: &str) -> Option<String> {
 }
 
 /// A connection to a server that is there, or will be soon.
-fn connect<R: Net + Clock>(rt: &R, path: &str) -> Option<UnixStream> {
+pub(crate) fn connect<R: Net + Clock>(rt: &R, path: &str) -> Option<UnixStream> {
     for _ in 0..MOST_TURNS {
         if let Ok(stream) = UnixStream::connect(rt, path) {
             return Some(stream);
@@ -95,6 +98,20 @@ pub(crate) fn two_clients<R: Net + Files + Clock>(
     let other = connect(rt, path)?;
     fs::remove_file(rt, path).ok()?;
     Some((one, other))
+}
+
+/// Whether a frame is answered with these bytes, in time.
+pub(crate) fn answers(stream: &UnixStream, frame: &[u8], wanted: &[u8]) -> bool {
+    let limit = Duration::from_millis(REPLY_MILLISECONDS);
+    if stream.set_read_timeout(Some(limit)).is_err() || !write(stream, frame) {
+        return false;
+    }
+    let mut bytes = [0; LONGEST_ANSWER];
+    let Some(answer) = bytes.get_mut(..wanted.len()) else {
+        return false;
+    };
+    let mut reader = stream;
+    reader.read_exact(answer).is_ok() && &*answer == wanted
 }
 
 /// The next bytes that are written to a client, if that many come in time.

@@ -8,6 +8,8 @@ mod client;
 #[cfg(test)]
 mod closed;
 #[cfg(test)]
+mod confined;
+#[cfg(test)]
 mod entries;
 #[cfg(test)]
 mod expect;

@@ -1,1 +1,3 @@
 mod Serves
+mod Showing
+mod Staying

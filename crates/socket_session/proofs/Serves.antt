@@ -5,18 +5,17 @@ use Rattle.frame_service.specs.Asking.{EndsAsked}
 use Rattle.frame_service.specs.declared.service.ServeFault.{ServeFault}
 use Rattle.ipc_model.specs.state.State.{State}
 use Rattle.kernel_keeper.specs.Tokens.{SessionValue}
-use Rattle.socket_session.specs.Connecting.{AcknowledgesOne, LacksOne, MakesOne}
-use Rattle.socket_session.specs.Serving.{IsNewSession, ServesNew}
-use Rattle.system.specs.Halves.{TicketValue}
+use Rattle.socket_session.specs.Connecting.{AcknowledgesOne, ConnectedValue, LacksOne, MakesOne, answer_of}
+use Rattle.socket_session.specs.Serving.{IsNewSession, ServesNew, unconfined}
 
-module _ (base : State) (left written : Option (List ℕ)) (asker last : Option SessionValue) (session : SessionValue)
+module _ (base : State) (left written : Option (List ℕ)) (asker last : ConnectedValue) (session : SessionValue)
     (result : Result (Unit {0}) ServeFault) where
-  abbrev pub EndsFor : Option SessionValue → List ℕ → List ℕ → Type 0
+  abbrev pub EndsFor : ConnectedValue → List ℕ → List ℕ → Type 0
   EndsFor first input before =
-      EndsAsked (λ (ticket : TicketValue). ticket.answer) (MakesOne base) (LacksOne base) (AcknowledgesOne base)
-      (λ old ticket fault after. after ≡ old) first [] last input before left written result
+      EndsAsked answer_of (MakesOne base) (LacksOne base) (AcknowledgesOne base) (λ old asked fault after. after ≡ old)
+      first [] last input before left written result
 
-  pub serves_new : (p q : Option (List ℕ)) → asker ≡ Some session → IsNewSession session
+  pub serves_new : (p q : Option (List ℕ)) → asker ≡ unconfined session → IsNewSession session
       → IfSome p (λ input. IfSome q (λ before. EndsFor asker input before))
       → IfSome p (λ input. IfSome q (λ before. ServesNew base input before left written result))
   serves_new None q is new ends = tt
@@ -26,5 +25,5 @@ module _ (base : State) (left written : Option (List ℕ)) (asker last : Option 
         session = session;
         last = last;
         new = new;
-        ends = subst (λ (first : Option SessionValue). EndsFor first input before) is ends;
+        ends = subst (λ (first : ConnectedValue). EndsFor first input before) is ends;
       }

@@ -1,2 +1,3 @@
+pub mod Confining
 pub mod Connecting
 pub mod Serving

@@ -1,26 +1,30 @@
-ghost use Rattle.std.specs.Prelude.{◌≡◌, ◌≤◌, Some, length, IfOk, IfErr, IfSome, IfNone};
+ghost use Rattle.std.specs.Prelude.{◌≡◌, ◌≤◌, Some, false, length, IfOk, IfErr, IfSome, IfNone};
+ghost use Rattle.calls.specs.declared.request.Request.{Request};
 ghost use Rattle.codes.specs.declared.limits.TheConstants.{MAX_FRAME_CONTENT};
-ghost use Rattle.socket_session.specs.Connecting.{LacksOne, MakesOne, AcknowledgesOne};
+ghost use Rattle.socket_session.specs.Connecting.{AcknowledgesOne, LacksOne, MakesOne, answer_of};
+ghost use Rattle.socket_session.specs.Serving.{unconfined};
 ghost use Rattle.ipc_model.specs.calls.Step.{succeeded};
-ghost use Rattle.ipc_model.specs.declared.call.Call.{Call};
 ghost use Rattle.ipc_model.specs.encodings.Encodings.{reply_encoding};
 ghost use Rattle.frame_service.specs.Asking.{timed_out};
 
+use crate::asked::Asked;
+use crate::making::{confine, make};
 use crate::patience::Patience;
-use codes::KernReturn;
+use calls::Request;
 use disk::Disk;
 use frame_service::Asker;
 use ipc_model::{Call, Reply};
 use sessions::{Founding, Peer, Seat, Session, Shared, Turn, Waited};
+use std::alloc::Global;
 use std::marker::Model;
 use std::sync::Wait;
 use std::time::Clock;
 use store_fault::StoreFault;
-use system::Ticket;
 
 /// The caller of a connection among others: a session of a shared store.
 #[derive(Drop)]
 pub struct Connected<'a, L: Founding, D: Disk, G, R, P> {
+    alloc: Global,
     rt: &'a R,
     shared: &'a Shared<L, D, G>,
     seat: Seat<P>,
@@ -28,20 +32,22 @@ pub struct Connected<'a, L: Founding, D: Disk, G, R, P> {
     // `None` while a call is being made.
     session: Option<Session<L>>,
 
+    // Where it is confined to its session's space, how many records had been made then.
+    since: Option<u64>,
+
     // While several calls are made, from the second on.
     turn: Option<Turn<'a, L>>,
 }
 
 impl<'a, L: Founding, D: Disk, G, R, P> Model for Connected<'a, L, D, G, R, P> {
-    ghost use Rattle.std.specs.Prelude.{◌≡◌, Option, true, is_some};
-    ghost use Rattle.kernel_keeper.specs.Tokens.{SessionValue, session_code};
-    ghost use Rattle.std.specs.Coded.{coded_option};
+    ghost use Rattle.std.specs.Prelude.{◌≡◌, true, is_some};
+    ghost use Rattle.socket_session.specs.Connecting.{ConnectedValue, connected_code};
 
-    ghost Value = { Option SessionValue };
+    ghost Value = { ConnectedValue };
 
-    ghost coded = { coded_option session_code };
+    ghost coded = { connected_code };
 
-    ghost view = { λ c. c.session };
+    ghost view = { λ c. record { session = c.session; confined = is_some c.since } };
 
     ghost invariant = { λ c. is_some c.session ≡ true };
 }
@@ -49,14 +55,22 @@ impl<'a, L: Founding, D: Disk, G, R, P> Model for Connected<'a, L, D, G, R, P> {
 impl<'a, L: Founding, D: Disk, G, R, P> Connected<'a, L, D, G, R, P> {
     /// The caller of this session, whose calls wait at this seat, and whose task is at the other end of this
     /// connection.
-    pub fn new(rt: &'a R, shared: &'a Shared<L, D, G>, seat: Seat<P>, session: Session<L>) -> Self
-        ensures { result ≡ Some session }
+    pub fn new(
+        alloc: Global,
+        rt: &'a R,
+        shared: &'a Shared<L, D, G>,
+        seat: Seat<P>,
+        session: Session<L>,
+    ) -> Self
+        ensures { result ≡ unconfined session }
     {
         Connected {
+            alloc,
             rt,
             shared,
             seat,
             session: Some(session),
+            since: None,
             turn: None,
         }
     }
@@ -88,11 +102,11 @@ impl<'a, L: Founding, D: Disk, G: Drop, R: Wait + Clock, P: Peer> Connected<'a, 
 
 impl<'a, L: Founding, D: Disk, G: Drop, R: Wait + Clock, P: Peer> Asker
     for Connected<'a, L, D, G, R, P> {
-    type Ticket = Ticket;
+    type Ticket = Asked;
 
     type Patience = Patience;
 
-    ghost answer = { λ ticket. ticket.answer };
+    ghost answer = { answer_of };
 
     ghost makes = { MakesOne L.base };
 
@@ -100,11 +114,13 @@ impl<'a, L: Founding, D: Disk, G: Drop, R: Wait + Clock, P: Peer> Asker
 
     ghost acknowledges = { AcknowledgesOne L.base };
 
-    ghost fails = { λ old ticket fault new. new ≡ old };
+    ghost fails = { λ old asked fault new. new ≡ old };
 
-    fn submit(&mut self, call: &Call, may_wait: bool) -> Option<Ticket>
-        ensures makes { IfSome result (λ ticket. MakesOne L.base self.old call.now ticket self.new) }
-        ensures lacks { IfNone result (LacksOne L.base self.old call.now self.new) }
+    /// Makes a call of its session. Where it is confined, a session whose space was destroyed is detached first, and an
+    /// attach isn't made: it only asks whether its own space is there.
+    fn submit(&mut self, call: &Call, may_wait: bool) -> Option<Asked>
+        ensures makes { IfSome result (λ asked. MakesOne L.base self.old (Request.One call.now) asked self.new) }
+        ensures lacks { IfNone result (LacksOne L.base self.old (Request.One call.now) self.new) }
     {
         let Some(session) = self.session.take() else {
             unreachable!()
@@ -112,14 +128,42 @@ impl<'a, L: Founding, D: Disk, G: Drop, R: Wait + Clock, P: Peer> Asker
         if let Some(turn) = self.turn.take_if(|turn| turn.awaits_epoch()) {
             self.shared.end_turn(turn);
         }
-        let (session, made) = match &mut self.turn {
-            Some(turn) => turn.submit(session, call, &self.seat, may_wait),
-            None => self
-                .shared
-                .submit_for(self.rt, session, call, &self.seat, may_wait),
-        };
+        let (session, made) = make(
+            self.rt,
+            self.shared,
+            &mut self.turn,
+            &self.seat,
+            self.since,
+            session,
+            call,
+            may_wait,
+        );
         self.session = Some(session);
-        made.ok()
+        made
+    }
+
+    /// Confines its session to the space that it is in, where that is there.
+    fn confine(&mut self) -> Option<Asked>
+        ensures makes { IfSome result (λ asked. MakesOne L.base self.old Request.Confine asked self.new) }
+        ensures lacks { IfNone result (LacksOne L.base self.old Request.Confine self.new) }
+    {
+        let Some(session) = self.session.take() else {
+            unreachable!()
+        };
+        if let Some(turn) = self.turn.take_if(|turn| turn.awaits_epoch()) {
+            self.shared.end_turn(turn);
+        }
+        let (session, since, made) = confine(
+            self.rt,
+            self.shared,
+            &mut self.turn,
+            &self.seat,
+            self.since,
+            session,
+        );
+        self.session = Some(session);
+        self.since = since;
+        made
     }
 
     /// Takes the kernel's lock for them, if it isn't held.
@@ -140,35 +184,35 @@ impl<'a, L: Founding, D: Disk, G: Drop, R: Wait + Clock, P: Peer> Asker
         }
     }
 
-    fn is_done(&self, ticket: &Ticket) -> bool
-        ensures { result ≡ succeeded ticket.now.answer }
+    fn is_done(&self, asked: &Asked) -> bool
+        ensures { result ≡ succeeded (answer_of asked.now) }
     {
-        ticket.is_success()
+        asked.is_done()
     }
 
-    fn is_timed_out(&self, ticket: &Ticket) -> bool
-        ensures { result ≡ timed_out ticket.now.answer }
+    fn is_timed_out(&self, asked: &Asked) -> bool
+        ensures { result ≡ timed_out (answer_of asked.now) }
     {
-        match ticket.message_code() {
-            Some(KernReturn::SendTimedOut) => true,
-            Some(KernReturn::RcvTimedOut) => true,
-            _ => false,
-        }
+        asked.is_timed_out()
     }
 
     /// Waits until all that the ticket's call saw is stored.
-    fn redeem(&mut self, ticket: Ticket) -> Result<Reply, StoreFault>
-        ensures reply { IfOk result (λ reply. reply ≡ ticket.answer) }
-        ensures acknowledges { IfOk result (λ reply. AcknowledgesOne L.base self.old ticket self.new) }
+    fn redeem(&mut self, asked: Asked) -> Result<Reply, StoreFault>
+        ensures reply { IfOk result (λ reply. reply ≡ answer_of asked) }
+        ensures acknowledges { IfOk result (λ reply. AcknowledgesOne L.base self.old asked self.new) }
         ensures fits { IfOk result (λ reply. length (reply_encoding reply) ≤ MAX_FRAME_CONTENT) }
         ensures fails { IfErr result (λ fault. self.new ≡ self.old) }
     {
         let Some(session) = self.session.take() else {
             unreachable!()
         };
+        let (ticket, shown) = asked.into_parts();
         let (session, acknowledged) = self.shared.redeem(self.rt, session, ticket);
         self.session = Some(session);
-        acknowledged
+        match acknowledged {
+            Ok(reply) => Ok(shown.reply(self.alloc, reply)),
+            Err(fault) => Err(fault),
+        }
     }
 
     fn patience(&self, bound: Option<u32>) -> Patience {

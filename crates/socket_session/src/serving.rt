@@ -46,7 +46,7 @@ pub fn serve_connection<
     let Ok(seat) = Seat::new(rt.alloc(), connection.peer(session.number())) else {
         return None;
     };
-    let mut asker = Connected::new(rt, shared, seat, session);
+    let mut asker = Connected::new(rt.alloc(), rt, shared, seat, session);
     let served = serve_asked(rt.alloc(), reader, writer, &mut asker);
     drop(asker);
     Some(served)

@@ -13,6 +13,7 @@ typedef int kern_return_t;
 #define KERN_INVALID_ARGUMENT 4    /* no such call, or arguments that it can't have */
 #define KERN_FAILURE 5             /* the call can't be made, as the end of the first space */
 #define KERN_RESOURCE_SHORTAGE 6   /* out of memory, ports, spaces or room to store the call */
+#define KERN_NO_ACCESS 8           /* the connection is confined to its space */
 #define KERN_NOT_IN_SET 12         /* the port is in no set */
 #define KERN_NAME_EXISTS 13        /* the name is in use */
 #define KERN_INVALID_NAME 15       /* the name stands for nothing */

@@ -1,7 +1,7 @@
 -- Legal histories: several sessions, each with the calls of a task, and the one list of records that their calls make.
 use Rattle.std.specs.Prelude.{◌≡◌, ◌≢◌, ◌⊎◌, ℕ, ◌<◌, ◌≤◌, Bool, max, eqb, true, false, List, [], ◌∷◌, ◌++◌, length, take, map, flat_map, AllPairs, Some, slice_get, if◌then◌else◌}
 use Rattle.std.specs.List.{list_any}
-use Rattle.codes.specs.declared.name.TheConstants.{FIRST_SPACE}
+use Rattle.codes.specs.declared.name.TheConstants.{FIRST_SPACE, NO_SPACE}
 use Rattle.ipc_model.specs.declared.call.Call.{Call}
 use Rattle.ipc_model.specs.declared.call.Call.TheVariants.{Plain}
 use Rattle.ipc_model.specs.declared.plain_call.PlainCall.TheVariants as call
@@ -25,13 +25,15 @@ pub record Session : Type 0 where
   pub places : List ℕ
 
 -- What a session does: a call of its task is answered with a ticket; one of its tickets is redeemed, whose reply saw
--- this many records; a ticket of another session is redeemed; or the session only sees more of the history, as where a
--- call isn't taken, or where two sessions meet.
+-- this many records; a ticket of another session is redeemed; the session only sees more of the history, as where a
+-- call isn't taken, or where two sessions meet; or its space has gone, and its task is attached to none from then on,
+-- also where a new space gets the number.
 pub data Operation : Type 0 where
   called : Call → Reply → Operation
   redeemed : (seen : ℕ) → Operation
   redeemed_for_another : (seen : ℕ) → Operation
   looked : Operation
+  detached : Operation
 
 -- the space that a call attaches its task to, where it is done
 abbrev pub attached_by : ℕ → Call → ℕ
@@ -93,6 +95,7 @@ Leads base history old (called c answer) new =
 Leads base history old (redeemed seen) new = (has_ticket old seen ≡ true) × IsAcknowledgedUpTo old seen new
 Leads base history old (redeemed_for_another seen) new = IsAcknowledgedUpTo old seen new
 Leads base history old looked new = new ≡ record old { seen = new.seen }
+Leads base history old detached new = new ≡ record old { space = NO_SPACE; seen = new.seen }
 
 -- A session after one more operation: it forgets nothing that it saw, and sees no more than there is.
 pub record After (base : State) (history : List Record) (old : Session) (operation : Operation)

@@ -1,7 +1,7 @@
 use Rattle.std.proofs.Common.{ℕ, ◌++◌, inr, sym, ap, ◌∙◌}
 use Rattle.words.specs.Words.{word}
 use Rattle.calls.proofs.Asked.{asks_in_front, asks_after}
-use Rattle.calls.proofs.RequestLaws.{no_memory, one_numbered, only_numbered}
+use Rattle.calls.proofs.RequestLaws.{confine_found, confine_lacks_nothing, confine_only, no_memory, one_numbered, only_numbered}
 use Rattle.calls.proofs.request.read_request.Goals as goal
 
 pub returns-then-number-eq-MACH_MSG-clause-found :
@@ -43,3 +43,20 @@ returns-in-Err-clause-memory c = λ is.
         asks.2,
       ),
     )
+
+pub returns-then-number-eq-CONFINE-clause-found : goal.returns-then-number-eq-CONFINE-clause-found
+returns-then-number-eq-CONFINE-clause-found c =
+    confine_found c.args.frame.now.content c.in-Some.arguments.now c.read_confine.result
+    (sym c.content.ensures.value ∙ c.in-Some.ensures.found ∙ ap
+    (λ (n : ℕ). word n ++ c.in-Some.arguments.now) c.if-number-eq-CONFINE.true) c.read_confine.ensures.found
+
+pub returns-then-number-eq-CONFINE-clause-only : goal.returns-then-number-eq-CONFINE-clause-only
+returns-then-number-eq-CONFINE-clause-only c =
+    confine_only c.args.frame.now.content c.in-Some.arguments.now c.read_confine.result
+    (sym c.content.ensures.value ∙ c.in-Some.ensures.found ∙ ap
+    (λ (n : ℕ). word n ++ c.in-Some.arguments.now) c.if-number-eq-CONFINE.true) c.read_confine.ensures.found
+    c.read_confine.ensures.none
+
+pub returns-then-number-eq-CONFINE-clause-memory : goal.returns-then-number-eq-CONFINE-clause-memory
+returns-then-number-eq-CONFINE-clause-memory c = λ is.
+    absurd (confine_lacks_nothing c.read_confine.result c.read_confine.ensures.fault is)

@@ -29,6 +29,7 @@ returns-in-Ok-clause-rests g c =
             kernel = c.go_on.ensures.kernel i;
             store = new.store;
             space = c.self.inside.space;
+            confined = c.self.inside.confined;
             failed = c.self.inside.failed;
           };
       goes = inl c.in-Ok.ensures.goes;
@@ -63,6 +64,7 @@ returns-then-eq-clause-rests g c =
             kernel = c.go_on.ensures.kernel i;
             store = new.store;
             space = c.self.inside.space;
+            confined = c.self.inside.confined;
             failed = c.self.inside.failed;
           };
       goes =
@@ -72,6 +74,7 @@ returns-then-eq-clause-rests g c =
               kernel = (wanted.1 i).core.kernel;
               store = (wanted.1 i).store;
               space = c.self.inside.space;
+              confined = c.self.inside.confined;
               failed = c.self.inside.failed;
             },
           );

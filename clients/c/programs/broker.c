@@ -1,0 +1,330 @@
+#define _GNU_SOURCE /* for SO_DOMAIN and POLLRDHUP */
+
+#include "broker.h"
+
+#include "brokered.h"
+#include "call.h"
+#include "frame.h"
+
+#include <errno.h>
+#include <fcntl.h>
+#include <poll.h>
+#include <signal.h>
+#include <stdlib.h>
+#include <string.h>
+#include <sys/prctl.h>
+#include <sys/socket.h>
+#include <sys/time.h>
+#include <sys/uio.h>
+#include <sys/un.h>
+#include <sys/wait.h>
+#include <time.h>
+#include <unistd.h>
+
+/* Seconds that the server has for each step of a connection, and that all of a request may take before the broker ends. */
+enum { STEP_SECONDS = 3, REQUEST_SECONDS = 15 };
+
+/* Milliseconds before a worker that ended is started again, and that the broker's end is waited for. */
+enum { PAUSE = 100, LAST_MILLISECONDS = 500 };
+
+/* Requests. */
+
+/* All descriptors that came with a message; the first of them, and the others are closed. */
+static int first_of(struct msghdr *head) {
+    int first = -1;
+    for (struct cmsghdr *it = CMSG_FIRSTHDR(head); it != NULL; it = CMSG_NXTHDR(head, it)) {
+        if (it->cmsg_level != SOL_SOCKET || it->cmsg_type != SCM_RIGHTS) {
+            continue;
+        }
+        size_t count = (it->cmsg_len - CMSG_LEN(0)) / sizeof(int);
+        for (size_t i = 0; i < count; i++) {
+            int found;
+            memcpy(&found, CMSG_DATA(it) + i * sizeof found, sizeof found);
+            if (first < 0) {
+                first = found;
+            } else {
+                close(found);
+            }
+        }
+    }
+    return first;
+}
+
+/* Waits for the next message. Whether there is one, or may be later. */
+static bool await_request(int end) {
+    struct pollfd polled = {.fd = end, .events = POLLIN};
+    return poll(&polled, 1, -1) > 0 || errno == EINTR;
+}
+
+/* Takes a message, and gives the descriptor that it brought, or -1 where it brought none. Whether there may be another one:
+   not once no process of the command has the other end, or one of them has shut it down. */
+static bool take_request(int end, int *asked) {
+    union {
+        struct cmsghdr aligned;
+        unsigned char bytes[CMSG_SPACE(sizeof(int))];
+    } control;
+    unsigned char byte;
+    struct iovec content = {.iov_base = &byte, .iov_len = 1};
+    struct msghdr head = {
+        .msg_iov = &content,
+        .msg_iovlen = 1,
+        .msg_control = control.bytes,
+        .msg_controllen = CMSG_LEN(sizeof(int)), /* the system closes what is sent beyond it */
+    };
+    *asked = -1;
+    ssize_t length = recvmsg(end, &head, MSG_CMSG_CLOEXEC | MSG_DONTWAIT);
+    if (length < 0) {
+        return errno == EINTR || errno == EAGAIN;
+    }
+    *asked = first_of(&head);
+    /* No bytes are the end, or a message without any. */
+    struct pollfd polled = {.fd = end, .events = POLLRDHUP};
+    return length > 0 || poll(&polled, 1, 0) == 0;
+}
+
+/* Whether a descriptor is one end of a pair of sockets as clients make them. Nothing is written to anything else, since it
+   would be written with machrun's rights. */
+static bool is_of_pair(int asked) {
+    int domain = 0, type = 0;
+    struct sockaddr_un own, others;
+    socklen_t of_domain = sizeof domain, of_type = sizeof type, of_own = sizeof own, of_others = sizeof others;
+    return getsockopt(asked, SOL_SOCKET, SO_DOMAIN, &domain, &of_domain) == 0 && domain == AF_UNIX &&
+           getsockopt(asked, SOL_SOCKET, SO_TYPE, &type, &of_type) == 0 && type == SOCK_SEQPACKET &&
+           getsockname(asked, (struct sockaddr *) &own, &of_own) == 0 && of_own == sizeof own.sun_family &&
+           getpeername(asked, (struct sockaddr *) &others, &of_others) == 0 && of_others == sizeof others.sun_family;
+}
+
+/* Whether who asked waits yet. */
+static bool is_awaited(int asked) {
+    struct pollfd polled = {.fd = asked};
+    return poll(&polled, 1, 0) == 0;
+}
+
+/* Answers with a byte, and with a descriptor unless it is -1. Whether that was done. */
+static bool answer(int asked, unsigned char byte, int given) {
+    union {
+        struct cmsghdr aligned;
+        unsigned char bytes[CMSG_SPACE(sizeof(int))];
+    } control = {.bytes = {0}};
+    struct iovec content = {.iov_base = &byte, .iov_len = 1};
+    struct msghdr head = {.msg_iov = &content, .msg_iovlen = 1};
+    if (given >= 0) {
+        head.msg_control = control.bytes;
+        head.msg_controllen = sizeof control.bytes;
+        struct cmsghdr *rights = CMSG_FIRSTHDR(&head);
+        rights->cmsg_level = SOL_SOCKET;
+        rights->cmsg_type = SCM_RIGHTS;
+        rights->cmsg_len = CMSG_LEN(sizeof given);
+        memcpy(CMSG_DATA(rights), &given, sizeof given);
+    }
+    return sendmsg(asked, &head, MSG_DONTWAIT | MSG_NOSIGNAL) == 1;
+}
+
+/* Connections. */
+
+static void limit(int made, int seconds) {
+    struct timeval time = {.tv_sec = seconds};
+    setsockopt(made, SOL_SOCKET, SO_RCVTIMEO, &time, sizeof time);
+    setsockopt(made, SOL_SOCKET, SO_SNDTIMEO, &time, sizeof time);
+}
+
+/* The code of a call that has at most one argument, or BROKERED_LATER where the server doesn't answer. */
+static uint32_t call(int made, uint32_t number, const uint32_t *argument) {
+    static struct frame frame;
+    frame_begin(&frame, number);
+    if (argument != NULL) {
+        frame_put(&frame, *argument);
+    }
+    if (!frame_send(&frame, made) || !frame_receive(&frame, made)) {
+        return BROKERED_LATER;
+    }
+    uint32_t found = frame_take(&frame), code = frame_take(&frame);
+    return frame.is_bad || found != number || code >= BROKERED_LATER ? BROKERED_LATER : code;
+}
+
+/* Takes a new connection to the command's space for good. The number may be another space's by now, so the connection is
+   given only where the space that it is confined to has the name by which machrun knows its own. */
+static uint32_t enter(int made, const struct broker *broker) {
+    uint32_t code = call(made, CALL_ATTACH, &broker->space);
+    if (code == KERN_SUCCESS) {
+        code = call(made, CALL_CONFINE, NULL);
+    }
+    if (code == KERN_SUCCESS) {
+        code = call(made, CALL_TYPE, &broker->name);
+        code = code == KERN_INVALID_NAME ? KERN_INVALID_TASK : code;
+    }
+    return code;
+}
+
+static bool connect_to(int made, const char *path) {
+    struct sockaddr_un address = {.sun_family = AF_UNIX};
+    if (strlen(path) >= sizeof address.sun_path) {
+        return false;
+    }
+    memcpy(address.sun_path, path, strlen(path) + 1);
+    return connect(made, (struct sockaddr *) &address, sizeof address) == 0;
+}
+
+static void serve(int asked, const struct broker *broker) {
+    if (!is_of_pair(asked) || !is_awaited(asked)) {
+        return;
+    }
+    uint32_t code = BROKERED_LATER;
+    int made = socket(AF_UNIX, SOCK_STREAM | SOCK_CLOEXEC, 0);
+    if (made >= 0) {
+        limit(made, STEP_SECONDS);
+        code = connect_to(made, broker->socket) ? enter(made, broker) : BROKERED_LATER;
+        limit(made, 0);
+    }
+    if (code != KERN_SUCCESS || !answer(asked, BROKERED_GIVEN, made)) {
+        answer(asked, code == KERN_SUCCESS ? BROKERED_LATER : (unsigned char) code, -1);
+    }
+    if (made >= 0) {
+        close(made);
+    }
+}
+
+/* The worker: it answers requests. What holds it up ends it, by the signal of its clock. Also to take a message may, where it
+   brought more descriptors than there is room for. */
+static void work(const struct broker *broker, int end) {
+    int asked;
+    bool goes_on = true;
+    while (goes_on && await_request(end)) {
+        alarm(REQUEST_SECONDS);
+        goes_on = take_request(end, &asked);
+        if (asked >= 0) {
+            serve(asked, broker);
+            close(asked);
+        }
+        alarm(0);
+    }
+    _exit(0);
+}
+
+/* The process above it, which machrun knows: it starts a worker again that something ended. */
+
+static volatile sig_atomic_t worker; /* its process, or 0 */
+static volatile sig_atomic_t is_over;
+
+static void end_worker(int number) {
+    (void) number;
+    is_over = 1;
+    if (worker != 0) {
+        kill((pid_t) worker, SIGKILL);
+    }
+}
+
+static void sleep_for(long milliseconds) {
+    nanosleep(&(struct timespec){.tv_nsec = milliseconds * 1000000}, NULL);
+}
+
+/* A process of the broker ends with the one that started it. */
+static void end_with(pid_t parent) {
+    prctl(PR_SET_PDEATHSIG, SIGKILL);
+    if (getppid() != parent) {
+        _exit(0);
+    }
+}
+
+/* Starts a worker, unless all is over. */
+static void start_worker(const struct broker *broker, int end, const sigset_t *signals) {
+    pid_t own = getpid();
+    sigprocmask(SIG_BLOCK, signals, NULL);
+    pid_t made = is_over ? -1 : fork();
+    if (made == 0) {
+        signal(SIGUSR1, SIG_DFL);
+        signal(SIGALRM, SIG_DFL);
+        sigprocmask(SIG_UNBLOCK, signals, NULL);
+        end_with(own);
+        work(broker, end);
+    }
+    if (made < 0) {
+        _exit(0);
+    }
+    worker = made;
+    sigprocmask(SIG_UNBLOCK, signals, NULL);
+}
+
+static void see_workers(const struct broker *broker, int end, pid_t parent) {
+    struct sigaction action = {.sa_handler = end_worker};
+    sigset_t signals;
+    sigemptyset(&action.sa_mask);
+    sigemptyset(&signals);
+    sigaddset(&signals, SIGUSR1);
+    sigaddset(&signals, SIGALRM);
+    /* What asks machrun to end is for the command: the broker goes on until that has ended. */
+    signal(SIGHUP, SIG_IGN);
+    signal(SIGINT, SIG_IGN);
+    signal(SIGTERM, SIG_IGN);
+    sigaction(SIGUSR1, &action, NULL);
+    end_with(parent);
+    for (;;) {
+        int status = 0;
+        start_worker(broker, end, &signals);
+        while (waitpid((pid_t) worker, &status, 0) < 0 && errno == EINTR) {
+        }
+        worker = 0;
+        if (WIFEXITED(status)) {
+            _exit(0);
+        }
+        sleep_for(PAUSE);
+    }
+}
+
+/* machrun's side. It keeps no copy of the broker's end: its close would wait too for what the command left in the queue. */
+
+static bool start(struct broker *broker, const int *pair) {
+    pid_t parent = getpid();
+    pid_t made = fork();
+    if (made == 0) {
+        close(broker->end_of_command);
+        see_workers(broker, pair[0], parent);
+    }
+    broker->process = made > 0 ? made : 0;
+    return made > 0;
+}
+
+bool broker_begin(struct broker *broker) {
+    int pair[2];
+    if (socketpair(AF_UNIX, SOCK_SEQPACKET | SOCK_CLOEXEC, 0, pair) != 0) {
+        return false;
+    }
+    /* Not in the place of the command's standard input, output or errors, where these are closed. */
+    broker->end_of_command = fcntl(pair[1], F_DUPFD_CLOEXEC, 3);
+    close(pair[1]);
+    bool is_done = broker->end_of_command >= 0 && start(broker, pair);
+    int error = errno;
+    close(pair[0]);
+    if (!is_done) {
+        broker_was_given(broker);
+        errno = error;
+    }
+    return is_done;
+}
+
+void broker_was_given(struct broker *broker) {
+    if (broker->end_of_command >= 0) {
+        close(broker->end_of_command);
+    }
+    broker->end_of_command = -1;
+}
+
+static bool has_ended(pid_t process) {
+    for (int i = 0; i < LAST_MILLISECONDS; i++) {
+        if (waitpid(process, NULL, WNOHANG) != 0) {
+            return true;
+        }
+        sleep_for(1);
+    }
+    return false;
+}
+
+void broker_end(struct broker *broker) {
+    if (broker->process != 0) {
+        kill(broker->process, SIGUSR1);
+        if (!has_ended(broker->process)) {
+            kill(broker->process, SIGKILL); /* and what its worker is held up by is left to the system */
+        }
+    }
+    broker->process = 0;
+}

@@ -1,0 +1,127 @@
+#define _GNU_SOURCE /* for unshare and initgroups */
+
+#include "child.h"
+
+#include <dirent.h>
+#include <errno.h>
+#include <fcntl.h>
+#include <grp.h>
+#include <pwd.h>
+#include <sched.h>
+#include <stdio.h>
+#include <stdlib.h>
+#include <string.h>
+#include <sys/mount.h>
+#include <sys/prctl.h>
+#include <unistd.h>
+
+bool child_find_user(struct child *child) {
+    if (child->user == NULL) {
+        return true;
+    }
+    if (geteuid() != 0) {
+        fprintf(stderr, "machrun: --user %s: only root runs a command as another user\n", child->user);
+        return false;
+    }
+    const struct passwd *found = getpwnam(child->user);
+    if (found == NULL) {
+        fprintf(stderr, "machrun: --user %s: there is no such user\n", child->user);
+        return false;
+    }
+    child->uid = found->pw_uid;
+    child->gid = found->pw_gid;
+    return true;
+}
+
+static void fail(const char *what) {
+    fprintf(stderr, "machrun: %s: %s\n", what, strerror(errno));
+    _exit(FAILED);
+}
+
+bool child_find_socket(struct child *child) {
+    bool is_found = realpath(child->socket, child->found) != NULL;
+    if (!is_found) {
+        child->found[0] = '\0';
+    }
+    return is_found;
+}
+
+/* Whether the folder has nothing but the socket, so that nobody misses what else is in it. */
+static bool has_only(const char *folder, const char *name) {
+    DIR *opened = opendir(folder);
+    bool is_only = opened != NULL;
+    for (struct dirent *it; is_only && (it = readdir(opened)) != NULL;) {
+        is_only = strcmp(it->d_name, ".") == 0 || strcmp(it->d_name, "..") == 0 || strcmp(it->d_name, name) == 0;
+    }
+    if (opened != NULL) {
+        closedir(opened);
+    }
+    return is_only;
+}
+
+/*
+ * Covers the socket's folder by an empty one, for this process and those that it starts. The folder and not only the socket,
+ * since a server that is started again makes its socket anew, and a cover goes with what it was put over.
+ */
+static bool hide(const char *found) {
+    char folder[PATH_MAX], here[PATH_MAX];
+    strcpy(folder, found);
+    char *slash = strrchr(folder, '/');
+    if (slash == NULL || slash == folder) {
+        return false;
+    }
+    *slash = '\0';
+    if (!has_only(folder, slash + 1)) {
+        return false;
+    }
+    bool has_here = getcwd(here, sizeof here) != NULL;
+    /* Mounts that are made outside later are seen here too; those that are made here aren't seen outside. */
+    if (unshare(CLONE_NEWNS) != 0 || mount(NULL, "/", NULL, MS_REC | MS_SLAVE, NULL) != 0 ||
+        mount("machrun", folder, "tmpfs", MS_RDONLY | MS_NOSUID | MS_NODEV | MS_NOEXEC, "mode=0555,size=4k") != 0) {
+        return false;
+    }
+    /* A process that is in the folder is below the cover, until it goes there anew. */
+    return (has_here && chdir(here) == 0) || chdir("/") == 0;
+}
+
+static void become_user(const struct child *child) {
+    if (child->user != NULL &&
+        (initgroups(child->user, child->gid) != 0 || setgid(child->gid) != 0 || setuid(child->uid) != 0)) {
+        fail(child->user);
+    }
+}
+
+/* Takes from the command what it could reach the socket by, and says where that can't be. Programs with a user or a group of
+   their own (setuid) would be such a way too. */
+static void confine(const struct child *child) {
+    bool was_root = geteuid() == 0;
+    bool is_hidden = was_root && hide(child->found);
+    become_user(child);
+    if (prctl(PR_SET_NO_NEW_PRIVS, 1, 0, 0, 0) != 0) {
+        fail("no new privileges");
+    }
+    if (was_root && !is_hidden && access(child->socket, W_OK) == 0) {
+        fprintf(stderr, "machrun: %s can't be hidden, and the command may open it\n", child->socket);
+    }
+}
+
+static void give_broker(int broker) {
+    char number[16];
+    snprintf(number, sizeof number, "%d", broker);
+    if (fcntl(broker, F_SETFD, 0) != 0 || setenv("MACHIPC_FD", number, 1) != 0 || unsetenv("MACHIPC_SOCKET") != 0) {
+        fail("environment");
+    }
+}
+
+void child_run(const struct child *child) {
+    if (child->broker >= 0) {
+        confine(child);
+        give_broker(child->broker);
+    } else {
+        become_user(child);
+    }
+    execvp(child->words[0], child->words);
+    int error = errno;
+    fprintf(stderr, "machrun: %s: %s\n", child->words[0], strerror(error));
+    _exit(error == ENOENT ? NOT_FOUND : NOT_RUN);
+}

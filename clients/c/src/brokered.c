@@ -1,0 +1,139 @@
+#include "brokered.h"
+
+#include "clock.h"
+
+#include <errno.h>
+#include <fcntl.h>
+#include <poll.h>
+#include <string.h>
+#include <sys/socket.h>
+#include <sys/uio.h>
+#include <unistd.h>
+
+/* How many milliseconds an answer is waited for. machrun gives each within a few seconds, whatever the server does. */
+enum { BROKER_PATIENCE = 20000 };
+
+/* A message of one byte, with room for a descriptor. */
+struct letter {
+    struct msghdr head;
+    struct iovec content;
+    unsigned char byte;
+    union {
+        struct cmsghdr aligned;
+        unsigned char bytes[CMSG_SPACE(sizeof(int))];
+    } control;
+};
+
+static void letter_begin(struct letter *letter) {
+    memset(letter, 0, sizeof *letter);
+    letter->content = (struct iovec){.iov_base = &letter->byte, .iov_len = 1};
+    letter->head.msg_iov = &letter->content;
+    letter->head.msg_iovlen = 1;
+    letter->head.msg_control = letter->control.bytes;
+    letter->head.msg_controllen = sizeof letter->control.bytes;
+}
+
+static bool send_end(int broker, int end) {
+    struct letter letter;
+    letter_begin(&letter);
+    struct cmsghdr *control = CMSG_FIRSTHDR(&letter.head);
+    control->cmsg_level = SOL_SOCKET;
+    control->cmsg_type = SCM_RIGHTS;
+    control->cmsg_len = CMSG_LEN(sizeof end);
+    memcpy(CMSG_DATA(control), &end, sizeof end);
+    return sendmsg(broker, &letter.head, MSG_DONTWAIT | MSG_NOSIGNAL) == 1;
+}
+
+bool brokered_is_broker(int descriptor) {
+    int type = 0;
+    socklen_t length = sizeof type;
+    return getsockopt(descriptor, SOL_SOCKET, SO_TYPE, &type, &length) == 0 && type == SOCK_SEQPACKET;
+}
+
+/* Asks, and leaves the connection with the end where the answer comes. Whether that was done; if not, errno says why. */
+static bool ask(struct connection *connection, int broker) {
+    int pair[2];
+    connection_hold_forks();
+    bool is_done = socketpair(AF_UNIX, SOCK_SEQPACKET, 0, pair) == 0;
+    if (is_done) {
+        fcntl(pair[0], F_SETFD, FD_CLOEXEC);
+        fcntl(pair[1], F_SETFD, FD_CLOEXEC);
+        is_done = send_end(broker, pair[1]);
+        int error = errno;
+        close(pair[1]);
+        if (is_done) {
+            connection->socket = pair[0];
+        } else {
+            close(pair[0]);
+            errno = error;
+        }
+    }
+    connection_release_forks();
+    return is_done;
+}
+
+/* Whether what failed so may be done in a moment: another asker has filled the queue, or a signal came. */
+static bool may_go_on(int error) {
+    return error == EAGAIN || error == EINTR || error == ETOOMANYREFS || error == ENOBUFS;
+}
+
+/* Waits until there is an answer, or none comes any more. Whether it is one of these. */
+static bool await(int socket, const struct clock_wait *wait) {
+    struct pollfd polled = {.fd = socket, .events = POLLIN};
+    int found;
+    do {
+        found = poll(&polled, 1, (int) clock_wait_left(wait));
+    } while (found < 0 && errno == EINTR);
+    return found > 0;
+}
+
+/* The answer's descriptor, or -1. */
+static int descriptor_of(struct letter *letter) {
+    struct cmsghdr *control = CMSG_FIRSTHDR(&letter->head);
+    int descriptor = -1;
+    if (control != NULL && control->cmsg_level == SOL_SOCKET && control->cmsg_type == SCM_RIGHTS &&
+        control->cmsg_len == CMSG_LEN(sizeof descriptor)) {
+        memcpy(&descriptor, CMSG_DATA(control), sizeof descriptor);
+    }
+    return descriptor;
+}
+
+/* Reads the answer, and puts what was given in the place of the socket that it came by. */
+static kern_return_t take(struct connection *connection) {
+    struct letter letter;
+    letter_begin(&letter);
+    connection_hold_forks();
+    bool is_read = recvmsg(connection->socket, &letter.head, MSG_DONTWAIT) == 1;
+    int given = is_read ? descriptor_of(&letter) : -1;
+    if (given >= 0) {
+        fcntl(given, F_SETFD, FD_CLOEXEC);
+        close(connection->socket);
+        connection->socket = given;
+    }
+    connection_release_forks();
+    if (!is_read || letter.byte == BROKERED_LATER) {
+        errno = ECONNREFUSED;
+        return MACH_SEND_INTERRUPTED;
+    }
+    if (letter.byte == BROKERED_GIVEN && given < 0) {
+        errno = EMFILE; /* there was no room for the descriptor */
+        return MACH_SEND_INTERRUPTED;
+    }
+    return letter.byte;
+}
+
+kern_return_t brokered_open(struct connection *connection, int broker) {
+    struct clock_wait wait = clock_wait_for(BROKER_PATIENCE);
+    while (!ask(connection, broker)) {
+        int error = errno;
+        if (!may_go_on(error) || !clock_wait_pause(&wait)) {
+            errno = error;
+            return MACH_SEND_INTERRUPTED;
+        }
+    }
+    if (!await(connection->socket, &wait)) {
+        errno = ETIMEDOUT;
+        return MACH_SEND_INTERRUPTED;
+    }
+    return take(connection);
+}

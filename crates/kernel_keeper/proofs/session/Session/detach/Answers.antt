@@ -1,0 +1,24 @@
+use Rattle.std.proofs.Common.{subst}
+use Rattle.ipc_model.specs.history.History.{detached}
+use Rattle.kernel_keeper.specs.Tokens.{Did, SessionValue, session_of}
+use Rattle.kernel_keeper.proofs.Histories.{detaches, detaching, did_detach}
+use Rattle.kernel_keeper.proofs.session.Session.detach.Goals as goal
+
+pub invariant_of-session : goal.invariant_of-session
+invariant_of-session g c =
+    let own_state = c.session.inside.own_state in
+    let past = c.session.inside.past in
+    let old : SessionValue =
+    session_of own_state.number own_state.space own_state.acknowledged own_state.tickets.numbers
+    own_state.places.numbers past in
+    (detaches g.L.Founding.base old own_state.share.amount c.session.invariant.0, c.session.invariant.1)
+
+pub returns-clause-detached : goal.returns-clause-detached
+returns-clause-detached g c =
+    let own_state = c.session.inside.own_state in
+    let past = c.session.inside.past in
+    let old : SessionValue =
+    session_of own_state.number own_state.space own_state.acknowledged own_state.tickets.numbers
+    own_state.places.numbers past in
+    subst (λ (s : SessionValue). Did g.L.Founding.base s detached (detaching old)) c.session.view_is
+    (did_detach g.L.Founding.base old c.session.invariant.0.seen)
