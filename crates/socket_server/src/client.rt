@@ -43,9 +43,37 @@ pub(crate) enum Awaits {
     End,
 }
 
+/// What a connection's timer is set for.
+#[derive(Clone, Copy, Debug, PartialEq, Eq)]
+pub(crate) enum Timed {
+    Turn,
+    Room,
+    Memory,
+}
+
+impl Awaits {
+    /// What a timer is set for meanwhile, and to how many milliseconds.
+    pub(crate) fn timed(self) -> Option<(Timed, u32)> {
+        match self {
+            Awaits::Turn(Some(most)) => Some((Timed::Turn, most)),
+            Awaits::Room(most) => Some((Timed::Room, most)),
+            Awaits::Memory(most) => Some((Timed::Memory, most)),
+            _ => None,
+        }
+    }
+}
+
 /// The conversation of a session over a socket.
-pub(crate) type Talk<'a, L, D, R> =
-    socket_session::Talk<'a, L, D, OpenGate, R, Stream, Stream, Stream>;
+pub(crate) type Talk<'a, L, D, R> = socket_session::Talk<
+    'a,
+    L,
+    D,
+    OpenGate,
+    R,
+    Stream,
+    Stream,
+    Stream,
+>;
 
 /// A connection, with what its worker knows of it.
 #[derive(Drop)]
@@ -58,17 +86,16 @@ pub(crate) struct Client<'a, L: Founding, D: Disk, R: Wait> {
     lacks_memory: bool,
     awaits_room: bool,
 
-    // Whether its call's turn has come, whether the call waits in no line, since an allocation failed, whether its time
-    // is over, and whether it failed.
+    // Whether its call's turn has come, whether the call waits in no line, since an allocation failed, and whether it
+    // failed.
     has_turn: bool,
     has_no_line: bool,
-    is_time_over: bool,
     has_failed: bool,
 
-    /// The time that its timer is set to.
-    pub(crate) timer: Option<u64>,
-
-    // Whether what it waits for has just begun, so that the timer is set anew.
+    // The time that its timer is set to; what its time is over for; and whether what it waits for has just begun, so
+    // that the timer is set anew.
+    timer: Option<(u64, Timed)>,
+    over: Option<Timed>,
     begins: bool,
 
     /// Whether it is among those for which something is to be done, and among those for which something was done.
@@ -87,9 +114,9 @@ impl<'a, L: Founding, D: Disk, R: Wait> Client<'a, L, D, R> {
             awaits_room: false,
             has_turn: false,
             has_no_line: false,
-            is_time_over: false,
             has_failed: false,
             timer: None,
+            over: None,
             begins: false,
             is_ready: false,
             is_worked: false,
@@ -142,12 +169,14 @@ impl<'a, L: Founding, D: Disk, R: Wait> Client<'a, L, D, R> {
 
     /// Its timer's time is over.
     pub(crate) fn note_time(&mut self) {
-        self.timer = None;
-        if self.lacks_memory {
+        let Some((_, timed)) = self.timer.take() else {
+            return;
+        };
+        if timed == Timed::Memory {
             self.lacks_memory = false;
             self.may_read = true;
         } else {
-            self.is_time_over = true;
+            self.over = Some(timed);
         }
     }
 
@@ -171,7 +200,7 @@ impl<'a, L: Founding, D: Disk, R: Wait> Client<'a, L, D, R> {
             return false;
         }
         if self.talk.waits().is_some() {
-            return self.has_turn || self.has_no_line || self.is_time_over;
+            return self.has_turn || self.has_no_line || self.over == Some(Timed::Turn);
         }
         self.talk.has_next()
     }
@@ -191,9 +220,9 @@ impl<'a, L: Founding, D: Disk, R: Wait> Client<'a, L, D, R> {
         if self.talk.waits().is_none() {
             return self.talk.take(alloc, turn);
         }
-        let may_wait = !self.is_time_over;
+        let may_wait = self.over != Some(Timed::Turn);
         self.has_turn = false;
-        self.is_time_over = false;
+        self.over = None;
         let (turn, tried) = self.talk.try_again(alloc, turn, may_wait);
         match tried {
             Tried::Settled => {}
@@ -211,12 +240,22 @@ impl<'a, L: Founding, D: Disk, R: Wait> Client<'a, L, D, R> {
         if self.has_failed {
             return;
         }
+        let earlier = self.talk.unsent();
         self.has_failed = self.talk.answer(reply).is_err();
         let before = self.talk.unsent();
         self.has_failed = self.has_failed || self.talk.flush().is_err();
         let left = self.talk.unsent();
-        self.begins = self.begins || (left != 0 && left != before);
+        self.note_sent(earlier == 0 || left != before, left != 0);
         self.report_room(registry, left != 0);
+    }
+
+    /// The time in which the other side has to take something begins, if it took something or had nothing to take, and
+    /// something is left.
+    fn note_sent(&mut self, begins: bool, is_left: bool) {
+        if self.over == Some(Timed::Room) && (begins || !is_left) {
+            self.over = None;
+        }
+        self.begins = self.begins || (begins && is_left);
     }
 
     /// What it waits for now.
@@ -225,7 +264,7 @@ impl<'a, L: Founding, D: Disk, R: Wait> Client<'a, L, D, R> {
             return Awaits::End;
         }
         if self.talk.unsent() != 0 {
-            return if self.is_time_over {
+            return if self.over == Some(Timed::Room) {
                 Awaits::End
             } else {
                 Awaits::Room(UNREAD_MILLISECONDS)
@@ -250,9 +289,26 @@ impl<'a, L: Founding, D: Disk, R: Wait> Client<'a, L, D, R> {
         }
     }
 
-    /// Whether what it waits for has just begun. Said once.
-    pub(crate) fn takes_new_timer(&mut self) -> bool {
-        mem::replace(&mut self.begins, false)
+    /// The time that its timer is set to.
+    pub(crate) fn timer(&self) -> Option<u64> {
+        let (end, _) = self.timer?;
+        Some(end)
+    }
+
+    /// Its timer is set to this time.
+    pub(crate) fn set_timer(&mut self, end: u64, timed: Timed) {
+        self.timer = Some((end, timed));
+    }
+
+    /// The time that its timer is set to, if that isn't for what it awaits now. It has no timer then.
+    pub(crate) fn take_other_timer(&mut self, awaited: Option<Timed>) -> Option<u64> {
+        let begins = mem::replace(&mut self.begins, false);
+        let (end, timed) = self.timer?;
+        if !begins && awaited == Some(timed) {
+            return None;
+        }
+        self.timer = None;
+        Some(end)
     }
 
     /// Whether a call of it waits in no line, and is to be made again.

@@ -6,12 +6,11 @@ use codes::CHECKPOINT_RECORDS;
 use disk::Disk;
 use sessions::{Admissions, Founding, OpenGate, Shared};
 use std::alloc::Global;
-use std::io;
 use std::net::{Net, TcpListener, TcpStream};
 use std::os::unix::net::{UnixListener, UnixStream};
 use std::sync::Arc;
-use std::thread;
 use std::time::Duration;
+use std::{io, thread};
 use store_fault::StoreFault;
 
 /// The workers that connections are handed to.

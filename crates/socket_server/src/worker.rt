@@ -11,12 +11,11 @@ use socket_session::{Stream, begin};
 use std::alloc::{AllocError, AllocGlobal, Global};
 use std::collections::{BTreeMap, VecDeque};
 use std::io::{self, ErrorKind};
-use std::mem;
 use std::net::Net;
 use std::os::unix::net::UnixStream;
 use std::sync::{Arc, Mutex, Wait};
-use std::thread;
 use std::time::{Clock, Duration};
+use std::{mem, thread};
 use wire::Frame;
 
 /// How many events one wait reports at most.
@@ -87,6 +86,7 @@ pub(crate) fn run<L: Founding, D: Disk, R: Wait + Clock + AllocGlobal>(
         awaiting: Vec::new(alloc),
         failed: Vec::new(alloc),
         due: Vec::new(alloc),
+        lacks_due: false,
         reply: Frame::with_room(alloc, MAX_FRAME_CONTENT as usize)?,
     };
     for _ in rt.forever() {
@@ -113,7 +113,10 @@ struct Work<'a, L: Founding, D: Disk, R: Wait + Clock> {
     awaiting: Vec<u32>,
     failed: Vec<u32>,
 
+    // The sessions whose call's turn has come, and whether an allocation for them failed.
     due: Vec<u32>,
+    lacks_due: bool,
+
     reply: Frame,
 }
 
@@ -122,10 +125,11 @@ impl<'a, L: Founding, D: Disk, R: Wait + Clock + AllocGlobal> Work<'a, L, D, R> 
     fn round(&mut self) {
         if self.wait() {
             self.admit();
-            if self.shared.take_due(self.rt, &self.door.worker, &mut self.due).is_ok() {
-                self.note_turns();
-            }
+            self.lacks_due = true;
             self.rouse_awaiting();
+        }
+        if self.lacks_due {
+            self.take_due();
         }
         self.note_times();
         self.retry_failed();
@@ -161,7 +165,7 @@ impl<'a, L: Founding, D: Disk, R: Wait + Clock + AllocGlobal> Work<'a, L, D, R> 
             return Some(Duration::from_millis(0));
         }
         let left = self.timers.left(self.rt);
-        if self.failed.is_empty() {
+        if self.failed.is_empty() && !self.lacks_due {
             return left;
         }
         let retry = Duration::from_millis(RETRY_MILLISECONDS);
@@ -184,7 +188,15 @@ impl<'a, L: Founding, D: Disk, R: Wait + Clock + AllocGlobal> Work<'a, L, D, R> 
         let stream = Stream::new(self.rt.alloc(), socket)?;
         let worker = Arc::try_clone(&self.door.worker)?;
         let (peer, reader, writer) = (stream.again()?, stream.again()?, stream.again()?);
-        let begun = begin(self.rt, self.shared, admission, worker, peer, reader, writer);
+        let begun = begin(
+            self.rt,
+            self.shared,
+            admission,
+            worker,
+            peer,
+            reader,
+            writer,
+        );
         let Some(talk) = begun else {
             return Err(ErrorKind::OutOfMemory.into());
         };
@@ -206,6 +218,15 @@ impl<'a, L: Founding, D: Disk, R: Wait + Clock + AllocGlobal> Work<'a, L, D, R> 
         self.failed.reserve(count)
     }
 
+    /// Takes the turns that have come, if there is memory for them.
+    fn take_due(&mut self) {
+        let taken = self
+            .shared
+            .take_due(self.rt, &self.door.worker, &mut self.due);
+        self.lacks_due = taken.is_err();
+        self.note_turns();
+    }
+
     /// There is something to do for the sessions whose call's turn has come.
     fn note_turns(&mut self) {
         for session in self.due.iter() {
@@ -214,6 +235,7 @@ impl<'a, L: Founding, D: Disk, R: Wait + Clock + AllocGlobal> Work<'a, L, D, R> 
                 make_ready(client, *session, &mut self.ready);
             }
         }
+        self.due.clear();
     }
 
     /// There is something to do for those that await records.
@@ -266,9 +288,9 @@ impl<'a, L: Founding, D: Disk, R: Wait + Clock + AllocGlobal> Work<'a, L, D, R> 
             // A call that waits in this thread goes on before the thread waits for what the others made.
             if self.ready.is_empty() {
                 if let Some(turn) = &mut turn {
-                    if turn.take_due(&self.door.worker, &mut self.due).is_ok() {
-                        self.note_turns();
-                    }
+                    let taken = turn.take_due(&self.door.worker, &mut self.due);
+                    self.lacks_due = taken.is_err();
+                    self.note_turns();
                 }
             }
         }
@@ -326,32 +348,23 @@ impl<'a, L: Founding, D: Disk, R: Wait + Clock + AllocGlobal> Work<'a, L, D, R> 
 
     /// Sets a session's timer to what it awaits, unless it awaits the same still.
     fn set_timer(&mut self, session: u32, awaits: Awaits) {
+        if awaits == Awaits::End {
+            self.remove(session);
+            return;
+        }
         let Some(client) = self.clients.get_mut(&session) else {
             return;
         };
-        let most = match awaits {
-            Awaits::End => {
-                self.remove(session);
-                return;
-            }
-            Awaits::Turn(most) => most,
-            Awaits::Room(most) | Awaits::Memory(most) => Some(most),
-            Awaits::Input | Awaits::Nothing | Awaits::Records(_) => None,
-        };
-        if client.takes_new_timer() {
-            if let Some(end) = client.timer.take() {
-                self.timers.clear(end, session);
+        let timed = awaits.timed();
+        if let Some(end) = client.take_other_timer(timed.map(|(timed, _)| timed)) {
+            self.timers.clear(end, session);
+        }
+        if let (None, Some((timed, most))) = (client.timer(), timed) {
+            if let Some(end) = self.timers.set(self.rt, session, most) {
+                client.set_timer(end, timed);
             }
         }
-        match (client.timer, most) {
-            (None, Some(most)) => client.timer = self.timers.set(self.rt, session, most),
-            (Some(end), None) => {
-                self.timers.clear(end, session);
-                client.timer = None;
-            }
-            _ => {}
-        }
-        if client.has_no_line() || (most.is_some() && client.timer.is_none()) {
+        if client.has_no_line() || (timed.is_some() && client.timer().is_none()) {
             let _ = self.failed.push(session);
         }
     }
@@ -361,7 +374,7 @@ impl<'a, L: Founding, D: Disk, R: Wait + Clock + AllocGlobal> Work<'a, L, D, R> 
         let Some(client) = self.clients.remove(&session) else {
             return;
         };
-        if let Some(end) = client.timer {
+        if let Some(end) = client.timer() {
             self.timers.clear(end, session);
         }
         if client.waits() {
