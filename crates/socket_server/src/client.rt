@@ -1,7 +1,5 @@
 //! One connection, as a worker sees it.
-ghost use Rattle.std.specs.Prelude.{◌≤◌};
-ghost use Rattle.codes.specs.declared.limits.TheConstants.{MAX_FRAME_CONTENT};
-
+use crate::replies::ReplyFrame;
 use disk::Disk;
 use frame_service::Tried;
 use mio::unix::SourceFd;
@@ -13,10 +11,12 @@ use std::alloc::Global;
 use std::mem;
 use std::os::fd::AsRawFd;
 use std::sync::Wait;
-use wire::Frame;
 
 /// How many bytes that came may wait for their frames' turn before no more are read.
 const MOST_AHEAD: usize = 131_072;
+
+/// How many times a connection is read in one round, at most.
+const MOST_READS: usize = 16;
 
 /// For how many milliseconds a peer may leave unread what it was sent before its connection is closed.
 const UNREAD_MILLISECONDS: u32 = 5_000;
@@ -182,7 +182,10 @@ impl<'a, L: Founding, D: Disk, R: Wait> Client<'a, L, D, R> {
 
     /// Reads what there is.
     pub(crate) fn read(&mut self) {
-        while self.may_read && self.talk.ahead() < MOST_AHEAD {
+        for _ in 0..MOST_READS {
+            if !self.may_read || MOST_AHEAD <= self.talk.ahead() {
+                return;
+            }
             match self.talk.read() {
                 Filled::Some => {}
                 Filled::None | Filled::Over => self.may_read = false,
@@ -233,15 +236,12 @@ impl<'a, L: Founding, D: Disk, R: Wait> Client<'a, L, D, R> {
     }
 
     /// Answers what can be answered, and gives the other side what it takes.
-    pub(crate) fn answer(&mut self, reply: &mut Frame, registry: &Registry)
-        requires { MAX_FRAME_CONTENT ≤ reply.old.room }
-        ensures { reply.old.room ≤ reply.new.room }
-    {
+    pub(crate) fn answer(&mut self, reply: &mut ReplyFrame, registry: &Registry) {
         if self.has_failed {
             return;
         }
         let earlier = self.talk.unsent();
-        self.has_failed = self.talk.answer(reply).is_err();
+        self.has_failed = reply.answer(&mut self.talk).is_err();
         let before = self.talk.unsent();
         self.has_failed = self.has_failed || self.talk.flush().is_err();
         let left = self.talk.unsent();

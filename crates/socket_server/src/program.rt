@@ -65,8 +65,8 @@ pub fn serve_disk<
     }
 }
 
-/// Binds the socket's path, says on the output that it is ready, and serves an opened store there, each connection in a
-/// thread of its own as a session of the store's history. It ends only after a fault.
+/// Binds the socket's path, says on the output that it is ready, and serves an opened store there, each connection as a
+/// session of the store's history. It ends only after a fault.
 pub fn serve_opened<
     D: Disk + Drop + Send + 'static,
     R: Host + Net<Listener = TcpListener, Stream = TcpStream>,
@@ -143,7 +143,7 @@ fn serve_history<
     serve_shared(rt, path.as_str(), listener, &shared, admissions, output)
 }
 
-/// Starts the loops and the watcher, says that connections are accepted, and serves them until the store fails.
+/// Starts the loops and the workers, says that connections are accepted, and serves them until the store fails.
 fn serve_shared<
     L: Founding + Send + Sync + 'static,
     D: Disk + Drop + Send + 'static,

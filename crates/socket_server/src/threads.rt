@@ -20,7 +20,7 @@ pub(crate) type Doors<L> = Vec<Arc<Door<L>, Global>>;
 pub(crate) fn start_workers<
     L: Founding + Send + Sync + 'static,
     D: Disk + Drop + Send + 'static,
-    R: Host + Net,
+    R: Host + Net<Listener = TcpListener, Stream = TcpStream>,
 >(rt: R, shared: &Arc<Shared<L, D, OpenGate>, Global>) -> io::Result<Doors<L>> {
     let count = thread::available_parallelism(&rt)?.get();
     let mut doors = Vec::new(rt.alloc());
@@ -53,7 +53,7 @@ pub(crate) fn accept<L: Founding + Send + Sync + 'static, D: Disk + Drop + Send 
         match stream {
             Ok(socket) => {
                 if let Some(admission) = admissions.next() {
-                    next = if next + 1 < doors.len() { next + 1 } else { 0 };
+                    next = after(next, doors.len());
                     if let Some(door) = doors.get(next) {
                         door.hand_in(&rt, Arrival { socket, admission });
                     }
@@ -64,6 +64,12 @@ pub(crate) fn accept<L: Founding + Send + Sync + 'static, D: Disk + Drop + Send 
         }
     }
     StoreFault::Failed
+}
+
+/// The number after this one of so many, or the first.
+fn after(number: usize, count: usize) -> usize {
+    let next = number.saturating_add(1);
+    if next < count { next } else { 0 }
 }
 
 /// Starts the loops that store and make images. Returns whether both run.

@@ -1,8 +1,8 @@
 //! A thread that serves many connections, each as far as it goes without waiting.
 
 use crate::client::{Awaits, Client};
+use crate::replies::ReplyFrame;
 use crate::timers::Timers;
-use codes::MAX_FRAME_CONTENT;
 use disk::Disk;
 use mio::event::Events;
 use mio::{Poll, Token, Waker};
@@ -16,7 +16,6 @@ use std::os::unix::net::UnixStream;
 use std::sync::{Arc, Mutex, Wait};
 use std::time::{Clock, Duration};
 use std::{mem, thread};
-use wire::Frame;
 
 /// How many events one wait reports at most.
 const MOST_EVENTS: usize = 256;
@@ -87,7 +86,7 @@ pub(crate) fn run<L: Founding, D: Disk, R: Wait + Clock + AllocGlobal>(
         failed: Vec::new(alloc),
         due: Vec::new(alloc),
         lacks_due: false,
-        reply: Frame::with_room(alloc, MAX_FRAME_CONTENT as usize)?,
+        reply: ReplyFrame::new(alloc)?,
     };
     for _ in rt.forever() {
         work.round();
@@ -117,7 +116,7 @@ struct Work<'a, L: Founding, D: Disk, R: Wait + Clock> {
     due: Vec<u32>,
     lacks_due: bool,
 
-    reply: Frame,
+    reply: ReplyFrame,
 }
 
 impl<'a, L: Founding, D: Disk, R: Wait + Clock + AllocGlobal> Work<'a, L, D, R> {
@@ -250,7 +249,10 @@ impl<'a, L: Founding, D: Disk, R: Wait + Clock + AllocGlobal> Work<'a, L, D, R> 
 
     /// There is something to do for those whose time is over.
     fn note_times(&mut self) {
-        while let Some(session) = self.timers.take_over(self.rt) {
+        for _ in 0..self.clients.len() {
+            let Some(session) = self.timers.take_over(self.rt) else {
+                return;
+            };
             if let Some(client) = self.clients.get_mut(&session) {
                 client.note_time();
                 make_ready(client, session, &mut self.ready);
@@ -322,7 +324,10 @@ impl<'a, L: Founding, D: Disk, R: Wait + Clock + AllocGlobal> Work<'a, L, D, R> 
     /// Answers those for which something was done, as far as their replies can be had.
     fn answer(&mut self) {
         let mut least: Option<u64> = None;
-        while let Some(session) = self.worked.pop() {
+        for _ in 0..self.worked.len() {
+            let Some(session) = self.worked.pop() else {
+                break;
+            };
             let Some(client) = self.clients.get_mut(&session) else {
                 continue;
             };

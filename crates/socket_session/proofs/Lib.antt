@@ -1,2 +1,3 @@
+mod Beginning
 mod Showing
 mod Staying

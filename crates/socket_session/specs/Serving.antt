@@ -6,7 +6,6 @@ use Rattle.codes.specs.declared.name.TheConstants.{FIRST_SPACE}
 use Rattle.frame_service.specs.Conversing.{Begins}
 use Rattle.frame_service.specs.declared.asking.Asker as asker
 use Rattle.frame_service.specs.declared.conversation.Conversation.{Conversation}
-use Rattle.ipc_model.specs.state.State.{State}
 use Rattle.kernel_keeper.specs.Tokens.{SessionValue}
 use Rattle.socket_buffers.specs.Boxes.{InboxValue, OutboxValue}
 use Rattle.socket_buffers.specs.declared.inbox.Source.TheVariants.{Open}
@@ -33,8 +32,7 @@ to_stream stream = record { stream = stream; bytes = [] }
 module _ {S W Turn : Type 0} {reading : read.Ghosts S} {writing : write.Ghosts W}
     {asking : asker.Ghosts ConnectedValue AskedValue Turn} where
   -- A conversation that begins with one new session, over these streams.
-  abbrev pub BeginsNew : State → S → W → Conversation S W ConnectedValue AskedValue Turn reading writing asking
-      → Type 0
-  BeginsNew base reader writer talk =
+  abbrev pub BeginsNew : S → W → Conversation S W ConnectedValue AskedValue Turn reading writing asking → Type 0
+  BeginsNew reader writer talk =
       (session : SessionValue) × IsNewSession session
       × Begins (unconfined session) (from_stream reader) (to_stream writer) talk

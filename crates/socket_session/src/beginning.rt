@@ -36,7 +36,7 @@ pub fn begin<
     reader: S,
     writer: W,
 ) -> Option<Talk<'a, L, D, G, R, P, S, W>>
-    ensures begins { IfSome result (λ talk. BeginsNew L.base reader writer talk) }
+    ensures begins { IfSome result (λ talk. BeginsNew reader writer talk) }
 {
     let Ok(session) = shared.session(rt, admission) else {
         return None;
@@ -46,5 +46,8 @@ pub fn begin<
     let asker = Connected::new(alloc, rt, shared, seat, session);
     let inbox = Inbox::new(alloc, reader);
     let outbox = Outbox::new(alloc, writer);
-    Conversation::new(alloc, inbox, outbox, asker).ok()
+    match Conversation::new(alloc, inbox, outbox, asker) {
+        Ok(talk) => Some(talk),
+        Err(_) => None,
+    }
 }

@@ -79,7 +79,9 @@ impl<'a, L: Founding, D: Disk, G, R, P> Connected<'a, L, D, G, R, P> {
     }
 
     /// The number of its session.
-    pub fn number(&self) -> u32 {
+    pub fn number(&self) -> u32
+        ensures { IfSome self.now.session (λ session. result ≡ session.number) }
+    {
         match &self.session {
             Some(session) => session.number(),
             None => unreachable!(),
