@@ -222,11 +222,7 @@ impl<L: Founding, D: Disk, G: Drop> Shared<L, D, G> {
     }
 
     /// A worker, which this wakes.
-    pub fn worker(
-        &self,
-        rt: &impl Wait,
-        waker: Waker,
-    ) -> Result<Arc<Worker, Global>, AllocError> {
+    pub fn worker(&self, rt: &impl Wait, waker: Waker) -> Result<Arc<Worker, Global>, AllocError> {
         let number = self.guarded.lock(rt).add_worker()?;
         let Ok(worker) = Arc::new(self.alloc, Worker::new(number, waker)) else {
             return Err(AllocError);

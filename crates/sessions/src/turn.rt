@@ -53,9 +53,14 @@ impl<'a, L: Founding> Turn<'a, L> {
         self.guarded.awaits_epoch()
     }
 
-    /// The sessions of a worker whose call's turn has come, as `Shared::take_due` does.
+    /// The sessions of a worker whose call's turn has come, as `Shared::take_due` does. The worker isn't woken for them.
     pub fn take_due(&mut self, worker: &Worker, due: &mut Vec<u32>) -> Result<(), AllocError> {
-        self.guarded.take_due(worker.number(), due)
+        self.guarded.take_due(worker.number(), due)?;
+        drop(
+            self.due_worker
+                .take_if(|woken| woken.number() == worker.number()),
+        );
+        Ok(())
     }
 
     /// Whether a session's call waits in line, or its turn has come.

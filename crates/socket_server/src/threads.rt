@@ -1,7 +1,7 @@
 //! The threads: one that stores, one that makes images, some that serve connections.
 
 use crate::host::Host;
-use crate::worker::{Arrival, Door, open_door, run};
+use crate::worker::{Arrival, Door, Tools, open_door, run};
 use codes::CHECKPOINT_RECORDS;
 use disk::Disk;
 use sessions::{Admissions, Founding, OpenGate, Shared};
@@ -25,15 +25,23 @@ pub(crate) fn start_workers<
     let count = thread::available_parallelism(&rt)?.get();
     let mut doors = Vec::new(rt.alloc());
     for _ in 0..count {
-        let (poll, door) = open_door(&rt, shared)?;
-        let mine = Arc::try_clone(shared)?;
-        let same = Arc::try_clone(&door)?;
-        thread::spawn(&rt, move || {
-            let _ = run(&rt, &*mine, &*same, poll);
-        })?;
-        doors.push(door)?;
+        doors.push(start_worker(rt, shared)?)?;
     }
     Ok(doors)
+}
+
+/// Starts a worker.
+fn start_worker<
+    L: Founding + Send + Sync + 'static,
+    D: Disk + Drop + Send + 'static,
+    R: Host + Net<Listener = TcpListener, Stream = TcpStream>,
+>(rt: R, shared: &Arc<Shared<L, D, OpenGate>, Global>) -> io::Result<Arc<Door<L>, Global>> {
+    let tools = Tools::new(&rt)?;
+    let door = open_door(&rt, shared, &tools)?;
+    let mine = Arc::try_clone(shared)?;
+    let same = Arc::try_clone(&door)?;
+    thread::spawn(&rt, move || run(&rt, &*mine, &*same, tools))?;
+    Ok(door)
 }
 
 /// Hands each connection to a worker, until the store fails.

@@ -51,17 +51,36 @@ impl<L: Founding> Door<L> {
     }
 }
 
-/// What a worker begins with: what it waits at, and its door.
-pub(crate) fn open_door<L: Founding, D: Disk, R: Wait + Net + AllocGlobal>(
+/// What a worker waits at, and where it encodes replies.
+#[derive(Drop)]
+pub(crate) struct Tools {
+    poll: Poll,
+    events: Events<Global>,
+    timers: Timers,
+    reply: ReplyFrame,
+}
+
+impl Tools {
+    pub(crate) fn new<R: Net + Clock + AllocGlobal>(rt: &R) -> io::Result<Tools> {
+        Ok(Tools {
+            poll: Poll::new(rt)?,
+            events: Events::with_capacity(rt.alloc(), MOST_EVENTS)?,
+            timers: Timers::begin(rt.alloc(), rt)?,
+            reply: ReplyFrame::new(rt.alloc())?,
+        })
+    }
+}
+
+/// The door of a worker that waits at these tools.
+pub(crate) fn open_door<L: Founding, D: Disk, R: Wait + AllocGlobal>(
     rt: &R,
     shared: &Shared<L, D, OpenGate>,
-) -> io::Result<(Poll, Arc<Door<L>, Global>)> {
-    let poll = Poll::new(rt)?;
-    let waker = Waker::new(poll.registry(), WAKER)?;
+    tools: &Tools,
+) -> io::Result<Arc<Door<L>, Global>> {
+    let waker = Waker::new(tools.poll.registry(), WAKER)?;
     let worker = shared.worker(rt, waker)?;
     let arrivals = Mutex::new(Vec::new(rt.alloc()));
-    let door = Arc::new(rt.alloc(), Door { arrivals, worker })?;
-    Ok((poll, door))
+    Ok(Arc::new(rt.alloc(), Door { arrivals, worker })?)
 }
 
 /// Serves connections for good.
@@ -69,29 +88,26 @@ pub(crate) fn run<L: Founding, D: Disk, R: Wait + Clock + AllocGlobal>(
     rt: &R,
     shared: &Shared<L, D, OpenGate>,
     door: &Door<L>,
-    poll: Poll,
-) -> io::Result<()> {
+    tools: Tools,
+) {
     let alloc = rt.alloc();
     let mut work = Work {
         rt,
         shared,
         door,
-        poll,
-        events: Events::with_capacity(alloc, MOST_EVENTS)?,
+        tools,
         clients: BTreeMap::new(alloc),
-        timers: Timers::begin(alloc, rt)?,
         ready: VecDeque::new(alloc),
         worked: Vec::new(alloc),
         awaiting: Vec::new(alloc),
         failed: Vec::new(alloc),
         due: Vec::new(alloc),
         lacks_due: false,
-        reply: ReplyFrame::new(alloc)?,
     };
     for _ in rt.forever() {
         work.round();
     }
-    Ok(())
+    drop(work);
 }
 
 /// A worker with its connections, by the numbers of their sessions.
@@ -100,10 +116,8 @@ struct Work<'a, L: Founding, D: Disk, R: Wait + Clock> {
     rt: &'a R,
     shared: &'a Shared<L, D, OpenGate>,
     door: &'a Door<L>,
-    poll: Poll,
-    events: Events<Global>,
+    tools: Tools,
     clients: BTreeMap<u32, Client<'a, L, D, R>>,
-    timers: Timers,
 
     // For which of them there is something to do, for which something was done, which await records, and for which an
     // allocation failed that is tried again. There is room for all of them.
@@ -115,8 +129,6 @@ struct Work<'a, L: Founding, D: Disk, R: Wait + Clock> {
     // The sessions whose call's turn has come, and whether an allocation for them failed.
     due: Vec<u32>,
     lacks_due: bool,
-
-    reply: ReplyFrame,
 }
 
 impl<'a, L: Founding, D: Disk, R: Wait + Clock + AllocGlobal> Work<'a, L, D, R> {
@@ -140,11 +152,11 @@ impl<'a, L: Founding, D: Disk, R: Wait + Clock + AllocGlobal> Work<'a, L, D, R> 
     /// Waits until something came, or a time is over. Returns whether another thread woke it.
     fn wait(&mut self) -> bool {
         let most = self.longest_wait();
-        if self.poll.poll(&mut self.events, most).is_err() {
+        if self.tools.poll.poll(&mut self.tools.events, most).is_err() {
             thread::sleep(self.rt, Duration::from_millis(RETRY_MILLISECONDS));
         }
         let mut is_woken = false;
-        for event in self.events.iter() {
+        for event in self.tools.events.iter() {
             match u32::try_from(event.token().0) {
                 Ok(session) => {
                     if let Some(client) = self.clients.get_mut(&session) {
@@ -163,7 +175,7 @@ impl<'a, L: Founding, D: Disk, R: Wait + Clock + AllocGlobal> Work<'a, L, D, R> 
         if !self.ready.is_empty() {
             return Some(Duration::from_millis(0));
         }
-        let left = self.timers.left(self.rt);
+        let left = self.tools.timers.left(self.rt);
         if self.failed.is_empty() && !self.lacks_due {
             return left;
         }
@@ -200,7 +212,7 @@ impl<'a, L: Founding, D: Disk, R: Wait + Clock + AllocGlobal> Work<'a, L, D, R> 
             return Err(ErrorKind::OutOfMemory.into());
         };
         let number = talk.asker().number();
-        let client = Client::new(stream, talk, self.poll.registry());
+        let client = Client::new(stream, talk, self.tools.poll.registry());
         let _ = self.clients.insert(number, client);
         if let Some(client) = self.clients.get_mut(&number) {
             make_ready(client, number, &mut self.ready);
@@ -250,7 +262,7 @@ impl<'a, L: Founding, D: Disk, R: Wait + Clock + AllocGlobal> Work<'a, L, D, R> 
     /// There is something to do for those whose time is over.
     fn note_times(&mut self) {
         for _ in 0..self.clients.len() {
-            let Some(session) = self.timers.take_over(self.rt) else {
+            let Some(session) = self.tools.timers.take_over(self.rt) else {
                 return;
             };
             if let Some(client) = self.clients.get_mut(&session) {
@@ -332,7 +344,7 @@ impl<'a, L: Founding, D: Disk, R: Wait + Clock + AllocGlobal> Work<'a, L, D, R> 
                 continue;
             };
             client.is_worked = false;
-            client.answer(&mut self.reply, self.poll.registry());
+            client.answer(&mut self.tools.reply, self.tools.poll.registry());
             let awaits = client.awaits();
             match awaits {
                 Awaits::Nothing => make_ready(client, session, &mut self.ready),
@@ -362,10 +374,10 @@ impl<'a, L: Founding, D: Disk, R: Wait + Clock + AllocGlobal> Work<'a, L, D, R> 
         };
         let timed = awaits.timed();
         if let Some(end) = client.take_other_timer(timed.map(|(timed, _)| timed)) {
-            self.timers.clear(end, session);
+            self.tools.timers.clear(end, session);
         }
         if let (None, Some((timed, most))) = (client.timer(), timed) {
-            if let Some(end) = self.timers.set(self.rt, session, most) {
+            if let Some(end) = self.tools.timers.set(self.rt, session, most) {
                 client.set_timer(end, timed);
             }
         }
@@ -380,7 +392,7 @@ impl<'a, L: Founding, D: Disk, R: Wait + Clock + AllocGlobal> Work<'a, L, D, R> 
             return;
         };
         if let Some(end) = client.timer() {
-            self.timers.clear(end, session);
+            self.tools.timers.clear(end, session);
         }
         if client.waits() {
             self.shared.leave_line(self.rt, session);
