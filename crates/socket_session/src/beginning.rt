@@ -46,8 +46,8 @@ pub fn begin<
     let asker = Connected::new(alloc, rt, shared, seat, session);
     let inbox = Inbox::new(alloc, reader);
     let outbox = Outbox::new(alloc, writer);
-    match Conversation::new(alloc, inbox, outbox, asker) {
-        Ok(talk) => Some(talk),
-        Err(_) => None,
-    }
+    let Ok(talk) = Conversation::new(alloc, inbox, outbox, asker) else {
+        return None;
+    };
+    Some(talk)
 }
