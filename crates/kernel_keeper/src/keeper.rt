@@ -1,8 +1,9 @@
-ghost use Rattle.std.specs.Prelude.{◌≡◌, ◌⊎◌, ◌+◌, ◌<◌, ◌≤◌, ◌∷◌, [], ◌++◌, Some, false, length, IfOk, IfErr, IfSome, IfNone, IsErrOf, MatchBool, OnErr};
+ghost use Rattle.std.specs.Prelude.{◌≡◌, ◌⊎◌, ℕ, ◌+◌, ◌<◌, ◌≤◌, ◌∷◌, [], ◌++◌, Some, false, length, IfOk, IfErr, IfSome, IfNone, IsErrOf, MatchBool, OnErr};
 ghost use Rattle.codes.specs.declared.name.TheConstants.{FIRST_SPACE};
 ghost use Rattle.ipc_model.specs.history.History.{called, detached, looked, space_after};
 ghost use Rattle.ipc_model.specs.state.Circular.{Acyclic};
 ghost use Rattle.ipc_model.specs.state.LawfulState.{LawfulState};
+ghost use Rattle.kernel_keeper.specs.Destroying.{SettlesExactly, count_at};
 ghost use Rattle.kernel_keeper.specs.Keeping.{Ends, IsApart, IsSame, Loads, Makes, entries_in, first_core};
 ghost use Rattle.kernel_keeper.specs.Tokens.{Did, IsHistory, KeepsRead};
 ghost use Rattle.system.specs.Halves.{CanCut, CannotTake, IsFullFor, with_receipt};
@@ -54,7 +55,8 @@ impl<L: Founding> Drop for KernelKeeper<L> {
 
 impl<L: Founding> Model for KernelKeeper<L> {
     ghost use Rattle.std.specs.Prelude.{◌≡◌};
-    ghost use Rattle.kernel_keeper.specs.Keeping.{KernelKeeperValue, keeper_code};
+    ghost use Rattle.kernel_keeper.specs.Destroying.{TellsOf};
+    ghost use Rattle.kernel_keeper.specs.Keeping.{KernelKeeperValue, entries_in, keeper_code};
 
     ghost Value = { KernelKeeperValue };
 
@@ -62,7 +64,7 @@ impl<L: Founding> Model for KernelKeeper<L> {
 
     ghost view = { λ k. record { core = k.core } };
 
-    ghost invariant = { λ k. k.book.total ≡ k.core.half.log.made };
+    ghost invariant = { λ k. (k.book.total ≡ k.core.half.log.made) × TellsOf k.destructions (entries_in k.core) };
 }
 
 impl<L: Founding> KernelKeeper<L> {
@@ -78,6 +80,7 @@ impl<L: Founding> KernelKeeper<L> {
     ) -> Self
         requires base { (kernel ≡ L.base) × LawfulState L.base × Acyclic L.base.ipc }
         requires none { (past.entries ≡ []) × (book.total ≡ 0) }
+        requires undestroyed { (space : ℕ) → count_at destructions space ≡ 0 }
         ensures { result ≡ record { core = first_core kernel epoch records past } }
     {
         KernelKeeper {
@@ -140,6 +143,7 @@ impl<L: Founding> KernelKeeper<L> {
     /// after these, it is detached, whether or not there is a new space under the number.
     pub fn settle(&self, session: Session<L>, since: u64) -> Session<L>
         ensures settled { (result ≡ session) ⊎ Did L.base session detached result }
+        ensures exact { SettlesExactly L.base since (entries_in self.now.core) session result }
         ensures reads { KeepsRead session.past result.past }
     {
         if self.destructions.has_since(session.own_state.space, since) {

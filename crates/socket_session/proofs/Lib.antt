@@ -1,3 +1,4 @@
+mod Unconfined
 mod Serves
 mod Showing
 mod Staying

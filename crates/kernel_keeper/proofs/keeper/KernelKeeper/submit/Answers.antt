@@ -1,7 +1,9 @@
-use Rattle.std.proofs.Common.{◌≡◌, ◌⊎◌, ◌∙◌, ℕ, ◌<◌, ◌≤◌, [], ◌∷◌, ◌++◌, length, refl, sym, ap, subst, arith}
-use Rattle.std.specs.Prelude.{IfOk, IsErrOf, OnErr}
+use Rattle.std.proofs.Common.{◌≡◌, ◌⊎◌, ◌∙◌, ℕ, ◌<◌, ◌≤◌, [], ◌∷◌, ◌++◌, length, Some, refl, sym, ap, subst, arith}
+use Rattle.std.specs.Prelude.{IfOk, IsErrOf, OnErr, OnOk}
 use Rattle.ipc_model.specs.history.History.{called}
-use Rattle.kernel_keeper.specs.Keeping.{Applies, IsApart, KernelKeeperValue, Learns}
+use Rattle.kernel_keeper.specs.Keeping.{Applies, IsApart, KernelKeeperValue, Learns, Makes, entries_in}
+use Rattle.kernel_keeper.specs.Destroying.{DestroysKnown}
+use Rattle.kernel_keeper.proofs.Destroyed.{known_noted, tells_called}
 use Rattle.kernel_keeper.specs.Tokens.{Did, SessionValue, session_of}
 use Rattle.kernel_keeper.proofs.Calls.{book_counts, called_session}
 use Rattle.kernel_keeper.proofs.Histories.{looks}
@@ -25,13 +27,41 @@ invariant_of-self g c =
     c.in-Ok.is c.apply-past.ensures.given in
     let grew =
     λ (more : made < length past.entries). c.note_call.ensures.recorded
-    (omega (arith, more, c.made-before.ensures, c.len.ensures)) in
+    (omega (arith, more, c.made-before.ensures.made, c.len.ensures)) in
     let none =
     λ (same : length past.entries ≤ made). c.note_call.ensures.answered
-    (omega (arith, same, c.made-before.ensures, c.len.ensures)) in
-    book_counts g.L.Founding.base old c.args.call.now c.in-Ok.ticket past made c.apply-past.new.self.half.log.made did
-    refl c.self.inside.book.total c.note_call.new.book.total c.self.invariant (λ more. (grew more).3)
-    (λ same. (none same).3)
+    (omega (arith, same, c.made-before.ensures.made, c.len.ensures)) in
+    let makes =
+    subst (λ r. IfOk r (λ ticket. Makes c.self.inside.core own_state.number own_state.space c.args.call.now ticket
+    c.apply-past.new.self)) c.in-Ok.is c.apply-past.ensures.makes in
+    let level =
+    subst (λ r. OnOk r (entries_in c.apply-past.new.self ≡ Some past.entries)) c.in-Ok.is c.apply-past.ensures.level in (
+      book_counts g.L.Founding.base old c.args.call.now c.in-Ok.ticket past made c.apply-past.new.self.half.log.made did
+          refl c.self.inside.book.total c.note_call.new.book.total c.self.invariant.0 (λ more. (grew more).3)
+          (λ same. (none same).3),
+      tells_called c.self.inside.destructions c.note.new.self (entries_in c.self.inside.core)
+          (entries_in c.apply-past.new.self) past.entries own_state.number own_state.space c.made-before.result
+          _ c.args.call.now c.in-Ok.ticket c.self.invariant.1 c.made-before.ensures.all makes.entries level
+          c.len-in-Ok.ensures c.note.ensures,
+    )
+
+pub note-requires : goal.note-requires
+note-requires g c =
+    let own_state = c.session.inside.own_state in
+    let made = c.self.inside.core.half.log.made in
+    let past = c.apply-past.result.0 in
+    let did =
+    subst (λ r. IfOk r (λ ticket. Applies g.L.Founding.base own_state.number own_state.space
+    c.session.inside.past.entries c.args.call.now ticket past.entries made c.apply-past.new.self.half.log.made))
+    c.in-Ok.is c.apply-past.ensures.given in
+    let known =
+    subst (λ r. IfOk r (λ ticket. DestroysKnown own_state.space c.args.call.now ticket)) c.in-Ok.is
+    c.apply-past.ensures.known in
+    record {
+      known = known_noted g.L.Founding.base own_state.number own_state.space c.session.inside.past.entries c.args.call.now
+          c.in-Ok.ticket past.entries made c.apply-past.new.self.half.log.made c.made-before.result _ did
+          c.made-before.ensures.made c.len-in-Ok.ensures known;
+    }
 
 pub invariant_of-result : goal.invariant_of-result
 invariant_of-result g c =
@@ -47,10 +77,10 @@ invariant_of-result g c =
     c.in-Ok.is c.apply-past.ensures.given in
     let grew =
     λ (more : made < length past.entries). c.note_call.ensures.recorded
-    (omega (arith, more, c.made-before.ensures, c.len.ensures)) in
+    (omega (arith, more, c.made-before.ensures.made, c.len.ensures)) in
     let none =
     λ (same : length past.entries ≤ made). c.note_call.ensures.answered
-    (omega (arith, same, c.made-before.ensures, c.len.ensures)) in
+    (omega (arith, same, c.made-before.ensures.made, c.len.ensures)) in
     let both =
     called_session g.L.Founding.base old c.args.call.now c.in-Ok.ticket past made
     c.apply-past.new.self.half.log.made did refl own_state.share.amount c.note_call.new.own_state.number
@@ -62,7 +92,7 @@ invariant_of-result g c =
     (λ more. (
       (grew more).0,
       (grew more).1 ∙ ap
-          (λ (n : ℕ). own_state.places.numbers ++ n ∷ []) c.made-before.ensures,
+          (λ (n : ℕ). own_state.places.numbers ++ n ∷ []) c.made-before.ensures.made,
       (grew more).2,
     ))
     (λ same. ((none same).0, (none same).1, (none same).2)) c.session.invariant.0 in
@@ -96,10 +126,10 @@ returns-in-Ok-clause-given g c =
     c.in-Ok.is c.apply-past.ensures.given in
     let grew =
     λ (more : made < length past.entries). c.note_call.ensures.recorded
-    (omega (arith, more, c.made-before.ensures, c.len.ensures)) in
+    (omega (arith, more, c.made-before.ensures.made, c.len.ensures)) in
     let none =
     λ (same : length past.entries ≤ made). c.note_call.ensures.answered
-    (omega (arith, same, c.made-before.ensures, c.len.ensures)) in
+    (omega (arith, same, c.made-before.ensures.made, c.len.ensures)) in
     let both =
     called_session g.L.Founding.base old c.args.call.now c.in-Ok.ticket past made
     c.apply-past.new.self.half.log.made did refl own_state.share.amount c.note_call.new.own_state.number
@@ -111,7 +141,7 @@ returns-in-Ok-clause-given g c =
     (λ more. (
       (grew more).0,
       (grew more).1 ∙ ap
-          (λ (n : ℕ). own_state.places.numbers ++ n ∷ []) c.made-before.ensures,
+          (λ (n : ℕ). own_state.places.numbers ++ n ∷ []) c.made-before.ensures.made,
       (grew more).2,
     ))
     (λ same. ((none same).0, (none same).1, (none same).2)) c.session.invariant.0 in (
