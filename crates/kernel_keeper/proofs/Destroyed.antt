@@ -1,6 +1,6 @@
 -- The table of destructions, as the history grows.
 use Rattle.std.proofs.Common.{◌≡◌, ◌⊎◌, inl, inr, ℕ, zero, suc, ◌+◌, ◌-◌, ◌<◌, ◌≤◌, ◌==◌, nat_lt, Bool, true, false, ◌&&◌, List, [], ◌∷◌, ◌++◌, length, Option, None, Some, refl, sym, ap, subst, ◌∙◌, arith, length-append}
-use Rattle.std.specs.Prelude.{Result, Ok, Err, IfOk, OnOk, OnErr, IfSome, IfNone, MatchOption, cond, option_map, replicate, slice_get, if◌then◌else◌}
+use Rattle.std.specs.Prelude.{Result, Ok, Err, IfOk, OnOk, IfSome, MatchOption, option_map, replicate, slice_get, if◌then◌else◌}
 use Rattle.std.proofs.lemmas.Bool.{cases_lt, eq-eqb, eqb-true, lt-ltb, ltb-false, ltb-true}
 use Rattle.std.proofs.lemmas.List.{append-nil, get_or-replicate, get_or_past, length-replicate}
 use Rattle.codes.specs.declared.kern_return.KernReturn.TheVariants.{InvalidTask}
@@ -10,18 +10,17 @@ use Rattle.history.specs.Pasts.{PastValue}
 use Rattle.history.specs.declared.entry.Entry.{Entry}
 use Rattle.ipc_laws.specs.DetachedLaws.{gone_is_refused}
 use Rattle.ipc_laws.specs.RunsKeep.{runs_keep_lawful}
-use Rattle.ipc_model.specs.calls.Step.{Step, has_record, is_gone, refused}
+use Rattle.ipc_model.specs.calls.Step.{has_record, is_gone, refused}
 use Rattle.ipc_model.specs.declared.call.Call.{Call}
 use Rattle.ipc_model.specs.declared.call.Call.TheVariants.{Plain, Numbered, Unnumberable}
 use Rattle.ipc_model.specs.declared.plain_call.PlainCall.TheVariants as call
 use Rattle.ipc_model.specs.declared.reply.Reply.{Reply}
-use Rattle.ipc_model.specs.history.History.{detached}
 use Rattle.ipc_model.specs.state.Ipc.{Names}
 use Rattle.ipc_model.specs.state.LawfulState.{LawfulState}
 use Rattle.ipc_model.specs.state.State.{State}
-use Rattle.kernel_keeper.specs.Destroying.{Destroys, DestroysKnown, IsGoneSince, IsNoted, SettlesExactly, StaysSince, Tells, TellsOf, count_at, is_destruction, is_noted}
+use Rattle.kernel_keeper.specs.Destroying.{Destroys, DestroysKnown, IsGoneSince, IsNoted, StaysSince, Tells, TellsOf, count_at, is_destruction, is_noted}
 use Rattle.kernel_keeper.specs.Keeping.{Applies, IsKernelCore, entries_of_call}
-use Rattle.kernel_keeper.specs.Tokens.{SessionValue, Did, entry_by}
+use Rattle.kernel_keeper.specs.Tokens.{entry_by}
 use Rattle.kernel_keeper.proofs.Histories.{got_pushed}
 use Rattle.std.specs.FinMap as finmap
 use Rattle.system.specs.Halves.{Gives, KernelValue, TicketValue}
