@@ -7,4 +7,5 @@ mod Cutting
 mod Destroyed
 pub mod Histories
 mod Meetings
+mod Since
 mod Taking

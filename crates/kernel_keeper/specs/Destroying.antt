@@ -1,13 +1,16 @@
--- When spaces were destroyed, by the history that is kept.
-use Rattle.std.specs.Prelude.{◌≡◌, ◌⊎◌, ℕ, ◌-◌, ◌<◌, ◌≤◌, ◌==◌, nat_lt, Bool, true, false, ◌&&◌, List, Option, None, Some, slice_get, slice_index_or, if◌then◌else◌}
+-- When spaces were destroyed, by the history that is kept, and what becomes of a session that is confined to one.
+use Rattle.std.specs.Prelude.{◌≡◌, ◌⊎◌, ℕ, ◌-◌, ◌<◌, ◌≤◌, ◌==◌, nat_lt, Bool, true, false, ◌&&◌, List, Option, None, Some, is_some, slice_get, slice_index_or, if◌then◌else◌}
+use Rattle.codes.specs.declared.kern_return.KernReturn.TheVariants.{InvalidTask}
 use Rattle.codes.specs.declared.limits.TheConstants.{MAX_SPACES}
+use Rattle.codes.specs.declared.name.TheConstants.{NO_SPACE}
 use Rattle.history.specs.declared.entry.Entry.{Entry}
-use Rattle.ipc_model.specs.calls.Step.{has_record}
+use Rattle.ipc_model.specs.calls.Step.{has_record, refused}
 use Rattle.ipc_model.specs.declared.call.Call.{Call}
 use Rattle.ipc_model.specs.declared.call.Call.TheVariants.{Plain}
 use Rattle.ipc_model.specs.declared.plain_call.PlainCall.TheVariants as call
-use Rattle.ipc_model.specs.history.History.{detached}
+use Rattle.ipc_model.specs.history.History.{detached, looked}
 use Rattle.ipc_model.specs.state.State.{State}
+use Rattle.kernel_keeper.specs.Keeping.{MadeAfter}
 use Rattle.kernel_keeper.specs.Tokens.{SessionValue, Did}
 use Rattle.system.specs.Halves.{TicketValue}
 
@@ -66,3 +69,32 @@ abbrev pub SettlesExactly : State → ℕ → Option (List Entry) → SessionVal
 SettlesExactly base since entries old new =
     ((new ≡ old) × StaysSince since old.task.space entries)
     ⊎ (Did base old detached new × IsGoneSince since old.task.space entries)
+
+-- The session with which a call is made after these records: settled, if it is confined, and else as it was.
+abbrev pub SettlesBy : State → Option ℕ → Option (List Entry) → SessionValue → SessionValue → Type 0
+SettlesBy base None entries old new = new ≡ old
+SettlesBy base (Some since) entries old new = SettlesExactly base since entries old new
+
+-- A call of a session that may be confined, since so many records: it was made right after this history, with the
+-- session as that history settles it. So where it is confined, it was made in its space, which wasn't destroyed since;
+-- or in no space, as that was.
+pub record MadeSince (base : State) (since : Option ℕ) (old : SessionValue) (c : Call) (ticket : TicketValue)
+    (new : SessionValue) : Type 0 where
+  pub before : List Entry
+  pub settled : SessionValue
+  pub settles : SettlesBy base since (Some before) old settled
+  pub made : MadeAfter base before settled c ticket new
+
+-- It wasn't made: the session is as it was or, where it is confined and its space was destroyed, detached; and it may
+-- have seen more.
+pub record LackedSince (base : State) (since : Option ℕ) (old new : SessionValue) : Type 0 where
+  pub settled : SessionValue
+  pub settles : (settled ≡ old) ⊎ ((is_some since ≡ true) × Did base old detached settled)
+  pub did : Did base settled looked new
+
+-- A session that is in no space is refused its call, and stays in none.
+abbrev pub NoSpaceIsRefused : Type 0
+NoSpaceIsRefused =
+    (base : State) (before : List Entry) (old : SessionValue) (c : Call) (ticket : TicketValue) (new : SessionValue)
+    → MadeAfter base before old c ticket new → old.task.space ≡ NO_SPACE
+    → (ticket.answer ≡ refused c InvalidTask) × (new.task.space ≡ NO_SPACE)
