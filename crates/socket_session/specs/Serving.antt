@@ -1,5 +1,5 @@
 -- A connection served as one session: which calls it makes, and what it writes.
-use Rattle.std.specs.Prelude.{◌≡◌, ℕ, false, List, [], Option, None, Some, Result}
+use Rattle.std.specs.Prelude.{◌≡◌, ℕ, List, [], Option, None, Some, Result}
 use Rattle.codes.specs.declared.name.TheConstants.{FIRST_SPACE}
 use Rattle.frame_service.specs.Asking.{EndsAsked}
 use Rattle.frame_service.specs.declared.service.ServeFault.{ServeFault}
@@ -16,7 +16,7 @@ pub record IsNewSession (session : SessionValue) : Type 0 where
 
 -- the caller of a connection that isn't confined yet
 abbrev pub unconfined : SessionValue → ConnectedValue
-unconfined session = record { session = Some session; confined = false }
+unconfined session = record { session = Some session; since = None }
 
 module _ (base : State) (input before : List ℕ) (left written : Option (List ℕ)) where
   -- All calls of one new session are those of the frames that were read, and all that was written are their replies.
