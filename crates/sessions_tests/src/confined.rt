@@ -72,7 +72,7 @@ const NO_MACH_MSG: [u8; 20] = [
 ];
 
 /// Frames one after another, with their answers.
-static ROWS: [(Client, &[u8], &[u8]); 26] = [
+static ROWS: [(Client, &[u8], &[u8]); 29] = [
     (Client::First, &ALLOCATE, &FIRST_NAME),
     (Client::First, &CREATE, &CREATED),
     (Client::Other, &ATTACH_2, &ATTACHED),
@@ -101,6 +101,10 @@ static ROWS: [(Client, &[u8], &[u8]); 26] = [
     (Client::Other, &CONFINE, &CONFINED),
     (Client::Other, &ATTACH_1, &NO_ACCESS),
     (Client::Other, &DESTROY, &DESTROYED),
+    // The first that it asks for once there is a new space again is an attach to it.
+    (Client::First, &CREATE, &CREATED),
+    (Client::Other, &ATTACH_2, &NO_ATTACH),
+    (Client::Other, &NAMES, &NO_NAMES),
 ];
 
 /// The connections to a server.
