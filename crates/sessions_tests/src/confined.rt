@@ -116,7 +116,7 @@ struct Clients {
 }
 
 /// Three connections to a server that will soon be at a path, whose file is then removed.
-fn clients<R: Net + Files + Clock>(rt: &R, path: &str) -> Option<Clients> {
+fn connect_all<R: Net + Files + Clock>(rt: &R, path: &str) -> Option<Clients> {
     let confined = connect(rt, path)?;
     let other = connect(rt, path)?;
     let first = connect(rt, path)?;
@@ -139,7 +139,7 @@ fn stream_of(clients: &Clients, client: Client) -> &UnixStream {
 
 /// The first row that is answered otherwise; as many as there are, if none is. `None` without connections.
 fn first_wrong<R: Net + Files + Clock>(rt: &R, path: &str) -> Option<usize> {
-    let clients = clients(rt, path)?;
+    let clients = connect_all(rt, path)?;
     let mut right = 0usize;
     for (client, frame, wanted) in &ROWS {
         if !answers(stream_of(&clients, *client), frame, wanted) {
