@@ -318,6 +318,28 @@ fn a_mach_msg_sends_and_receives(rt: HostRuntime) {
     same(&rt, parts_asked(rt.alloc()), Some(wanted));
 }
 
+// Whether a frame with this content confines its connection.
+fn confines(alloc: Global, content: &[u8]) -> Option<bool> {
+    let request = request_of(alloc, content)?.ok()?;
+    let is_confine = match &request {
+        Request::Confine => true,
+        _ => false,
+    };
+    drop(request);
+    Some(is_confine)
+}
+
+#[test]
+fn number_23_confines_and_has_no_arguments(rt: HostRuntime) {
+    let seen = [
+        confines(rt.alloc(), &[23, 0, 0, 0]),
+        confines(rt.alloc(), &[21, 0, 0, 0]),
+        confines(rt.alloc(), &[23, 0, 0, 0, 1]),
+        confines(rt.alloc(), &[23, 0, 0, 0, 1, 0, 0, 0]),
+    ];
+    same(&rt, seen, [Some(true), Some(false), None, None]);
+}
+
 // The code with which a request is answered at once.
 fn answer_of(request: &Request) -> Option<KernReturn> {
     match request {

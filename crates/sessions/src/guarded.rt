@@ -1,6 +1,6 @@
 ghost use Rattle.std.specs.Prelude.{◌≡◌, IfOk, OnErr};
-ghost use Rattle.ipc_model.specs.history.History.{called, looked};
-ghost use Rattle.kernel_keeper.specs.Tokens.{Did, KeepsRead};
+ghost use Rattle.kernel_keeper.specs.Destroying.{LackedSince, MadeSince};
+ghost use Rattle.kernel_keeper.specs.Tokens.{KeepsRead};
 
 use crate::seat::Worker;
 use crate::waiters::{Waiter, Waiters};
@@ -55,17 +55,17 @@ impl<L: Founding> KernelGuarded<L> {
         }
     }
 
-    /// Makes a call of a session, as `KernelKeeper::submit` does, and gives their turn to waiting calls that may find
-    /// something to do now. A call that finds nothing is in line from then on, if it may wait, for this worker.
+    /// Makes a call of a session, as `KernelKeeper::submit_since` does, and gives their turn to waiting calls that may
+    /// find something to do now. A call that finds nothing is in line from then on, if it may wait, for this worker.
     pub(crate) fn submit(
         &mut self,
         session: Session<L>,
+        since: Option<u64>,
         call: &Call,
         worker: Option<&Arc<Worker, Global>>,
     ) -> (Session<L>, Result<Ticket, SubmitFault>)
-        ensures given { IfOk result.1 (λ ticket. Did L.base session (called call.now ticket.answer) result.0
-            × (ticket.seen ≡ result.0.task.seen)) }
-        ensures err { OnErr result.1 (Did L.base session looked result.0) }
+        ensures made { IfOk result.1 (λ ticket. MadeSince L.base since session call.now ticket result.0) }
+        ensures lacked { OnErr result.1 (LackedSince L.base since session result.0) }
         ensures reads { KeepsRead session.past result.0.past }
     {
         let waiter = self.waiters.take(session.number());
@@ -76,7 +76,9 @@ impl<L: Founding> KernelGuarded<L> {
             self.places.clear();
         }
         let before = self.keeper.made();
-        let (session, made) = self.keeper.submit(session, call, &mut self.places);
+        let (session, made) = self
+            .keeper
+            .submit_since(session, since, call, &mut self.places);
         if before < self.keeper.made() {
             drop(waiter);
             self.fresh = self.fresh.saturating_add(1);

@@ -21,6 +21,6 @@ pub use kernel_keeper::{
     Admission, Admissions, EntryBlock, Founding, MOST_SESSIONS, MeetFault, Session, Unmet, meet,
 };
 pub use seat::{Peer, Seat, Worker};
-pub use shared::{NotMade, Shared};
+pub use shared::Shared;
 pub use stored_mark::NewMark;
-pub use turn::Turn;
+pub use turn::{NotMade, Turn};

@@ -27,15 +27,6 @@ use system::{Opened, SubmitFault, Ticket};
 /// How many milliseconds a thread waits before it tries again after it ran out of memory.
 pub(crate) const RETRY_MILLISECONDS: u64 = 10;
 
-/// Why a call wasn't made. Nothing changed.
-#[derive(Clone, Copy)]
-pub enum NotMade {
-    /// As `submit` says.
-    Fault(SubmitFault),
-    /// Its task has gone, and no one would get the message.
-    Gone,
-}
-
 /// The two halves of the core, each under a lock of its own, for any number of sessions, one thread that stores their
 /// calls and one that makes images. No lock is taken within the other.
 #[derive(Drop)]
@@ -159,33 +150,8 @@ impl<L: Founding, D: Disk, G: Drop> Shared<L, D, G> {
         ensures reads { KeepsRead session.past result.0.past }
     {
         let mut turn = self.begin_turn(rt);
-        let (session, made) = turn.guarded.submit(session, call, None);
+        let (session, made) = turn.guarded.submit(session, None, call, None);
         turn.keep_due_worker();
-        self.end_turn(turn);
-        (session, made)
-    }
-
-    /// Makes a call of a session as `submit` does, for the task of this seat. A receive isn't made for a task that has
-    /// gone: a message that was sent after its end stays.
-    ///
-    /// If it may wait, a send that finds no room, or a receive that finds no message, is in line from then on, until a
-    /// call of the session is made again, or isn't made because its task has gone. A call whose turn comes is woken; a
-    /// turn that ends without a record is passed on.
-    pub fn submit_for<R: Wait, P: Peer>(
-        &self,
-        rt: &R,
-        session: Session<L>,
-        call: &Call,
-        seat: &Seat<P>,
-        may_wait: bool,
-    ) -> (Session<L>, Result<Ticket, NotMade>)
-        ensures given { IfOk result.1 (λ ticket. Did L.base session (called call.now ticket.answer) result.0
-            × (ticket.seen ≡ result.0.task.seen)) }
-        ensures err { OnErr result.1 (Did L.base session looked result.0) }
-        ensures reads { KeepsRead session.past result.0.past }
-    {
-        let mut turn = self.begin_turn(rt);
-        let (session, made) = turn.submit(session, call, seat, may_wait);
         self.end_turn(turn);
         (session, made)
     }

@@ -1,17 +1,25 @@
 //! Several calls under one hold of the kernel's lock.
-ghost use Rattle.std.specs.Prelude.{◌≡◌, ◌⊎◌, IfOk, OnErr};
-ghost use Rattle.ipc_model.specs.history.History.{called, detached, looked};
-ghost use Rattle.kernel_keeper.specs.Tokens.{Did, KeepsRead};
+ghost use Rattle.std.specs.Prelude.{IfOk, OnErr};
+ghost use Rattle.kernel_keeper.specs.Destroying.{LackedSince, MadeSince};
+ghost use Rattle.kernel_keeper.specs.Tokens.{KeepsRead};
 
 use crate::guarded::KernelGuarded;
 use crate::seat::{Peer, Seat, Worker};
-use crate::shared::NotMade;
 use history::Founding;
 use ipc_model::{Call, PlainCall};
 use kernel_keeper::Session;
 use std::alloc::{AllocError, Global};
 use std::sync::{Arc, MutexGuard};
-use system::Ticket;
+use system::{SubmitFault, Ticket};
+
+/// Why a call wasn't made. Nothing changed.
+#[derive(Clone, Copy)]
+pub enum NotMade {
+    /// As `Shared::submit` says.
+    Fault(SubmitFault),
+    /// Its task has gone, and no one would get the message.
+    Gone,
+}
 
 /// The lock of the kernel, held while a session makes several calls, so that it isn't handed over between them.
 ///
@@ -68,32 +76,25 @@ impl<'a, L: Founding> Turn<'a, L> {
         self.guarded.is_waiting(session)
     }
 
-    /// How many records have been made.
-    pub fn made(&self) -> u64 {
-        self.guarded.keeper.made()
-    }
-
-    /// The session of a task that is confined to its space since so many records were made (`made`). If the space was
-    /// destroyed after these, it is detached. A call that is made before the turn ends is then made in the space that
-    /// it was confined to.
-    pub fn settle(&self, session: Session<L>, since: u64) -> Session<L>
-        ensures settled { (result ≡ session) ⊎ Did L.base session detached result }
-        ensures reads { KeepsRead session.past result.past }
-    {
-        self.guarded.keeper.settle(session, since)
-    }
-
-    /// Makes a call of a session, for the task of this seat, as `Shared::submit_for` does.
+    /// Makes a call of a session, for the task of this seat. If the session is confined since it had seen so many
+    /// records, it is settled first: the call is made in the very space that it was confined to, or in none. Even if
+    /// the call isn't made, the session may have seen more than before. A receive isn't made for a task that has gone:
+    /// a message that was sent after its end stays.
+    ///
+    /// If it may wait, a send that finds no room, or a receive that finds no message, is in line from then on, until a
+    /// call of the session is made again, or isn't made because its task has gone. A call whose turn comes is woken; a
+    /// turn that ends without a record is passed on.
+    #[tactic(auto, using(crate::proofs::Unconfined::lacked_still))]
     pub fn submit<P: Peer>(
         &mut self,
         session: Session<L>,
+        since: Option<u64>,
         call: &Call,
         seat: &Seat<P>,
         may_wait: bool,
     ) -> (Session<L>, Result<Ticket, NotMade>)
-        ensures given { IfOk result.1 (λ ticket. Did L.base session (called call.now ticket.answer) result.0
-            × (ticket.seen ≡ result.0.task.seen)) }
-        ensures err { OnErr result.1 (Did L.base session looked result.0) }
+        ensures made { IfOk result.1 (λ ticket. MadeSince L.base since session call.now ticket result.0) }
+        ensures lacked { OnErr result.1 (LackedSince L.base since session result.0) }
         ensures reads { KeepsRead session.past result.0.past }
     {
         // With the lock held, since whatever is sent now is sent after this check.
@@ -103,7 +104,7 @@ impl<'a, L: Founding> Turn<'a, L> {
             return (session, Err(NotMade::Gone));
         }
         let worker = if may_wait { Some(seat.worker()) } else { None };
-        let (session, made) = self.guarded.submit(session, call, worker);
+        let (session, made) = self.guarded.submit(session, since, call, worker);
         self.keep_due_worker();
         (session, made.map_err(NotMade::Fault))
     }

@@ -1,3 +1,4 @@
 mod Beginning
+mod Unconfined
 mod Showing
 mod Staying

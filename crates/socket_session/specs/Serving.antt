@@ -1,5 +1,5 @@
 -- A connection served as one session: how its conversation begins.
-use Rattle.std.specs.Prelude.{◌≡◌, false, [], Some}
+use Rattle.std.specs.Prelude.{◌≡◌, [], None, Some}
 use Rattle.std.specs.declared.io.traits.Read as read
 use Rattle.std.specs.declared.io.traits.Write as write
 use Rattle.codes.specs.declared.name.TheConstants.{FIRST_SPACE}
@@ -20,7 +20,7 @@ pub record IsNewSession (session : SessionValue) : Type 0 where
 
 -- the caller of a connection that isn't confined yet
 abbrev pub unconfined : SessionValue → ConnectedValue
-unconfined session = record { session = Some session; confined = false }
+unconfined session = record { session = Some session; since = None }
 
 -- nothing came yet, and nothing is to go out
 abbrev pub from_stream : {S : Type 0} → S → InboxValue S

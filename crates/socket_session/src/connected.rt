@@ -1,4 +1,4 @@
-ghost use Rattle.std.specs.Prelude.{◌≡◌, ◌≤◌, Some, false, length, IfOk, IfErr, IfSome, IfNone};
+ghost use Rattle.std.specs.Prelude.{◌≡◌, ◌≤◌, Some, length, IfOk, IfErr, IfSome, IfNone};
 ghost use Rattle.calls.specs.declared.request.Request.{Request};
 ghost use Rattle.codes.specs.declared.limits.TheConstants.{MAX_FRAME_CONTENT};
 ghost use Rattle.socket_session.specs.Connecting.{AcknowledgesOne, LacksOne, MakesOne, answer_of};
@@ -30,7 +30,7 @@ pub struct Connected<'a, L: Founding, D: Disk, G, R, P> {
     // `None` while a call is being made.
     session: Option<Session<L>>,
 
-    // Where it is confined to its session's space, how many records had been made then.
+    // Where it is confined to its session's space, how many records the session had seen then.
     since: Option<u64>,
 
     // While it makes calls in a turn.
@@ -45,7 +45,7 @@ impl<'a, L: Founding, D: Disk, G, R, P> Model for Connected<'a, L, D, G, R, P> {
 
     ghost coded = { connected_code };
 
-    ghost view = { λ c. record { session = c.session; confined = is_some c.since } };
+    ghost view = { λ c. record { session = c.session; since = c.since } };
 
     ghost invariant = { λ c. is_some c.session ≡ true };
 }
