@@ -1,3 +1,3 @@
-mod Beginning
+mod Begun
 mod Showing
 mod Staying
