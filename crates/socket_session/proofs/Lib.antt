@@ -1,4 +1,4 @@
-mod Beginning
-mod Unconfined
+mod Begun
 mod Showing
 mod Staying
+mod Unconfined

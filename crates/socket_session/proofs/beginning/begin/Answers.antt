@@ -1,10 +1,10 @@
-use Rattle.socket_session.proofs.Beginning.{begins_new}
+use Rattle.socket_session.proofs.Begun.{begins_new}
 use Rattle.socket_session.proofs.beginning.begin.Goals as goal
 
 pub returns : goal.returns
 returns g c = record {
   begins =
-      begins_new c.args.reader c.args.writer c.in-Ok-2.talk c.in-Ok.session c.new-asker.result c.new-inbox.result
+      begins_new c.args.reader c.args.writer c.in-Ok-new.talk c.in-Ok.session c.new-asker.result c.new-inbox.result
       c.new-outbox.result c.new-asker.ensures c.new-inbox.ensures c.new-outbox.ensures
       (record {
         space = c.in-Ok.ensures.new.0;
@@ -12,5 +12,5 @@ returns g c = record {
         tickets = c.in-Ok.ensures.new.2;
         places = c.in-Ok.ensures.new.3;
       })
-      c.in-Ok-2.ensures.begins;
+      c.in-Ok-new.ensures.begins;
 }
