@@ -7,7 +7,6 @@ use Rattle.codes.specs.declared.name.TheConstants.{NO_SPACE}
 use Rattle.frame_service.proofs.Keeping.{acted_keeps}
 use Rattle.frame_service.specs.Confining.{attach_to, made_of, shown}
 use Rattle.frame_service.specs.declared.confining.Shown.{Shown}
-use Rattle.history.specs.declared.entry.Entry.{Entry}
 use Rattle.ipc_model.specs.calls.Step.{succeeded}
 use Rattle.ipc_model.specs.declared.call.Call.{Call}
 use Rattle.ipc_model.specs.declared.call.Call.TheVariants.{Plain, Numbered, Unnumberable}
@@ -75,7 +74,7 @@ module _ (base : State) where
   redeemed_in true seen old new did = ap (λ (s : Session). s.space) did.after.leads.1.1
   redeemed_in false seen old new did = ap (λ (s : Session). s.space) did.after.leads.1
 
-  settled_in : (since : Option ℕ) (entries : Option (List Entry)) (old settled : SessionValue)
+  settled_in : (since : Option ℕ) (entries : _) (old settled : SessionValue)
       → SettlesBy base since entries old settled → IsOrNone old.task.space settled.task.space
   settled_in None entries old settled same = inl (ap (λ (s : SessionValue). s.task.space) same)
   settled_in (Some since) entries old settled (inl same) = inl (ap (λ (s : SessionValue). s.task.space) same.0)
