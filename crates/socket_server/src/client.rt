@@ -4,7 +4,7 @@ use disk::Disk;
 use frame_service::Tried;
 use mio::unix::SourceFd;
 use mio::{Interest, Registry, Token};
-use sessions::{Founding, OpenGate, Peer, Turn};
+use sessions::{Founding, OpenGate, Peer};
 use socket_buffers::Filled;
 use socket_session::Stream;
 use std::alloc::Global;
@@ -62,6 +62,9 @@ impl Awaits {
         }
     }
 }
+
+/// The kernel's lock, held by a worker.
+pub(crate) type Held<'a, L, D, R> = socket_session::Held<'a, L, D, OpenGate, R>;
 
 /// The conversation of a session over a socket.
 pub(crate) type Talk<'a, L, D, R> = socket_session::Talk<
@@ -208,31 +211,35 @@ impl<'a, L: Founding, D: Disk, R: Wait> Client<'a, L, D, R> {
         self.talk.has_next()
     }
 
-    /// Makes the calls that can be made now, in this turn.
-    pub(crate) fn work(&mut self, alloc: Global, turn: Turn<'a, L>) -> Option<Turn<'a, L>> {
-        let turn = self.make_calls(alloc, turn);
-        let is_in_line = match &turn {
-            Some(turn) => turn.is_waiting(self.number()),
+    /// Makes the calls that can be made now, with this lock held.
+    pub(crate) fn work(
+        &mut self,
+        alloc: Global,
+        held: Held<'a, L, D, R>,
+    ) -> Option<Held<'a, L, D, R>> {
+        let held = self.make_calls(alloc, held);
+        let is_in_line = match &held {
+            Some(held) => held.is_waiting(self.number()),
             None => false,
         };
         self.has_no_line = self.waits() && !is_in_line;
-        turn
+        held
     }
 
-    fn make_calls(&mut self, alloc: Global, turn: Turn<'a, L>) -> Option<Turn<'a, L>> {
+    fn make_calls(&mut self, alloc: Global, held: Held<'a, L, D, R>) -> Option<Held<'a, L, D, R>> {
         if self.talk.waits().is_none() {
-            return self.talk.take(alloc, turn);
+            return self.talk.take(alloc, held);
         }
         let may_wait = self.over != Some(Timed::Turn);
         self.has_turn = false;
         self.over = None;
-        let (turn, tried) = self.talk.try_again(alloc, turn, may_wait);
+        let (held, tried) = self.talk.try_again(alloc, held, may_wait);
         match tried {
             Tried::Settled => {}
             Tried::Waits => self.has_failed = self.has_failed || !may_wait,
             Tried::WaitsForReceive => self.begins = true,
         }
-        turn
+        held
     }
 
     /// Answers what can be answered, and gives the other side what it takes.

@@ -1,12 +1,12 @@
 //! A thread that serves many connections, each as far as it goes without waiting.
 
-use crate::client::{Awaits, Client};
+use crate::client::{Awaits, Client, Held};
 use crate::replies::ReplyFrame;
 use crate::timers::Timers;
 use disk::Disk;
 use mio::event::Events;
 use mio::{Poll, Token, Waker};
-use sessions::{Admission, Founding, OpenGate, Shared, Turn, Worker};
+use sessions::{Admission, Founding, OpenGate, Shared, Worker};
 use socket_session::{Stream, begin};
 use std::alloc::{AllocError, AllocGlobal, Global};
 use std::collections::{BTreeMap, VecDeque};
@@ -293,30 +293,30 @@ impl<'a, L: Founding, D: Disk, R: Wait + Clock + AllocGlobal> Work<'a, L, D, R> 
 
     /// Makes the calls of those that are ready, under one hold of the kernel's lock.
     fn make_calls(&mut self) {
-        let mut turn: Option<Turn<'a, L>> = None;
+        let mut held: Option<Held<'a, L, D, R>> = None;
         for _ in 0..MOST_AT_ONCE {
             let Some(session) = self.ready.pop_front() else {
                 break;
             };
-            turn = self.work(session, turn);
+            held = self.work(session, held);
             // A call that waits in this thread goes on before the thread waits for what the others made.
             if self.ready.is_empty() {
-                if let Some(turn) = &mut turn {
-                    let taken = turn.take_due(&self.door.worker, &mut self.due);
+                if let Some(held) = &mut held {
+                    let taken = held.take_due(&self.door.worker, &mut self.due);
                     self.lacks_due = taken.is_err();
                     self.note_turns();
                 }
             }
         }
-        if let Some(turn) = turn {
-            self.shared.end_turn(turn);
+        if let Some(held) = held {
+            held.end();
         }
     }
 
     /// Makes the calls of one session, which is ready.
-    fn work(&mut self, session: u32, turn: Option<Turn<'a, L>>) -> Option<Turn<'a, L>> {
+    fn work(&mut self, session: u32, held: Option<Held<'a, L, D, R>>) -> Option<Held<'a, L, D, R>> {
         let Some(client) = self.clients.get_mut(&session) else {
-            return turn;
+            return held;
         };
         client.is_ready = false;
         if !client.is_worked {
@@ -324,13 +324,13 @@ impl<'a, L: Founding, D: Disk, R: Wait + Clock + AllocGlobal> Work<'a, L, D, R> 
             let _ = self.worked.push(session);
         }
         if !client.has_work() {
-            return turn;
+            return held;
         }
-        let turn = match turn {
-            Some(turn) => turn,
-            None => self.shared.begin_turn(self.rt),
+        let held = match held {
+            Some(held) => held,
+            None => Held::begin(self.rt, self.shared),
         };
-        client.work(self.rt.alloc(), turn)
+        client.work(self.rt.alloc(), held)
     }
 
     /// Answers those for which something was done, as far as their replies can be had.

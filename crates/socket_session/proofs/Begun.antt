@@ -17,9 +17,9 @@ module _ {S W Turn : Type 0} {reading : read.Ghosts S} {writing : write.Ghosts W
       → first ≡ unconfined session → inbox ≡ from_stream reader → outbox ≡ to_stream writer → IsNewSession session
       → Begins first inbox outbox talk → BeginsNew reader writer talk
   begins_new reader writer talk session first inbox outbox asks reads writes new begins = (
-      session,
-      new,
-      subst (λ (a : ConnectedValue). Begins a (from_stream reader) (to_stream writer) talk) asks
-      (subst (λ (i : InboxValue S). Begins first i (to_stream writer) talk) reads
-      (subst (λ (o : OutboxValue W). Begins first inbox o talk) writes begins)),
-    )
+    session,
+    new,
+    subst (λ (a : ConnectedValue). Begins a (from_stream reader) (to_stream writer) talk) asks
+        (subst (λ (i : InboxValue S). Begins first i (to_stream writer) talk) reads
+        (subst (λ (o : OutboxValue W). Begins first inbox o talk) writes begins)),
+  )

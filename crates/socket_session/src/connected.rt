@@ -8,6 +8,7 @@ ghost use Rattle.ipc_model.specs.encodings.Encodings.{reply_encoding};
 ghost use Rattle.frame_service.specs.Asking.{timed_out};
 
 use crate::asked::Asked;
+use crate::held::Held;
 use crate::making::{confine, make};
 use calls::Request;
 use disk::Disk;
@@ -89,11 +90,10 @@ impl<'a, L: Founding, D: Disk, G, R, P> Connected<'a, L, D, G, R, P> {
     }
 }
 
-impl<'a, L: Founding, D: Disk, G: Drop, R: Wait, P: Peer> Asker
-    for Connected<'a, L, D, G, R, P> {
+impl<'a, L: Founding, D: Disk, G: Drop, R: Wait, P: Peer> Asker for Connected<'a, L, D, G, R, P> {
     type Ticket = Asked;
 
-    type Turn = Turn<'a, L>;
+    type Turn = Held<'a, L, D, G, R>;
 
     ghost answer = { answer_of };
 
@@ -155,16 +155,28 @@ impl<'a, L: Founding, D: Disk, G: Drop, R: Wait, P: Peer> Asker
         made
     }
 
-    fn join_turn(&mut self, turn: Turn<'a, L>)
+    fn join_turn(&mut self, turn: Held<'a, L, D, G, R>)
         ensures { self.new ≡ self.old }
     {
+        let Held {
+            rt: _,
+            shared: _,
+            turn,
+        } = turn;
         self.turn = Some(turn);
     }
 
-    fn leave_turn(&mut self) -> Option<Turn<'a, L>>
+    fn leave_turn(&mut self) -> Option<Held<'a, L, D, G, R>>
         ensures { self.new ≡ self.old }
     {
-        self.turn.take()
+        let Some(turn) = self.turn.take() else {
+            return None;
+        };
+        Some(Held {
+            rt: self.rt,
+            shared: self.shared,
+            turn,
+        })
     }
 
     fn is_done(&self, asked: &Asked) -> bool

@@ -4,6 +4,7 @@
 mod asked;
 mod beginning;
 mod connected;
+mod held;
 mod laws;
 mod making;
 mod stream;
@@ -11,5 +12,6 @@ mod stream;
 pub use asked::Asked;
 pub use beginning::{Talk, begin};
 pub use connected::Connected;
+pub use held::Held;
 pub use laws::{answer_says_confined, confined_connections_stay};
 pub use stream::Stream;
