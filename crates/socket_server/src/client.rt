@@ -82,7 +82,7 @@ pub(crate) type Talk<'a, L, D, R> = socket_session::Talk<
 #[derive(Drop)]
 pub(crate) struct Client<'a, L: Founding, D: Disk, R: Wait>
 where
-    Connected<'a, L, D, OpenGate, R, Stream>: Asker,
+    Connected<'a, L, D, OpenGate, R, Stream>: Asker<Ticket = Asked, Turn = Held<'a, L, D, R>>,
 {
     stream: Stream,
     talk: Talk<'a, L, D, R>,

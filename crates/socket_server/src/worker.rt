@@ -115,7 +115,7 @@ pub(crate) fn run<L: Founding, D: Disk, R: Wait + Clock + AllocGlobal>(
 #[derive(Drop)]
 struct Work<'a, L: Founding, D: Disk, R: Wait + Clock>
 where
-    Connected<'a, L, D, OpenGate, R, Stream>: Asker,
+    Connected<'a, L, D, OpenGate, R, Stream>: Asker<Ticket = Asked, Turn = Held<'a, L, D, R>>,
 {
     rt: &'a R,
     shared: &'a Shared<L, D, OpenGate>,
@@ -416,7 +416,7 @@ fn make_ready<'a, L: Founding, D: Disk, R: Wait + Clock>(
     ready: &mut VecDeque<u32>,
 )
 where
-    Connected<'a, L, D, OpenGate, R, Stream>: Asker,
+    Connected<'a, L, D, OpenGate, R, Stream>: Asker<Ticket = Asked, Turn = Held<'a, L, D, R>>,
 {
     if !client.is_ready {
         client.is_ready = true;
