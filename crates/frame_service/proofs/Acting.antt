@@ -5,7 +5,7 @@ use Rattle.calls.specs.declared.request.Request.{Request}
 use Rattle.ipc_model.specs.declared.reply.Reply.{Reply}
 use Rattle.ipc_model.specs.encodings.Encodings.{reply_encoding}
 use Rattle.store_fault.specs.declared.fault.StoreFault.{StoreFault}
-use Rattle.frame_service.specs.Asking.{Act, took, acknowledged, Acted, IsTaken, IsAcknowledged, Went, frames_of, replies_of}
+use Rattle.frame_service.specs.Asking.{Act, took, tried, acknowledged, Acted, IsTried, IsTaken, IsAcknowledged, Went, frames_of, replies_of}
 use Rattle.frame_service.specs.declared.asking.PendingFrame.{PendingFrame}
 use Rattle.words.specs.Words.{frame_encoding}
 
@@ -14,12 +14,14 @@ frames_both [] more = refl
 frames_both (took content pending ∷ acts) more =
     ap (λ l. frame_encoding content ++ l) (frames_both acts more)
     ∙ sym (append_assoc (frame_encoding content) (frames_of acts) (frames_of more))
+frames_both (tried pending ∷ acts) more = frames_both acts more
 frames_both (acknowledged reply ∷ acts) more = frames_both acts more
 
 pub replies_both : {T : Type 0} (acts more : List (Act T))
     → replies_of (acts ++ more) ≡ replies_of acts ++ replies_of more
 replies_both [] more = refl
 replies_both (took content pending ∷ acts) more = replies_both acts more
+replies_both (tried pending ∷ acts) more = replies_both acts more
 replies_both (acknowledged reply ∷ acts) more =
     ap (λ l. frame_encoding (reply_encoding reply) ++ l) (replies_both acts more)
     ∙ sym (append_assoc (frame_encoding (reply_encoding reply)) (replies_of acts) (replies_of more))
@@ -35,6 +37,9 @@ module _ {C T : Type 0} (answer : T → Reply) (makes : C → Request → T → 
       (subst (λ q. Acted answer makes lacks acknowledges fails mid q more left new) first.0 second)
   acted_both old mid new queue between left (took content pending ∷ acts) more first second =
       (first.0, first.1, acted_both first.0 mid new (queue ++ pending ∷ []) between left acts more first.2 second)
+  acted_both old mid new [] between left (tried pending ∷ acts) more first second = absurd first
+  acted_both old mid new (waiting ∷ queue) between left (tried pending ∷ acts) more first second =
+      (first.0, first.1, acted_both first.0 mid new (pending ∷ queue) between left acts more first.2 second)
   acted_both old mid new [] between left (acknowledged reply ∷ acts) more first second = absurd first
   acted_both old mid new (pending ∷ queue) between left (acknowledged reply ∷ acts) more first second =
       (first.0, first.1, acted_both first.0 mid new queue between left acts more first.2 second)
@@ -58,16 +63,6 @@ module _ {C T : Type 0} (answer : T → Reply) (makes : C → Request → T → 
         (λ l. before ++ l) (sym (replies_both first.acts second.acts));
   }
 
-  pub acts_both : (old mid new : C) (queue between left : List (PendingFrame T))
-      (input before rest sent further out : List ℕ)
-      (first : Went answer makes lacks acknowledges fails old queue mid input before rest sent between)
-      (second : Went answer makes lacks acknowledges fails mid between new rest sent further out left)
-      → length (went_both old mid new queue between left input before rest sent further out first second).acts
-      ≡ length first.acts + length second.acts
-  unfolding went_both
-  acts_both old mid new queue between left input before rest sent further out first second =
-      length-append first.acts second.acts
-
   -- Nothing was done yet.
   pub begun : (old : C) (queue : List (PendingFrame T)) (input before : List ℕ)
       → Went answer makes lacks acknowledges fails old queue old input before input before queue
@@ -84,6 +79,18 @@ module _ {C T : Type 0} (answer : T → Reply) (makes : C → Request → T → 
     acted = (new, is, (refl, refl));
     read = refl;
     acknowledged_is = out ∙ ap (λ l. before ++ l) (sym (append-nil (frame_encoding (reply_encoding reply))));
+  }
+
+  -- The first frame in hand, which waited, was tried again.
+  pub one_tried : (old new : C) (waiting pending : PendingFrame T) (all_pending : List (PendingFrame T))
+      (input before : List ℕ) → IsTried answer makes lacks acknowledges fails old waiting pending new
+      → Went answer makes lacks acknowledges fails old (waiting ∷ all_pending) new input before input before
+      (pending ∷ all_pending)
+  one_tried old new waiting pending all_pending input before is = record {
+    acts = tried pending ∷ [];
+    acted = (new, is, (refl, refl));
+    read = refl;
+    acknowledged_is = sym (append-nil before);
   }
 
   -- Frames were taken so far, this many.

@@ -20,6 +20,10 @@ appends_is out bytes old new e is = known new (subst (λ o. Appends o new bytes)
     known None h = absurd h
     known (Some ys) h = ap (λ l. Some l) h
 
+pub keeps_same : (o : Option (List ℕ)) → Keeps o o
+keeps_same None = tt
+keeps_same (Some xs) = refl
+
 pub keeps_is : (out : List ℕ) (old new : Option (List ℕ)) → old ≡ Some out → Keeps old new → new ≡ Some out
 keeps_is out old new e is = known new (subst (λ o. Keeps o new) e is)
   where

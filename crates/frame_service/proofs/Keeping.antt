@@ -8,7 +8,7 @@ use Rattle.ipc_model.specs.calls.Step.{succeeded}
 use Rattle.ipc_model.specs.declared.call.Call.{Call}
 use Rattle.ipc_model.specs.declared.reply.Reply.{Reply}
 use Rattle.store_fault.specs.declared.fault.StoreFault.{StoreFault}
-use Rattle.frame_service.specs.Asking.{Act, Acted, AsksConfine, AsksOne, GoesOn, IsAcknowledged, IsGiven, IsTaken, Proceeds, TakesRequest, Tries, acknowledged, took}
+use Rattle.frame_service.specs.Asking.{Act, Acted, AsksConfine, AsksOne, IsAcknowledged, IsGiven, IsTaken, IsTried, Proceeds, TakesRequest, Tries, acknowledged, took, tried}
 use Rattle.frame_service.specs.Serving.{Answers, AnswersMessage, AnswersRequest, Exchanges, IsAnswered}
 use Rattle.frame_service.specs.declared.asking.PendingFrame.{PendingFrame}
 use Rattle.frame_service.specs.declared.asking.PendingFrame.TheVariants.{Settled, Waits}
@@ -35,8 +35,8 @@ module _ {C T : Type 0} (answer : T → Reply) (makes : C → Request → T → 
 
   tries_keeps : (old : C) (c : Call) (bound : Option ℕ) (left : MessageRequest) (pending : PendingFrame T) (new : C)
       → Tries answer makes lacks old c bound left pending new → Keeps old new
-  tries_keeps old c bound left (Settled ready) new tried = one_keeps old c ready new tried.0
-  tries_keeps old c bound left (Waits rest) new tried = by_making old (request.One c) tried.2.0 new tried.2.1
+  tries_keeps old c bound left (Settled ready) new made = one_keeps old c ready new made.0
+  tries_keeps old c bound left (Waits rest) new made = by_making old (request.One c) made.2.0 new made.2.1
 
   proceeds_keeps : (old : C) (m : MessageRequest) (send receive : Option Call) (pending : PendingFrame T) (new : C)
       → Proceeds answer makes lacks old m send receive pending new → Keeps old new
@@ -65,13 +65,6 @@ module _ {C T : Type 0} (answer : T → Reply) (makes : C → Request → T → 
   taken_keeps old content pending new (inr (known, is, inl refused)) = unchanged old new refused.2
   taken_keeps old content pending new (inr (known, is, inr lacking)) = unchanged old new lacking.1
 
-  goes_keeps : (old : C) (m : MessageRequest) (more : List MessageRequest) (ready : Ready T) (new : C)
-      → GoesOn answer makes lacks old m more ready new → Keeps old new
-  goes_keeps old m [] ready new went = proceeds_keeps old m m.send m.receive (Settled ready) new went
-  goes_keeps old m (next ∷ more) ready new (mid, first, rest) =
-      joins old mid new (proceeds_keeps old m m.send m.receive (Waits next) mid first)
-      (goes_keeps mid next more ready new rest)
-
   given_keeps : (old : C) (ready : Ready T) (said : Reply) (new : C)
       → IsGiven answer makes lacks acknowledges fails old ready said new → Keeps old new
   given_keeps old (Known known) said new given = unchanged old new given.1
@@ -80,8 +73,12 @@ module _ {C T : Type 0} (answer : T → Reply) (makes : C → Request → T → 
   acknowledged_keeps : (old : C) (pending : PendingFrame T) (said : Reply) (new : C)
       → IsAcknowledged answer makes lacks acknowledges fails old pending said new → Keeps old new
   acknowledged_keeps old (Settled ready) said new given = given_keeps old ready said new given
-  acknowledged_keeps old (Waits rest) said new (more, ready, mid, went, given) =
-      joins old mid new (goes_keeps old rest more ready mid went) (given_keeps mid ready said new given)
+  acknowledged_keeps old (Waits rest) said new given = absurd given
+
+  tried_keeps : (old : C) (waiting pending : PendingFrame T) (new : C)
+      → IsTried answer makes lacks acknowledges fails old waiting pending new → Keeps old new
+  tried_keeps old (Settled ready) pending new again = absurd again
+  tried_keeps old (Waits rest) pending new again = proceeds_keeps old rest rest.send rest.receive pending new again
 
   -- frames that are taken in hand and answered
   pub acted_keeps : (old : C) (queue : List (PendingFrame T)) (acts : List (Act T)) (left : List (PendingFrame T))
@@ -90,6 +87,10 @@ module _ {C T : Type 0} (answer : T → Reply) (makes : C → Request → T → 
   acted_keeps old queue (took content pending ∷ acts) left new (mid, first, rest) =
       joins old mid new (taken_keeps old content pending mid first)
       (acted_keeps mid (queue ++ pending ∷ []) acts left new rest)
+  acted_keeps old [] (tried pending ∷ acts) left new acted = absurd acted
+  acted_keeps old (waiting ∷ queue) (tried pending ∷ acts) left new (mid, first, rest) =
+      joins old mid new (tried_keeps old waiting pending mid first)
+      (acted_keeps mid (pending ∷ queue) acts left new rest)
   acted_keeps old [] (acknowledged said ∷ acts) left new acted = absurd acted
   acted_keeps old (pending ∷ queue) (acknowledged said ∷ acts) left new (mid, first, rest) =
       joins old mid new (acknowledged_keeps old pending said mid first) (acted_keeps mid queue acts left new rest)

@@ -1,8 +1,8 @@
 mod Acting
 pub mod Answered
+mod Steps
 mod Ended
 mod Going
 pub mod Keeping
 mod Sent
 mod Turns
-mod Acknowledged

@@ -60,9 +60,11 @@ abbrev pub left_of : Option Call → Option Call → Option ℕ → Option ℕ �
 left_of send receive send_timeout receive_timeout =
     record { send = send; receive = receive; send_timeout = send_timeout; receive_timeout = receive_timeout }
 
--- What a connection did: a frame with this content was taken in hand, or the first frame in hand was answered.
+-- What a connection did: a frame with this content was taken in hand; the first frame in hand, which waited, was tried
+-- again, with this outcome; or the first frame in hand was answered.
 pub data Act (T : Type 0) : Type 0 where
   took : List ℕ → PendingFrame T → Act T
+  tried : PendingFrame T → Act T
   acknowledged : Reply → Act T
 
 -- A caller that is asked, as it describes itself: the reply that a ticket keeps, that what was asked for was done for a
@@ -137,25 +139,6 @@ module _ {C T : Type 0} (answer : T → Reply) (makes : C → Request → T → 
       ⊎ ((known : Reply) × (pending ≡ Settled (Known known))
       × (IsRefused old content known new ⊎ LacksMemory old content known new))
 
-  -- What waited was tried again, attempt after attempt, each with what the one before left.
-  abbrev pub GoesOn : C → MessageRequest → List MessageRequest → Ready T → C → Type 0
-  GoesOn old m [] ready new = Proceeds old m m.send m.receive (Settled ready) new
-  GoesOn old m (next ∷ more) ready new =
-      (mid : C) × Proceeds old m m.send m.receive (Waits next) mid × GoesOn mid next more ready new
-
-  -- It was tried so many times, and this still waits.
-  abbrev pub TriesInVain : C → MessageRequest → ℕ → MessageRequest → C → Type 0
-  TriesInVain old m zero last new = (last ≡ m) × (new ≡ old)
-  TriesInVain old m (suc count) last new =
-      (next : MessageRequest) × (mid : C) × Proceeds old m m.send m.receive (Waits next) mid
-      × TriesInVain mid next count last new
-
-  -- It waits no longer and isn't answered: what was left had no bound, or it was tried as often as anything is.
-  abbrev pub GivesUp : C → MessageRequest → C → Type 0
-  GivesUp old m new =
-      (count : ℕ) × (last : MessageRequest) × TriesInVain old m count last new
-      × ((bound_of last ≡ None) ⊎ (2 ^ 64 - 1 ≤ count))
-
 -- and further: that a ticket's reply was given, and that the store failed before
 module _ {C T : Type 0} (answer : T → Reply) (makes : C → Request → T → C → Type 0) (lacks : C → Request → C → Type 0)
     (acknowledges : C → T → C → Type 0) (fails : C → T → StoreFault → C → Type 0) where
@@ -168,29 +151,20 @@ module _ {C T : Type 0} (answer : T → Reply) (makes : C → Request → T → 
   IsUngiven old (Known known) fault new = ⊥
   IsUngiven old (Made ticket) fault new = fails old ticket fault new
 
-  -- What is in hand was answered; what waited, after its last attempt.
+  -- What is in hand was answered. What waits isn't answered before it was tried again.
   abbrev pub IsAcknowledged : C → PendingFrame T → Reply → C → Type 0
   IsAcknowledged old (Settled ready) said new = IsGiven old ready said new
-  IsAcknowledged old (Waits rest) said new =
-      (more : List MessageRequest) × (ready : Ready T) × (mid : C) × GoesOn answer makes lacks old rest more ready mid
-      × IsGiven mid ready said new
+  IsAcknowledged old (Waits rest) said new = ⊥
 
   -- It couldn't be answered, since the store failed.
   abbrev pub IsUnacknowledged : C → PendingFrame T → StoreFault → C → Type 0
   IsUnacknowledged old (Settled ready) fault new = IsUngiven old ready fault new
-  IsUnacknowledged old (Waits rest) fault new =
-      (more : List MessageRequest) × (ready : Ready T) × (mid : C) × GoesOn answer makes lacks old rest more ready mid
-      × IsUngiven mid ready fault new
+  IsUnacknowledged old (Waits rest) fault new = ⊥
 
-  -- It waited and was given up.
-  abbrev pub IsGivenUp : C → PendingFrame T → C → Type 0
-  IsGivenUp old (Settled ready) new = ⊥
-  IsGivenUp old (Waits rest) new = GivesUp answer makes lacks old rest new
-
-  -- There is no answer, since the store failed or a call was given up.
-  abbrev pub IsUnanswered : C → PendingFrame T → ServeFault → C → Type 0
-  IsUnanswered old pending (Store fault) new = IsUnacknowledged old pending fault new
-  IsUnanswered old pending (Wire fault) new = (fault ≡ Device) × IsGivenUp old pending new
+  -- What waits was tried again.
+  abbrev pub IsTried : C → PendingFrame T → PendingFrame T → C → Type 0
+  IsTried old (Settled ready) pending new = ⊥
+  IsTried old (Waits rest) pending new = Proceeds answer makes lacks old rest rest.send rest.receive pending new
 
   -- Frames are answered in the order in which they were taken. `all_pending` were in hand at the beginning, and `left`
   -- are at the end.
@@ -199,6 +173,9 @@ module _ {C T : Type 0} (answer : T → Reply) (makes : C → Request → T → 
   Acted old all_pending (took content pending ∷ acts) left new =
       (mid : C) × IsTaken answer makes lacks old content pending mid
       × Acted mid (all_pending ++ pending ∷ []) acts left new
+  Acted old [] (tried pending ∷ acts) left new = ⊥
+  Acted old (waiting ∷ all_pending) (tried pending ∷ acts) left new =
+      (mid : C) × IsTried old waiting pending mid × Acted mid (pending ∷ all_pending) acts left new
   Acted old [] (acknowledged reply ∷ acts) left new = ⊥
   Acted old (pending ∷ all_pending) (acknowledged reply ∷ acts) left new =
       (mid : C) × IsAcknowledged old pending reply mid × Acted mid all_pending acts left new
@@ -207,11 +184,13 @@ module _ {C T : Type 0} (answer : T → Reply) (makes : C → Request → T → 
 abbrev pub frames_of : {T : Type 0} → List (Act T) → List ℕ
 frames_of [] = []
 frames_of (took content pending ∷ acts) = frame_encoding content ++ frames_of acts
+frames_of (tried pending ∷ acts) = frames_of acts
 frames_of (acknowledged reply ∷ acts) = frames_of acts
 
 abbrev pub replies_of : {T : Type 0} → List (Act T) → List ℕ
 replies_of [] = []
 replies_of (took content pending ∷ acts) = replies_of acts
+replies_of (tried pending ∷ acts) = replies_of acts
 replies_of (acknowledged reply ∷ acts) = frame_encoding (reply_encoding reply) ++ replies_of acts
 
 -- what is left of an input in which reading stopped: all of it, or what a frame that can't be read leaves
@@ -228,28 +207,39 @@ module _ {C T : Type 0} (answer : T → Reply) (makes : C → Request → T → 
     pub read : input ≡ frames_of acts ++ rest
     pub acknowledged_is : sent ≡ before ++ replies_of acts
 
-  -- How a connection that has these frames in hand ends, by where it does.
-  module _ (old : C) (queue : List (PendingFrame T)) (new : C) (input before : List ℕ)
-      (left written : Option (List ℕ)) where
+  -- Where the input stands of which this rest isn't taken and this is unread: nothing is known of its end; it has ended;
+  -- or the next frame can't be read.
+  abbrev pub StandsAt : Option (Result (Unit {0}) WireFault) → List ℕ → List ℕ → Type 0
+  StandsAt None rest unread = unread ≡ rest
+  StandsAt (Some (Ok done)) rest unread = (rest ≡ []) × (unread ≡ [])
+  StandsAt (Some (Err fault)) rest unread = IsReadOf rest (Err fault) (Some unread)
+
+  -- A conversation that began with this caller, before this input and after this output, has come so far: it has these
+  -- frames in hand, the input stands there, and this of it is left, and this is written.
+  pub record GoesOn (start : C) (input before : List ℕ) (now : C) (all_pending : List (PendingFrame T))
+      (input_end : Option (Result (Unit {0}) WireFault)) (left written : Option (List ℕ)) : Type 0 where
+    pub rest : List ℕ
+    pub unread : List ℕ
+    pub sent : List ℕ
+    pub went : Went start [] now input before rest sent all_pending
+    pub stands : StandsAt input_end rest unread
+    pub left_is : left ≡ Some unread
+    pub written_is : written ≡ Some sent
+
+  -- How a conversation ends, by where it does.
+  module _ (start : C) (input before : List ℕ) (new : C) (left written : Option (List ℕ)) where
     -- All of the input was taken and answered.
     pub record AcknowledgesAll : Type 0 where
       pub sent : List ℕ
-      pub went : Went old queue new input before [] sent []
+      pub went : Went start [] new input before [] sent []
       pub all : left ≡ Some []
       pub written_is : written ≡ Some sent
-
-    -- the process is out of memory before anything is read
-    pub record NeverBegins (fault : WireFault) : Type 0 where
-      pub fault_is : fault ≡ NoMemory
-      pub same : new ≡ old
-      pub unread : left ≡ Some input
-      pub unwritten : written ≡ Some before
 
     -- A frame can't be read. What was taken before is answered, and nothing is called or written for what stands there.
     pub record StopsReading (fault : WireFault) : Type 0 where
       pub rest : List ℕ
       pub sent : List ℕ
-      pub went : Went old queue new input before rest sent []
+      pub went : Went start [] new input before rest sent []
       pub unreadable : IsReadOf rest (Err fault) left
       pub written_is : written ≡ Some sent
 
@@ -260,22 +250,8 @@ module _ {C T : Type 0} (answer : T → Reply) (makes : C → Request → T → 
       pub sent : List ℕ
       pub pending : PendingFrame T
       pub all_pending : List (PendingFrame T)
-      pub went : Went old queue mid input before rest sent (pending ∷ all_pending)
+      pub went : Went start [] mid input before rest sent (pending ∷ all_pending)
       pub unacknowledged : IsUnacknowledged answer makes lacks acknowledges fails mid pending fault new
-      pub unread : IsLeft rest left
-      pub written_is : written ≡ Some sent
-
-    -- The first frame in hand waits no longer, though it found nothing to do, and isn't answered; nothing is written
-    -- for it, and nothing more is read.
-    pub record StopsWaiting (fault : WireFault) : Type 0 where
-      pub fault_is : fault ≡ Device
-      pub mid : C
-      pub rest : List ℕ
-      pub sent : List ℕ
-      pub pending : PendingFrame T
-      pub all_pending : List (PendingFrame T)
-      pub went : Went old queue mid input before rest sent (pending ∷ all_pending)
-      pub given_up : IsGivenUp answer makes lacks acknowledges fails mid pending new
       pub unread : IsLeft rest left
       pub written_is : written ≡ Some sent
 
@@ -287,7 +263,7 @@ module _ {C T : Type 0} (answer : T → Reply) (makes : C → Request → T → 
       pub sent : List ℕ
       pub pending : PendingFrame T
       pub all_pending : List (PendingFrame T)
-      pub went : Went old queue mid input before rest sent (pending ∷ all_pending)
+      pub went : Went start [] mid input before rest sent (pending ∷ all_pending)
       pub reply : Reply
       pub is_acknowledged : IsAcknowledged answer makes lacks acknowledges fails mid pending reply new
       pub unread : IsLeft rest left
@@ -299,64 +275,14 @@ module _ {C T : Type 0} (answer : T → Reply) (makes : C → Request → T → 
       pub rest : List ℕ
       pub sent : List ℕ
       pub all_pending : List (PendingFrame T)
-      pub went : Went old queue new input before rest sent all_pending
+      pub went : Went start [] new input before rest sent all_pending
       pub unread : IsLeft rest left
       pub written_is : written ≡ Some sent
 
-    -- as many turns were taken as a connection has at most
-    pub record StopsAtMost (fault : WireFault) : Type 0 where
-      pub fault_is : fault ≡ Device
-      pub rest : List ℕ
-      pub sent : List ℕ
-      pub went : Went old queue new input before rest sent []
-      pub most : 2 ^ 64 - 1 ≤ length went.acts
-      pub unread : left ≡ Some rest
-      pub written_is : written ≡ Some sent
-
-    -- How a connection ended.
     abbrev pub EndsAsked : Result (Unit {0}) ServeFault → Type 0
     EndsAsked (Ok done) = AcknowledgesAll
-    EndsAsked (Err (Wire fault)) =
-        NeverBegins fault ⊎ (StopsReading fault ⊎ (StopsWriting fault ⊎ (StopsFlushing fault
-        ⊎ (StopsWaiting fault ⊎ StopsAtMost fault))))
+    EndsAsked (Err (Wire fault)) = StopsReading fault ⊎ (StopsWriting fault ⊎ StopsFlushing fault)
     EndsAsked (Err (Store fault)) = StopsAcknowledging fault
-
-    -- A turn is over, and the connection continues.
-    pub record GoesRound : Type 0 where
-      pub rest : List ℕ
-      pub sent : List ℕ
-      pub went : Went old queue new input before rest sent []
-      pub some : 1 ≤ length went.acts
-      pub unread : left ≡ Some rest
-      pub written_is : written ≡ Some sent
-
-    -- How a turn ends: frames are taken, and answered.
-    abbrev pub EndsRound : Result Bool ServeFault → Type 0
-    EndsRound (Ok true) = GoesRound
-    EndsRound (Ok false) = AcknowledgesAll
-    EndsRound (Err (Wire fault)) =
-        StopsReading fault ⊎ (StopsWriting fault ⊎ (StopsFlushing fault ⊎ StopsWaiting fault))
-    EndsRound (Err (Store fault)) = StopsAcknowledging fault
-
-    -- How answering all that is in hand ends.
-    abbrev pub EndsAcknowledging : Result (Unit {0}) ServeFault → Type 0
-    EndsAcknowledging (Ok done) =
-        (sent : List ℕ) × Went old queue new input before input sent [] × (written ≡ Some sent)
-    EndsAcknowledging (Err (Wire fault)) = StopsWriting fault ⊎ (StopsFlushing fault ⊎ StopsWaiting fault)
-    EndsAcknowledging (Err (Store fault)) = StopsAcknowledging fault
-
-  -- How answering the first frame in hand ends.
-  abbrev pub EndsOne : C → PendingFrame T → C → List ℕ → Option (List ℕ) → Result (Unit {0}) ServeFault → Type 0
-  EndsOne old pending new before written (Ok done) =
-      (reply : Reply) × IsAcknowledged answer makes lacks acknowledges fails old pending reply new
-      × (written ≡ Some (before ++ frame_encoding (reply_encoding reply)))
-  EndsOne old pending new before written (Err (Wire fault)) =
-      (fault ≡ Device) × (((reply : Reply) × IsAcknowledged answer makes lacks acknowledges fails old pending reply new
-      × AppendsPart (Some before) written (frame_encoding (reply_encoding reply)))
-      ⊎ (((new ≡ old) × (written ≡ Some before))
-      ⊎ (IsGivenUp answer makes lacks acknowledges fails old pending new × (written ≡ Some before))))
-  EndsOne old pending new before written (Err (Store fault)) =
-      IsUnacknowledged answer makes lacks acknowledges fails old pending fault new × (written ≡ Some before)
 
   -- Frames were taken in hand, as many as were there: whether there may be more, or the next one can't be read.
   abbrev pub IsRead : List ℕ → Option (List ℕ) → Result Bool WireFault → Type 0

@@ -1,3 +1,4 @@
 pub mod Asking
 pub mod Confining
+pub mod Conversing
 pub mod Serving

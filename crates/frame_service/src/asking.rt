@@ -35,8 +35,8 @@ pub trait Asker {
     /// A call that was made, whose reply isn't given yet.
     type Ticket: Drop;
 
-    /// How long a call may still wait.
-    type Patience: Drop;
+    /// Several calls, of this caller or of others like it, with nothing else in between.
+    type Turn: Drop;
 
     /// The reply that a ticket keeps.
     ghost answer: { Self.Ticket → Reply };
@@ -54,12 +54,12 @@ pub trait Asker {
     /// How the store may fail before a ticket's reply is given, and what it is afterwards.
     ghost fails: { Self → Self.Ticket → StoreFault → Self → Type 0 };
 
-    /// Several calls are made now, and nothing else in between.
-    fn begin_turn(&mut self)
+    /// Its calls are made in this turn, until it leaves it.
+    fn join_turn(&mut self, turn: Self::Turn)
         ensures { self.new ≡ self.old };
 
-    /// They were made.
-    fn end_turn(&mut self)
+    /// Leaves its turn. `None`: it had to end it.
+    fn leave_turn(&mut self) -> Option<Self::Turn>
         ensures { self.new ≡ self.old };
 
     /// Makes a call. If the call finds nothing to do and may wait, its wait begins. `None`: it isn't made, since memory
@@ -82,17 +82,13 @@ pub trait Asker {
     fn is_timed_out(&self, ticket: &Self::Ticket) -> bool
         ensures { result ≡ timed_out (answer ticket.now) };
 
+    /// Whether a ticket's reply can be had without a wait.
+    fn is_due(&self, ticket: &Self::Ticket) -> bool;
+
     /// The reply that a ticket keeps, once all that its call saw is stored.
     fn redeem(&mut self, ticket: Self::Ticket) -> Result<Reply, StoreFault>
         ensures reply { IfOk result (λ reply. reply ≡ answer ticket) }
         ensures acknowledges { IfOk result (λ reply. acknowledges self.old ticket self.new) }
         ensures fits { IfOk result (λ reply. length (reply_encoding reply) ≤ MAX_FRAME_CONTENT) }
         ensures fails { IfErr result (λ fault. fails self.old ticket fault self.new) };
-
-    /// What is left of a wait that begins now, of this many milliseconds or without a bound.
-    fn patience(&self, bound: Option<u32>) -> Self::Patience;
-
-    /// Waits until the call whose wait began last may find something to do. Returns whether it may still wait
-    /// afterwards.
-    fn wait(&self, patience: &Self::Patience) -> bool;
 }

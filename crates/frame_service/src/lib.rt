@@ -1,20 +1,22 @@
 //! Frames in, each call made, replies out, generic in what makes the calls.
 #![tactic(auto)]
 
-mod acknowledging;
 mod ahead;
 mod asking;
 mod caller;
 mod confining;
+mod conversation;
+mod conversing;
 mod rounds;
 mod service;
 mod short_reply;
 mod taking;
 
-pub use ahead::Ahead;
 pub use asking::{Asker, PendingFrame, Ready};
 pub use caller::{Caller, shortage};
 pub use confining::{Shown, attach_to, is_kept};
-pub use rounds::{MOST_PENDING_FRAMES, serve_asked};
+pub use conversation::Conversation;
+pub use conversing::Tried;
+pub use rounds::MOST_PENDING_FRAMES;
 pub use service::{ServeFault, serve};
 pub use short_reply::ShortReply;

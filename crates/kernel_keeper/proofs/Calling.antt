@@ -4,6 +4,7 @@ use Rattle.std.specs.Prelude.{if◌then◌else◌}
 use Rattle.std.proofs.lemmas.List.{map-append, length-map}
 use Rattle.history.specs.Entries.{Begins, records_of}
 use Rattle.history.specs.declared.entry.Entry.{Entry}
+use Rattle.ipc_laws.specs.RunsKeep.{runs_keep_lawful}
 use Rattle.ipc_model.specs.calls.Step.{Run, has_record}
 use Rattle.ipc_model.specs.declared.call.Call.{Call}
 use Rattle.ipc_model.specs.declared.record.Record.{Record}
@@ -64,6 +65,9 @@ module _ (base : State) (old new : KernelValue) (entries : List Entry) (opened e
     begins = begins;
     after_is = is;
     kernel = old.kernel;
+    lawful =
+        (runs_keep_lawful base (records_of entries) old.kernel core.applied.fit core.applied.lawful core.applied.acyclic
+        core.applied.run).0;
     next = new.kernel;
     run = core.applied.run;
     step = gives.step;

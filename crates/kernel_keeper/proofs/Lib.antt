@@ -4,6 +4,8 @@ pub mod Calling
 mod Calls
 mod Cores
 mod Cutting
+mod Destroyed
 pub mod Histories
 mod Meetings
+mod Since
 mod Taking

@@ -7,8 +7,10 @@ use Rattle.history.specs.declared.entry.Entry.{Entry}
 use Rattle.ipc_model.specs.calls.Step.{Run, Step, has_record}
 use Rattle.ipc_model.specs.declared.call.Call.{Call}
 use Rattle.ipc_model.specs.declared.reply.Reply.{Reply}
+use Rattle.ipc_model.specs.history.History.{called}
+use Rattle.ipc_model.specs.state.LawfulState.{LawfulState}
 use Rattle.ipc_model.specs.state.State.{State}
-use Rattle.kernel_keeper.specs.Tokens.{entry_by, with_entry, IsHistory}
+use Rattle.kernel_keeper.specs.Tokens.{SessionValue, Did, IsHistory, entry_by, with_entry}
 use Rattle.store_keeper.specs.Storing.{EndValue, LoadValue}
 use Rattle.system.specs.Core.{Counts, IsApplied, Wait}
 use Rattle.system.specs.Halves.{Cuts, Gives, KernelValue, TakesBatch, TicketValue, first_half, kernel_code}
@@ -107,6 +109,7 @@ pub record Applies (base : State) (number space : ℕ) (seen : List Entry) (c : 
   pub begins : Begins seen before
   pub after_is : after ≡ before ++ entries_of_call number space c ticket
   pub kernel : State
+  pub lawful : LawfulState kernel
   pub next : State
   pub run : Run base (records_of before) kernel
   pub step : Step kernel space c ticket.answer next
@@ -114,6 +117,20 @@ pub record Applies (base : State) (number space : ℕ) (seen : List Entry) (c : 
   pub seen_is : ticket.seen ≡ length after
   pub old_counted : old_made ≡ length before
   pub new_counted : new_made ≡ length after
+
+-- A session made a call right after this history, in the state that it leads to, which is lawful. The session has then
+-- seen all of it, with the call's record, if there is one.
+pub record MadeAfter (base : State) (before : List Entry) (old : SessionValue) (c : Call) (ticket : TicketValue)
+    (new : SessionValue) : Type 0 where
+  pub did : Did base old (called c ticket.answer) new
+  pub all : new.past.entries ≡ before ++ entries_of_call old.number old.task.space c ticket
+  pub kernel : State
+  pub run : Run base (records_of before) kernel
+  pub lawful : LawfulState kernel
+  pub next : State
+  pub step : Step kernel old.task.space c ticket.answer next
+  pub seen : new.task.seen ≡ length new.past.entries
+  pub ticket_seen : ticket.seen ≡ new.task.seen
 
 -- A session that makes no call may have seen more of the history.
 pub record Learns (base : State) (seen after : List Entry) : Type 0 where

@@ -1,3 +1,4 @@
 pub mod Belonging
+pub mod Destroying
 pub mod Keeping
 pub mod Tokens

@@ -1,9 +1,10 @@
-ghost use Rattle.std.specs.Prelude.{◌≡◌, ◌⊎◌, ◌+◌, ◌<◌, ◌≤◌, ◌∷◌, [], ◌++◌, Some, false, length, IfOk, IfErr, IfSome, IfNone, IsErrOf, MatchBool, OnErr};
+ghost use Rattle.std.specs.Prelude.{◌≡◌, ◌⊎◌, ℕ, ◌+◌, ◌<◌, ◌≤◌, ◌∷◌, [], ◌++◌, Some, false, length, IfOk, IfErr, IfSome, IfNone, IsErrOf, MatchBool, MatchOption, OnErr};
 ghost use Rattle.codes.specs.declared.name.TheConstants.{FIRST_SPACE};
 ghost use Rattle.ipc_model.specs.history.History.{called, detached, looked, space_after};
 ghost use Rattle.ipc_model.specs.state.Circular.{Acyclic};
 ghost use Rattle.ipc_model.specs.state.LawfulState.{LawfulState};
-ghost use Rattle.kernel_keeper.specs.Keeping.{Ends, IsApart, IsSame, Loads, Makes, entries_in, first_core};
+ghost use Rattle.kernel_keeper.specs.Destroying.{LackedSince, MadeSince, SettlesBy, SettlesExactly, count_at};
+ghost use Rattle.kernel_keeper.specs.Keeping.{Ends, IsApart, IsSame, Loads, MadeAfter, Makes, entries_in, first_core};
 ghost use Rattle.kernel_keeper.specs.Tokens.{Did, IsHistory, KeepsRead};
 ghost use Rattle.system.specs.Halves.{CanCut, CannotTake, IsFullFor, with_receipt};
 ghost use Rattle.waiting.specs.Places.{names};
@@ -54,7 +55,8 @@ impl<L: Founding> Drop for KernelKeeper<L> {
 
 impl<L: Founding> Model for KernelKeeper<L> {
     ghost use Rattle.std.specs.Prelude.{◌≡◌};
-    ghost use Rattle.kernel_keeper.specs.Keeping.{KernelKeeperValue, keeper_code};
+    ghost use Rattle.kernel_keeper.specs.Destroying.{TellsOf};
+    ghost use Rattle.kernel_keeper.specs.Keeping.{KernelKeeperValue, entries_in, keeper_code};
 
     ghost Value = { KernelKeeperValue };
 
@@ -62,7 +64,7 @@ impl<L: Founding> Model for KernelKeeper<L> {
 
     ghost view = { λ k. record { core = k.core } };
 
-    ghost invariant = { λ k. k.book.total ≡ k.core.half.log.made };
+    ghost invariant = { λ k. (k.book.total ≡ k.core.half.log.made) × TellsOf k.destructions (entries_in k.core) };
 }
 
 impl<L: Founding> KernelKeeper<L> {
@@ -78,6 +80,7 @@ impl<L: Founding> KernelKeeper<L> {
     ) -> Self
         requires base { (kernel ≡ L.base) × LawfulState L.base × Acyclic L.base.ipc }
         requires none { (past.entries ≡ []) × (book.total ≡ 0) }
+        requires undestroyed { (space : ℕ) → count_at destructions space ≡ 0 }
         ensures { result ≡ record { core = first_core kernel epoch records past } }
     {
         KernelKeeper {
@@ -104,6 +107,8 @@ impl<L: Founding> KernelKeeper<L> {
             (λ ticket. Wakes self.old.core.half.kernel.ipc self.new.core.half.kernel.ipc (names places.new)) }
         ensures given { IfOk result.1 (λ ticket. Did L.base session (called call.now ticket.answer) result.0
             × (ticket.seen ≡ result.0.task.seen)) }
+        ensures after { IfOk result.1 (λ ticket. MatchOption (entries_in self.old.core) ⊥
+            (λ before. MadeAfter L.base before session call.now ticket result.0)) }
         ensures makes { IfOk result.1
             (λ ticket. Makes self.old.core session.number session.task.space call.now ticket self.new.core) }
         ensures full { IsErrOf result.1 SubmitFault.EpochFull → IsFullFor self.old.core.half session.task.space call.now
@@ -136,10 +141,44 @@ impl<L: Founding> KernelKeeper<L> {
 }
 
 impl<L: Founding> KernelKeeper<L> {
+    /// Makes a call of a session as `submit` does. If the session is confined since so many records were made, it is
+    /// settled first, by all of the history: the call is made in the very space that it was confined to, or in none.
+    pub fn submit_since(
+        &mut self,
+        session: Session<L>,
+        since: Option<u64>,
+        call: &Call,
+        places: &mut Places,
+    ) -> (Session<L>, Result<Ticket, SubmitFault>)
+        ensures wakes { IfOk result.1
+            (λ ticket. Wakes self.old.core.half.kernel.ipc self.new.core.half.kernel.ipc (names places.new)) }
+        ensures made { IfOk result.1 (λ ticket. MadeSince L.base since session call.now ticket result.0) }
+        ensures lacked { OnErr result.1 (LackedSince L.base since session result.0) }
+        ensures err { OnErr result.1 (self.new ≡ self.old) }
+        ensures reads { KeepsRead session.past result.0.past }
+    {
+        let session = self.settle_since(session, since);
+        let (session, made) = self.submit(session, call, places);
+        (session, made)
+    }
+
+    /// The session with which a call is made now.
+    fn settle_since(&self, session: Session<L>, since: Option<u64>) -> Session<L>
+        ensures settled { SettlesBy L.base since (entries_in self.now.core) session result }
+        ensures past { result.past ≡ session.past }
+    {
+        match since {
+            Some(count) => self.settle(session, count),
+            None => session,
+        }
+    }
+
     /// The session of a task that is confined to its space since so many records were made. If the space was destroyed
     /// after these, it is detached, whether or not there is a new space under the number.
     pub fn settle(&self, session: Session<L>, since: u64) -> Session<L>
         ensures settled { (result ≡ session) ⊎ Did L.base session detached result }
+        ensures exact { SettlesExactly L.base since (entries_in self.now.core) session result }
+        ensures past { result.past ≡ session.past }
         ensures reads { KeepsRead session.past result.past }
     {
         if self.destructions.has_since(session.own_state.space, since) {

@@ -2,6 +2,7 @@ ghost use Rattle.std.specs.Prelude.{◌≡◌, ◌⊎◌, ◌≤◌, ◌<◌, �
 ghost use Rattle.history.specs.Entries.{Begins};
 ghost use Rattle.ipc_model.specs.state.Circular.{Acyclic};
 ghost use Rattle.ipc_model.specs.state.LawfulState.{LawfulState};
+ghost use Rattle.kernel_keeper.specs.Destroying.{DestroysKnown};
 ghost use Rattle.kernel_keeper.specs.Keeping.{Applies, Ends, IsApart, IsSame, Learns, Loads, Makes, entries_in, entries_of_call, first_core, first_number};
 ghost use Rattle.kernel_keeper.specs.Tokens.{IsHistory, KeepsRead};
 ghost use Rattle.system.specs.Halves.{CanCut, CannotTake, Gives, IsFullFor, with_receipt};
@@ -90,9 +91,10 @@ impl<L: Founding> KernelCore<L> {
         self.half.kernel()
     }
 
-    /// How many records were made.
+    /// How many records were made, which are all of the history.
     pub(crate) fn made(&self) -> u64
-        ensures { result ≡ self.now.half.log.made }
+        ensures made { result ≡ self.now.half.log.made }
+        ensures all { IfSome (entries_in self.now) (λ entries. result ≡ length entries) }
     {
         self.half.made()
     }
@@ -113,6 +115,8 @@ impl<L: Founding> KernelCore<L> {
             (λ ticket. Applies L.base number space seen.entries call.now ticket result.0.entries self.old.half.log.made
             self.new.half.log.made) }
         ensures makes { IfOk result.1 (λ ticket. Makes self.old number space call.now ticket self.new) }
+        ensures level { OnOk result.1 (entries_in self.new ≡ Some result.0.entries) }
+        ensures known { IfOk result.1 (λ ticket. DestroysKnown space call.now ticket) }
         ensures full { IsErrOf result.1 SubmitFault.EpochFull → IsFullFor self.old.half space call.now
             ⊎ IsApart self.old.past seen }
         ensures err { OnErr result.1 (Learns L.base seen.entries result.0.entries × (self.new ≡ self.old)) }

@@ -126,6 +126,7 @@ impl<L: Founding> Session<L> {
     /// Its space has gone: its task is attached to none from then on, also where a new space gets the number.
     pub(crate) fn detach(self) -> Self
         ensures detached { Did L.base self detached result }
+        ensures past { result.past ≡ self.past }
         ensures reads { KeepsRead self.past result.past }
     {
         let mut session = self;

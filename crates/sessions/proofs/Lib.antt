@@ -1,1 +1,2 @@
 mod Closings
+mod Unconfined

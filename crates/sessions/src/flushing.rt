@@ -86,6 +86,7 @@ impl<L: Founding, D: Disk, G: Gate> Shared<L, D, G> {
                 self.gate.pass(rt, LoopStep::Durable);
                 self.guarded.lock(rt).learn(receipt);
                 let side = self.replies.lock(rt).store(stored);
+                self.wake_workers(rt);
                 self.replies_at(side).notify_all();
                 Ok(true)
             }

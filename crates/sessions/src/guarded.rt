@@ -1,14 +1,15 @@
 ghost use Rattle.std.specs.Prelude.{◌≡◌, IfOk, OnErr};
-ghost use Rattle.ipc_model.specs.history.History.{called, looked};
-ghost use Rattle.kernel_keeper.specs.Tokens.{Did, KeepsRead};
+ghost use Rattle.kernel_keeper.specs.Destroying.{LackedSince, MadeSince};
+ghost use Rattle.kernel_keeper.specs.Tokens.{KeepsRead};
 
-use crate::seat::Bell;
+use crate::seat::Worker;
 use crate::waiters::{Waiter, Waiters};
 use codes::{KernReturn, MAX_RECORDS};
 use history::Founding;
 use ipc_model::{Call, PlainCall};
 use kernel_keeper::{KernelKeeper, Load, Session};
-use std::alloc::Global;
+use std::alloc::{AllocError, Global};
+use std::sync::Arc;
 use store_fault::StoreFault;
 use store_half::Receipt;
 use system::{SubmitFault, Ticket};
@@ -16,17 +17,6 @@ use waiting::Places;
 
 /// Up to this many records are few, so that one more in their batch is worth a wait.
 const FEW_RECORDS: u64 = 4;
-
-/// How a wait for a turn ended.
-#[derive(Clone, Copy)]
-pub enum Waited {
-    /// The turn has come.
-    Turn,
-    /// The time is over.
-    TimeOver,
-    /// Nothing is stored any more.
-    Ended,
-}
 
 /// What lies under the lock of the kernel: the keeper of the history, and how the loops stand.
 #[derive(Drop)]
@@ -65,17 +55,17 @@ impl<L: Founding> KernelGuarded<L> {
         }
     }
 
-    /// Makes a call of a session, as `KernelKeeper::submit` does, and gives their turn to waiting calls that may find
-    /// something to do now. A call that finds nothing is in line from then on, if it has a bell.
+    /// Makes a call of a session, as `KernelKeeper::submit_since` does, and gives their turn to waiting calls that may
+    /// find something to do now. A call that finds nothing is in line from then on, if it may wait, for this worker.
     pub(crate) fn submit(
         &mut self,
         session: Session<L>,
+        since: Option<u64>,
         call: &Call,
-        bell: Option<&Bell>,
+        worker: Option<&Arc<Worker, Global>>,
     ) -> (Session<L>, Result<Ticket, SubmitFault>)
-        ensures given { IfOk result.1 (λ ticket. Did L.base session (called call.now ticket.answer) result.0
-            × (ticket.seen ≡ result.0.task.seen)) }
-        ensures err { OnErr result.1 (Did L.base session looked result.0) }
+        ensures made { IfOk result.1 (λ ticket. MadeSince L.base since session call.now ticket result.0) }
+        ensures lacked { OnErr result.1 (LackedSince L.base since session result.0) }
         ensures reads { KeepsRead session.past result.0.past }
     {
         let waiter = self.waiters.take(session.number());
@@ -86,13 +76,15 @@ impl<L: Founding> KernelGuarded<L> {
             self.places.clear();
         }
         let before = self.keeper.made();
-        let (session, made) = self.keeper.submit(session, call, &mut self.places);
+        let (session, made) = self
+            .keeper
+            .submit_since(session, since, call, &mut self.places);
         if before < self.keeper.made() {
             drop(waiter);
             self.fresh = self.fresh.saturating_add(1);
             self.waiters.wake(&self.places);
-        } else if let Some(bell) = bell.filter(|_| finds_nothing(&made)) {
-            self.put_in_line(&session, call, bell, waiter);
+        } else if let Some(worker) = worker.filter(|_| finds_nothing(&made)) {
+            self.put_in_line(&session, call, worker, waiter);
         } else {
             self.waiters.pass_on(waiter);
         }
@@ -105,7 +97,7 @@ impl<L: Founding> KernelGuarded<L> {
         &mut self,
         session: &Session<L>,
         call: &Call,
-        bell: &Bell,
+        worker: &Arc<Worker, Global>,
         waiter: Option<Waiter>,
     ) {
         let Some(places) = self.keeper.places_of_call(session, call) else {
@@ -115,7 +107,7 @@ impl<L: Founding> KernelGuarded<L> {
         let number = session.number();
         let _ = match waiter {
             Some(waiter) => self.waiters.add_again(number, waiter, places),
-            None => self.waiters.add(number, is_send(call), places, bell),
+            None => self.waiters.add(number, is_send(call), places, worker),
         };
     }
 
@@ -123,13 +115,7 @@ impl<L: Founding> KernelGuarded<L> {
     pub(crate) fn leave_line(&mut self, session: u32) {
         let waiter = self.waiters.take(session);
         self.waiters.pass_on(waiter);
-        self.waiters.ring();
-    }
-
-    /// Gives a session's waiting call its turn.
-    pub(crate) fn give_turn(&mut self, session: u32) {
-        self.waiters.give_turn(session);
-        self.waiters.ring();
+        self.waiters.wake_worker();
     }
 
     /// Takes the records that wait to be stored, as `KernelKeeper::take` does. `None` also if an allocation fails.
@@ -148,31 +134,19 @@ impl<L: Founding> KernelGuarded<L> {
         self.waiters.are_due()
     }
 
-    /// Whether a session's call waits, or nothing is stored any more, so that none does.
+    /// One more worker, whose number is returned.
+    pub(crate) fn add_worker(&mut self) -> Result<usize, AllocError> {
+        self.waiters.turns().add_worker()
+    }
+
+    /// Exchanges the sessions of a worker whose call's turn has come for an empty list.
+    pub(crate) fn take_due(&mut self, worker: usize, due: &mut Vec<u32>) -> Result<(), AllocError> {
+        self.waiters.turns().take(worker, due)
+    }
+
+    /// Whether a session's call waits, in line or with its turn.
     pub(crate) fn is_waiting(&self, session: u32) -> bool {
-        self.is_closed() || self.waiters.has(session)
-    }
-
-    /// Whether a session's call waits for its turn.
-    pub(crate) fn is_in_line(&self, session: u32) -> bool {
-        !self.is_closed() && self.waiters.is_in_line(session)
-    }
-
-    /// How the wait of a session's call for its turn ends.
-    pub(crate) fn waited(&self, session: u32) -> Waited {
-        if self.is_closed() {
-            return Waited::Ended;
-        }
-        if self.waiters.is_in_line(session) {
-            Waited::TimeOver
-        } else {
-            Waited::Turn
-        }
-    }
-
-    /// Whether nothing is stored any more.
-    fn is_closed(&self) -> bool {
-        self.fault.is_some() || self.is_ended
+        self.waiters.has(session)
     }
 
     /// Learns that the load that was out is stored.
@@ -180,9 +154,9 @@ impl<L: Founding> KernelGuarded<L> {
         self.keeper.durable(receipt);
     }
 
-    /// The bell of a call whose turn has come, if it hasn't been rung yet.
-    pub(crate) fn take_rung(&mut self) -> Option<Bell> {
-        self.waiters.take_rung()
+    /// The worker of a call whose turn has come, if it hasn't been woken yet.
+    pub(crate) fn take_due_worker(&mut self) -> Option<Arc<Worker, Global>> {
+        self.waiters.take_due_worker()
     }
 
     /// What a loop met.
@@ -234,7 +208,7 @@ impl<L: Founding> KernelGuarded<L> {
     pub(crate) fn end(&mut self) {
         self.is_ended = true;
         self.waiters.wake_all();
-        self.waiters.ring();
+        self.waiters.wake_worker();
     }
 
     /// Tells the loops to end.
@@ -246,7 +220,7 @@ impl<L: Founding> KernelGuarded<L> {
     pub(crate) fn fail(&mut self, fault: StoreFault) {
         self.fault = self.fault.or(Some(fault));
         self.waiters.wake_all();
-        self.waiters.ring();
+        self.waiters.wake_worker();
     }
 }
 

@@ -12,15 +12,15 @@ mod replies;
 mod seat;
 mod shared;
 mod turn;
+mod turns_due;
 mod waiters;
 
 pub use closing::{Book, Unmatched, close};
 pub use gate::{Gate, LoopStep, OpenGate};
-pub use guarded::Waited;
 pub use kernel_keeper::{
     Admission, Admissions, EntryBlock, Founding, MOST_SESSIONS, MeetFault, Session, Unmet, meet,
 };
-pub use seat::{Peer, Seat};
-pub use shared::{NotMade, Shared};
+pub use seat::{Peer, Seat, Worker};
+pub use shared::Shared;
 pub use stored_mark::NewMark;
-pub use turn::Turn;
+pub use turn::{NotMade, Turn};

@@ -1,62 +1,58 @@
-//! Where a session's call waits, and for which task.
+//! Where a session's calls wait, and for which task.
 
+use mio::Waker;
 use std::alloc::{AllocError, Global};
-use std::sync::{Arc, Condvar};
+use std::sync::Arc;
 
 /// The task that a session's calls are made for.
 pub trait Peer: Drop {
     /// Whether it has gone, so that no one will read a reply.
     fn is_gone(&self) -> bool;
-
-    /// Whether a waiting call of it is given its turn as soon as it goes, so that it needn't be checked meanwhile.
-    fn is_watched(&self) -> bool;
 }
 
-/// What is rung when the turn of a waiting call has come. It is made once for a session, so that a wait takes no memory
-/// for it.
+/// A thread that serves sessions, and is woken if the turn of a call of one of them has come, or so many records are
+/// stored as it awaits.
 #[derive(Drop)]
-pub(crate) struct Bell {
-    condvar: Arc<Condvar, Global>,
+pub struct Worker {
+    number: usize,
+    waker: Waker,
 }
 
-impl Bell {
-    /// Another handle to the same bell.
-    pub(crate) fn again(&self) -> Result<Bell, AllocError> {
-        let condvar = Arc::try_clone(&self.condvar)?;
-        Ok(Bell { condvar })
+impl Worker {
+    /// The worker with this number, which this wakes.
+    pub(crate) fn new(number: usize, waker: Waker) -> Self {
+        Worker { number, waker }
     }
 
-    /// Wakes the call that waits.
-    pub(crate) fn ring(&self) {
-        self.condvar.notify_all();
+    pub(crate) fn number(&self) -> usize {
+        self.number
     }
 
-    /// What is waited on.
-    pub(crate) fn condvar(&self) -> &Condvar {
-        &self.condvar
+    /// Wakes the thread.
+    pub fn wake(&self) {
+        let _ = self.waker.wake();
     }
+}
+
+/// Another handle to a worker.
+pub(crate) fn again(worker: &Arc<Worker, Global>) -> Result<Arc<Worker, Global>, AllocError> {
+    Arc::try_clone(worker)
 }
 
 /// Where the calls of one session wait, and the task that they are made for.
 #[derive(Drop)]
 pub struct Seat<P> {
-    bell: Bell,
+    worker: Arc<Worker, Global>,
     peer: P,
 }
 
 impl<P> Seat<P> {
-    /// A seat at which no call waits.
-    pub fn new(alloc: Global, peer: P) -> Result<Self, AllocError>
+    /// A seat at which no call waits, of a session that this worker serves.
+    pub fn new(worker: Arc<Worker, Global>, peer: P) -> Self
     where
         P: Drop,
     {
-        match Arc::new(alloc, Condvar::new()) {
-            Ok(condvar) => Ok(Seat {
-                bell: Bell { condvar },
-                peer,
-            }),
-            Err(_) => Err(AllocError),
-        }
+        Seat { worker, peer }
     }
 
     /// The task.
@@ -64,7 +60,7 @@ impl<P> Seat<P> {
         &self.peer
     }
 
-    pub(crate) fn bell(&self) -> &Bell {
-        &self.bell
+    pub(crate) fn worker(&self) -> &Arc<Worker, Global> {
+        &self.worker
     }
 }

@@ -6,14 +6,15 @@ ghost use Rattle.ipc_model.specs.history.History.{called, looked, redemption};
 ghost use Rattle.ipc_model.specs.encodings.Encodings.{reply_encoding};
 ghost use Rattle.kernel_keeper.specs.Tokens.{Did, KeepsRead};
 
-use crate::guarded::{KernelGuarded, Waited};
+use crate::guarded::KernelGuarded;
 use crate::replies::{Replies, Side};
-use crate::seat::{Peer, Seat};
+use crate::seat::{Peer, Seat, Worker};
 use crate::turn::{News, Turn};
 use disk::Disk;
 use ipc_model::{Call, Reply};
 use kernel_keeper::{Admission, Destructions, EntryBlock, Founding, KernelKeeper, Past, Session};
-use std::alloc::Global;
+use mio::Waker;
+use std::alloc::{AllocError, Global};
 use std::sync::ledger::Book;
 use std::sync::{Arc, Condvar, Mutex, Wait};
 use std::thread;
@@ -25,15 +26,6 @@ use system::{Opened, SubmitFault, Ticket};
 
 /// How many milliseconds a thread waits before it tries again after it ran out of memory.
 pub(crate) const RETRY_MILLISECONDS: u64 = 10;
-
-/// Why a call wasn't made. Nothing changed.
-#[derive(Clone, Copy)]
-pub enum NotMade {
-    /// As `submit` says.
-    Fault(SubmitFault),
-    /// Its task has gone, and no one would get the message.
-    Gone,
-}
 
 /// The two halves of the core, each under a lock of its own, for any number of sessions, one thread that stores their
 /// calls and one that makes images. No lock is taken within the other.
@@ -113,7 +105,7 @@ impl<L: Founding, D: Disk, G: Drop> Shared<L, D, G> {
             gate,
             guarded: Mutex::new(KernelGuarded::new(alloc, keeper)),
             store_keeper: Mutex::new(store_keeper),
-            replies: Mutex::new(Replies::none(known)),
+            replies: Mutex::new(Replies::none(alloc, known)),
             mark,
             records: Condvar::new(),
             turns_taken: Condvar::new(),
@@ -158,33 +150,8 @@ impl<L: Founding, D: Disk, G: Drop> Shared<L, D, G> {
         ensures reads { KeepsRead session.past result.0.past }
     {
         let mut turn = self.begin_turn(rt);
-        let (session, made) = turn.guarded.submit(session, call, None);
-        turn.keep_rung();
-        self.end_turn(turn);
-        (session, made)
-    }
-
-    /// Makes a call of a session as `submit` does, for the task of this seat. A receive isn't made for a task that has
-    /// gone: a message that was sent after its end stays.
-    ///
-    /// If it may wait, a send that finds no room, or a receive that finds no message, is in line from then on, until a
-    /// call of the session is made again, or isn't made because its task has gone. A call whose turn comes is woken; a
-    /// turn that ends without a record is passed on.
-    pub fn submit_for<R: Wait, P: Peer>(
-        &self,
-        rt: &R,
-        session: Session<L>,
-        call: &Call,
-        seat: &Seat<P>,
-        may_wait: bool,
-    ) -> (Session<L>, Result<Ticket, NotMade>)
-        ensures given { IfOk result.1 (λ ticket. Did L.base session (called call.now ticket.answer) result.0
-            × (ticket.seen ≡ result.0.task.seen)) }
-        ensures err { OnErr result.1 (Did L.base session looked result.0) }
-        ensures reads { KeepsRead session.past result.0.past }
-    {
-        let mut turn = self.begin_turn(rt);
-        let (session, made) = turn.submit(session, call, seat, may_wait);
+        let (session, made) = turn.guarded.submit(session, None, call, None);
+        turn.keep_due_worker();
         self.end_turn(turn);
         (session, made)
     }
@@ -204,10 +171,10 @@ impl<L: Founding, D: Disk, G: Drop> Shared<L, D, G> {
             has_more,
             are_over,
             has_image_due,
-            rung,
+            due_worker,
         } = turn.end();
-        if let Some(bell) = rung {
-            bell.ring();
+        if let Some(worker) = due_worker {
+            worker.wake();
         }
         if has_more {
             self.records.notify_all();
@@ -220,46 +187,58 @@ impl<L: Founding, D: Disk, G: Drop> Shared<L, D, G> {
         }
     }
 
-    /// Waits at a session's seat until the turn of its call has come, or this time is over, or nothing is stored any
-    /// more. If its call is in no line, because an allocation failed, its turn comes after a while.
-    pub fn wait<R: Wait + Clock, P: Peer>(
-        &self,
-        rt: &R,
-        session: &Session<L>,
-        seat: &Seat<P>,
-        most: Option<Duration>,
-    ) -> Waited {
-        let number = session.number();
-        let guarded = self.guarded.lock(rt);
-        if !guarded.is_waiting(number) {
-            drop(guarded);
-            self.pause(rt);
-            return Waited::Turn;
-        }
-        let bell = seat.bell().condvar();
-        let guarded = match most {
-            None => bell.wait_while(rt, guarded, |guarded| guarded.is_in_line(number)),
-            Some(most) => {
-                let (guarded, _) = bell.wait_timeout_while(
-                    rt,
-                    guarded,
-                    most,
-                    |guarded| guarded.is_in_line(number),
-                );
-                guarded
-            }
+    /// A worker, which this wakes.
+    pub fn worker(&self, rt: &impl Wait, waker: Waker) -> Result<Arc<Worker, Global>, AllocError> {
+        let number = self.guarded.lock(rt).add_worker()?;
+        let Ok(worker) = Arc::new(self.alloc, Worker::new(number, waker)) else {
+            return Err(AllocError);
         };
-        guarded.waited(number)
+        let same = Arc::try_clone(&worker)?;
+        self.replies.lock(rt).add_worker(same)?;
+        Ok(worker)
+    }
+
+    /// Whether a reply that saw `seen` records can be had without a wait.
+    pub fn is_due(&self, rt: &impl Wait, seen: u64) -> bool {
+        !self.replies.lock(rt).is_awaited(seen)
+    }
+
+    /// Has a worker woken once `seen` records are stored, or nothing is stored any more. Returns whether that is still
+    /// to come.
+    pub fn have_woken(&self, rt: &impl Wait, worker: &Worker, seen: u64) -> bool {
+        self.replies.lock(rt).have_woken(worker.number(), seen)
+    }
+
+    /// The sessions of a worker whose call's turn has come since this was asked last. If an allocation fails, they are
+    /// kept for the next time.
+    pub fn take_due(
+        &self,
+        rt: &impl Wait,
+        worker: &Worker,
+        due: &mut Vec<u32>,
+    ) -> Result<(), AllocError> {
+        self.guarded.lock(rt).take_due(worker.number(), due)
+    }
+
+    /// Wakes the workers for which as many records are stored as they await. The lock is free when one is woken.
+    pub(crate) fn wake_workers(&self, rt: &impl Wait) {
+        let count = self.replies.lock(rt).workers();
+        for number in 0..count {
+            let worker = self.replies.lock(rt).take_due_worker(number);
+            if let Some(worker) = worker {
+                worker.wake();
+            }
+        }
+    }
+
+    /// A session's call waits no longer, and isn't made again.
+    pub fn leave_line(&self, rt: &impl Wait, session: u32) {
+        self.guarded.lock(rt).leave_line(session);
     }
 
     /// Waits a while.
     pub(crate) fn pause<R: Wait + Clock>(&self, rt: &R) {
         thread::sleep(rt, Duration::from_millis(RETRY_MILLISECONDS));
-    }
-
-    /// Gives the waiting call of the session with this number its turn: for a caller that knows that its task has gone.
-    pub fn give_turn(&self, rt: &impl Wait, session: u32) {
-        self.guarded.lock(rt).give_turn(session);
     }
 
     /// The reply that a ticket of this session keeps, once all that its call saw is stored; until then it waits.
@@ -344,6 +323,7 @@ impl<L: Founding, D: Disk, G: Drop> Shared<L, D, G> {
     /// No reply comes any more that hasn't come yet.
     fn end_replies(&self, rt: &impl Wait) {
         self.replies.lock(rt).end();
+        self.wake_workers(rt);
         self.even.notify_all();
         self.odd.notify_all();
     }

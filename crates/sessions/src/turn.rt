@@ -1,16 +1,25 @@
 //! Several calls under one hold of the kernel's lock.
-ghost use Rattle.std.specs.Prelude.{◌≡◌, ◌⊎◌, IfOk, OnErr};
-ghost use Rattle.ipc_model.specs.history.History.{called, detached, looked};
-ghost use Rattle.kernel_keeper.specs.Tokens.{Did, KeepsRead};
+ghost use Rattle.std.specs.Prelude.{IfOk, OnErr};
+ghost use Rattle.kernel_keeper.specs.Destroying.{LackedSince, MadeSince};
+ghost use Rattle.kernel_keeper.specs.Tokens.{KeepsRead};
 
 use crate::guarded::KernelGuarded;
-use crate::seat::{Bell, Peer, Seat};
-use crate::shared::NotMade;
+use crate::seat::{Peer, Seat, Worker};
 use history::Founding;
 use ipc_model::{Call, PlainCall};
 use kernel_keeper::Session;
-use std::sync::MutexGuard;
-use system::Ticket;
+use std::alloc::{AllocError, Global};
+use std::sync::{Arc, MutexGuard};
+use system::{SubmitFault, Ticket};
+
+/// Why a call wasn't made. Nothing changed.
+#[derive(Clone, Copy)]
+pub enum NotMade {
+    /// As `Shared::submit` says.
+    Fault(SubmitFault),
+    /// Its task has gone, and no one would get the message.
+    Gone,
+}
 
 /// The lock of the kernel, held while a session makes several calls, so that it isn't handed over between them.
 ///
@@ -23,8 +32,8 @@ pub struct Turn<'a, L: Founding> {
     before: u64,
     had_due: bool,
 
-    // The bell of a call whose turn has come. It is rung when the lock is free, since that call takes it first.
-    rung: Option<Bell>,
+    // The worker of a call whose turn has come. It is woken when the lock is free, since it takes it first.
+    due_worker: Option<Arc<Worker, Global>>,
 }
 
 /// What others wait for, once a turn is over.
@@ -32,7 +41,7 @@ pub(crate) struct News {
     pub(crate) has_more: bool,
     pub(crate) are_over: bool,
     pub(crate) has_image_due: bool,
-    pub(crate) rung: Option<Bell>,
+    pub(crate) due_worker: Option<Arc<Worker, Global>>,
 }
 
 impl<'a, L: Founding> Turn<'a, L> {
@@ -43,7 +52,7 @@ impl<'a, L: Founding> Turn<'a, L> {
             guarded,
             before,
             had_due,
-            rung: None,
+            due_worker: None,
         }
     }
 
@@ -52,32 +61,40 @@ impl<'a, L: Founding> Turn<'a, L> {
         self.guarded.awaits_epoch()
     }
 
-    /// How many records have been made.
-    pub fn made(&self) -> u64 {
-        self.guarded.keeper.made()
+    /// The sessions of a worker whose call's turn has come, as `Shared::take_due` does. The worker isn't woken for them.
+    pub fn take_due(&mut self, worker: &Worker, due: &mut Vec<u32>) -> Result<(), AllocError> {
+        self.guarded.take_due(worker.number(), due)?;
+        drop(
+            self.due_worker
+                .take_if(|woken| woken.number() == worker.number()),
+        );
+        Ok(())
     }
 
-    /// The session of a task that is confined to its space since so many records were made (`made`). If the space was
-    /// destroyed after these, it is detached. A call that is made before the turn ends is then made in the space that
-    /// it was confined to.
-    pub fn settle(&self, session: Session<L>, since: u64) -> Session<L>
-        ensures settled { (result ≡ session) ⊎ Did L.base session detached result }
-        ensures reads { KeepsRead session.past result.past }
-    {
-        self.guarded.keeper.settle(session, since)
+    /// Whether a session's call waits in line, or its turn has come.
+    pub fn is_waiting(&self, session: u32) -> bool {
+        self.guarded.is_waiting(session)
     }
 
-    /// Makes a call of a session, for the task of this seat, as `Shared::submit_for` does.
+    /// Makes a call of a session, for the task of this seat. If the session is confined since it had seen so many
+    /// records, it is settled first: the call is made in the very space that it was confined to, or in none. Even if
+    /// the call isn't made, the session may have seen more than before. A receive isn't made for a task that has gone:
+    /// a message that was sent after its end stays.
+    ///
+    /// If it may wait, a send that finds no room, or a receive that finds no message, is in line from then on, until a
+    /// call of the session is made again, or isn't made because its task has gone. A call whose turn comes is woken; a
+    /// turn that ends without a record is passed on.
+    #[tactic(auto, using(crate::proofs::Unconfined::lacked_still))]
     pub fn submit<P: Peer>(
         &mut self,
         session: Session<L>,
+        since: Option<u64>,
         call: &Call,
         seat: &Seat<P>,
         may_wait: bool,
     ) -> (Session<L>, Result<Ticket, NotMade>)
-        ensures given { IfOk result.1 (λ ticket. Did L.base session (called call.now ticket.answer) result.0
-            × (ticket.seen ≡ result.0.task.seen)) }
-        ensures err { OnErr result.1 (Did L.base session looked result.0) }
+        ensures made { IfOk result.1 (λ ticket. MadeSince L.base since session call.now ticket result.0) }
+        ensures lacked { OnErr result.1 (LackedSince L.base since session result.0) }
         ensures reads { KeepsRead session.past result.0.past }
     {
         // With the lock held, since whatever is sent now is sent after this check.
@@ -86,19 +103,19 @@ impl<'a, L: Founding> Turn<'a, L> {
             session.show_looked();
             return (session, Err(NotMade::Gone));
         }
-        let bell = if may_wait { Some(seat.bell()) } else { None };
-        let (session, made) = self.guarded.submit(session, call, bell);
-        self.keep_rung();
+        let worker = if may_wait { Some(seat.worker()) } else { None };
+        let (session, made) = self.guarded.submit(session, since, call, worker);
+        self.keep_due_worker();
         (session, made.map_err(NotMade::Fault))
     }
 
-    /// Keeps the bell of a call whose turn has come.
-    pub(crate) fn keep_rung(&mut self) {
-        let Some(bell) = self.guarded.take_rung() else {
+    /// Keeps the worker of a call whose turn has come.
+    pub(crate) fn keep_due_worker(&mut self) {
+        let Some(worker) = self.guarded.take_due_worker() else {
             return;
         };
-        if let Some(earlier) = self.rung.replace(bell) {
-            earlier.ring();
+        if let Some(earlier) = self.due_worker.replace(worker) {
+            earlier.wake();
         }
     }
 
@@ -108,14 +125,14 @@ impl<'a, L: Founding> Turn<'a, L> {
             guarded,
             before,
             had_due,
-            rung,
+            due_worker,
         } = self;
         let has_more = before < guarded.keeper.made();
         let news = News {
             has_more,
             are_over: had_due && !guarded.has_turns_due(),
             has_image_due: has_more && guarded.has_image_due(),
-            rung,
+            due_worker,
         };
         drop(guarded);
         news

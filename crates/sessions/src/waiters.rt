@@ -1,16 +1,18 @@
 //! The calls that wait, by the places where they may find something to do.
 
 use crate::lines::Lines;
-use crate::seat::Bell;
+use crate::seat::{Worker, again};
+use crate::turns_due::TurnsDue;
 use std::alloc::{AllocError, Global};
 use std::collections::BTreeMap;
+use std::sync::Arc;
 use waiting::{Places, is_place_of_port};
 
 /// A call that waits. Until its turn has come, it stands in line at each of its places.
 #[derive(Drop)]
 pub(crate) struct Waiter {
     places: Vec<u128>,
-    bell: Bell,
+    worker: Arc<Worker, Global>,
     is_send: bool,
 
     // When its wait began, as a count of waits; and whether its turn has come.
@@ -26,13 +28,14 @@ pub(crate) struct Waiters {
     by_session: BTreeMap<u32, Waiter>,
     sends: Lines,
     receives: Lines,
+    turns: TurnsDue,
 
     // How many waits began, and how many calls whose turn has come weren't made again since.
     begun: u64,
     due: u64,
 
-    // The bell of a call whose turn has come, to be rung after the lock is free.
-    rung: Option<Bell>,
+    // The worker of a call whose turn has come, to be woken after the lock is free.
+    due_worker: Option<Arc<Worker, Global>>,
 }
 
 impl Waiters {
@@ -43,10 +46,16 @@ impl Waiters {
             by_session: BTreeMap::new(alloc),
             sends: Lines::none(alloc),
             receives: Lines::none(alloc),
+            turns: TurnsDue::none(alloc),
             begun: 0,
             due: 0,
-            rung: None,
+            due_worker: None,
         }
+    }
+
+    /// What workers are to make again.
+    pub(crate) fn turns(&mut self) -> &mut TurnsDue {
+        &mut self.turns
     }
 
     /// Whether no call stands in line.
@@ -57,14 +66,6 @@ impl Waiters {
     /// Whether a turn has come that wasn't taken yet.
     pub(crate) fn are_due(&self) -> bool {
         self.due != 0
-    }
-
-    /// Whether a session's call waits, and its turn hasn't come.
-    pub(crate) fn is_in_line(&self, session: u32) -> bool {
-        match self.by_session.get(&session) {
-            Some(waiter) => !waiter.has_turn,
-            None => false,
-        }
     }
 
     /// Whether a session's call waits.
@@ -78,6 +79,7 @@ impl Waiters {
         if waiter.has_turn {
             self.due = self.due.saturating_sub(1);
         } else {
+            self.turns.leave(waiter.worker.number());
             leave(
                 lines_of(&mut self.sends, &mut self.receives, waiter.is_send),
                 &waiter,
@@ -92,12 +94,12 @@ impl Waiters {
         session: u32,
         is_send: bool,
         places: Vec<u128>,
-        bell: &Bell,
+        worker: &Arc<Worker, Global>,
     ) -> Result<(), AllocError> {
         let order = self.begun;
         let waiter = Waiter {
             places,
-            bell: bell.again()?,
+            worker: again(worker)?,
             is_send,
             order,
             has_turn: false,
@@ -121,10 +123,12 @@ impl Waiters {
 
     /// Puts a call in line. If an allocation fails, it doesn't wait here.
     fn put(&mut self, session: u32, waiter: Waiter) -> Result<(), AllocError> {
+        self.turns.await_turn(waiter.worker.number())?;
         let lines = lines_of(&mut self.sends, &mut self.receives, waiter.is_send);
         for place in waiter.places.iter() {
             if lines.add(*place, waiter.order, session).is_err() {
                 leave(lines, &waiter);
+                self.turns.leave(waiter.worker.number());
                 return Err(AllocError);
             }
         }
@@ -134,6 +138,7 @@ impl Waiters {
                 let (_, waiter) = failed.value;
                 let lines = lines_of(&mut self.sends, &mut self.receives, waiter.is_send);
                 leave(lines, &waiter);
+                self.turns.leave(waiter.worker.number());
                 Err(AllocError)
             }
         }
@@ -219,20 +224,20 @@ impl Waiters {
         self.step_out(session);
     }
 
-    /// The bell of a call whose turn has come, if it hasn't been rung yet.
-    pub(crate) fn take_rung(&mut self) -> Option<Bell> {
-        self.rung.take()
+    /// The worker of a call whose turn has come, if it hasn't been woken yet.
+    pub(crate) fn take_due_worker(&mut self) -> Option<Arc<Worker, Global>> {
+        self.due_worker.take()
     }
 
-    /// Rings that bell.
-    pub(crate) fn ring(&mut self) {
-        if let Some(bell) = self.rung.take() {
-            bell.ring();
+    /// Wakes that worker.
+    pub(crate) fn wake_worker(&mut self) {
+        if let Some(worker) = self.due_worker.take() {
+            worker.wake();
         }
     }
 
-    /// Gives a session's waiting call its turn, if it hadn't come before. The last bell of a step is rung after the
-    /// lock is free, earlier ones at once.
+    /// Gives a session's waiting call its turn, if it hadn't come before. The last worker of a step is woken after the
+    /// lock is free, earlier ones at once, and one that was woken for another call isn't woken again.
     fn mark(&mut self, session: u32) {
         let Some(waiter) = self.by_session.get_mut(&session) else {
             return;
@@ -242,18 +247,21 @@ impl Waiters {
         }
         waiter.has_turn = true;
         self.due = self.due.saturating_add(1);
-        let bell = waiter.bell.again();
-        self.ring();
-        match bell {
-            Ok(bell) => self.rung = Some(bell),
-            Err(_) => self.ring_at(session),
+        if !self.turns.give_turn(waiter.worker.number(), session) {
+            return;
+        }
+        let worker = again(&waiter.worker);
+        self.wake_worker();
+        match worker {
+            Ok(worker) => self.due_worker = Some(worker),
+            Err(_) => self.wake_at(session),
         }
     }
 
-    /// Rings a session's bell at once.
-    fn ring_at(&self, session: u32) {
+    /// Wakes a session's worker at once.
+    fn wake_at(&self, session: u32) {
         if let Some(waiter) = self.by_session.get(&session) {
-            waiter.bell.ring();
+            waiter.worker.wake();
         }
     }
 

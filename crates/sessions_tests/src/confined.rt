@@ -72,7 +72,7 @@ const NO_MACH_MSG: [u8; 20] = [
 ];
 
 /// Frames one after another, with their answers.
-static ROWS: [(Client, &[u8], &[u8]); 26] = [
+static ROWS: [(Client, &[u8], &[u8]); 29] = [
     (Client::First, &ALLOCATE, &FIRST_NAME),
     (Client::First, &CREATE, &CREATED),
     (Client::Other, &ATTACH_2, &ATTACHED),
@@ -101,6 +101,10 @@ static ROWS: [(Client, &[u8], &[u8]); 26] = [
     (Client::Other, &CONFINE, &CONFINED),
     (Client::Other, &ATTACH_1, &NO_ACCESS),
     (Client::Other, &DESTROY, &DESTROYED),
+    // The first that it asks for once there is a new space again is an attach to it.
+    (Client::First, &CREATE, &CREATED),
+    (Client::Other, &ATTACH_2, &NO_ATTACH),
+    (Client::Other, &NAMES, &NO_NAMES),
 ];
 
 /// The connections to a server.
@@ -112,7 +116,7 @@ struct Clients {
 }
 
 /// Three connections to a server that will soon be at a path, whose file is then removed.
-fn connect_clients<R: Net + Files + Clock>(rt: &R, path: &str) -> Option<Clients> {
+fn connect_all<R: Net + Files + Clock>(rt: &R, path: &str) -> Option<Clients> {
     let confined = connect(rt, path)?;
     let other = connect(rt, path)?;
     let first = connect(rt, path)?;
@@ -135,7 +139,7 @@ fn stream_of(clients: &Clients, client: Client) -> &UnixStream {
 
 /// The first row that is answered otherwise; as many as there are, if none is. `None` without connections.
 fn first_wrong<R: Net + Files + Clock>(rt: &R, path: &str) -> Option<usize> {
-    let clients = connect_clients(rt, path)?;
+    let clients = connect_all(rt, path)?;
     let mut right = 0usize;
     for (client, frame, wanted) in &ROWS {
         if !answers(stream_of(&clients, *client), frame, wanted) {

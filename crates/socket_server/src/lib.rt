@@ -1,11 +1,14 @@
-//! Many connections on one store: each is served in a thread of its own, as a session of the store's history.
+//! Many connections on one store: a thread for each processor serves them, each as a session of the store's history.
 #![tactic(auto)]
 
 mod bound;
+mod client;
 mod host;
 mod program;
+mod replies;
 mod threads;
-mod watch;
+mod timers;
+mod worker;
 
 pub use host::Host;
 pub use program::{serve_disk, serve_locked, serve_opened};

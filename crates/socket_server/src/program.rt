@@ -6,8 +6,7 @@ ghost use Rattle.wire.specs.Writing.{AppendsPart};
 
 use crate::bound::bind;
 use crate::host::Host;
-use crate::threads::{accept, start_loops};
-use crate::watch::start_watch;
+use crate::threads::{accept, start_loops, start_workers};
 use codes::MAX_RECORDS;
 use disk::Disk;
 use server::SocketEnd;
@@ -66,8 +65,8 @@ pub fn serve_disk<
     }
 }
 
-/// Binds the socket's path, says on the output that it is ready, and serves an opened store there, each connection in a
-/// thread of its own as a session of the store's history. It ends only after a fault.
+/// Binds the socket's path, says on the output that it is ready, and serves an opened store there, each connection as a
+/// session of the store's history. It ends only after a fault.
 pub fn serve_opened<
     D: Disk + Drop + Send + 'static,
     R: Host + Net<Listener = TcpListener, Stream = TcpStream>,
@@ -144,7 +143,7 @@ fn serve_history<
     serve_shared(rt, path.as_str(), listener, &shared, admissions, output)
 }
 
-/// Starts the loops and the watcher, says that connections are accepted, and serves them until the store fails.
+/// Starts the loops and the workers, says that connections are accepted, and serves them until the store fails.
 fn serve_shared<
     L: Founding + Send + Sync + 'static,
     D: Disk + Drop + Send + 'static,
@@ -163,13 +162,13 @@ fn serve_shared<
     if start_loops(rt, rt.alloc(), shared, path).is_err() {
         return SocketEnd::Socket;
     }
-    let Ok(watch) = start_watch(rt, shared) else {
+    let Ok(doors) = start_workers(rt, shared) else {
         return SocketEnd::Socket;
     };
     if report_ready(output).is_err() {
         return SocketEnd::Socket;
     }
-    SocketEnd::Store(accept(rt, listener, shared, &watch, admissions))
+    SocketEnd::Store(accept(rt, listener, shared, &doors, admissions))
 }
 
 /// Says that connections are accepted.

@@ -1,43 +1,70 @@
-//! The threads: one that stores, one that makes images, one for each connection.
+//! The threads: one that stores, one that makes images, some that serve connections.
 
 use crate::host::Host;
-use crate::watch::Watch;
+use crate::worker::{Arrival, Door, Tools, open_door, run};
 use codes::CHECKPOINT_RECORDS;
 use disk::Disk;
-use sessions::{Admission, Admissions, Founding, OpenGate, Shared};
-use socket_session::{Connection, SocketPeer, serve_connection};
-use std::alloc::{AllocGlobal, Global};
-use std::io::{self, BufReader, BufWriter};
-use std::net::{Net, Shutdown, TcpListener, TcpStream};
+use sessions::{Admissions, Founding, OpenGate, Shared};
+use std::alloc::Global;
+use std::net::{Net, TcpListener, TcpStream};
 use std::os::unix::net::{UnixListener, UnixStream};
-use std::sync::{Arc, Wait};
-use std::thread;
-use std::time::{Clock, Duration};
+use std::sync::Arc;
+use std::time::Duration;
+use std::{io, thread};
 use store_fault::StoreFault;
 
-/// How many seconds a peer may leave unread what it was sent before its connection is closed.
-const UNREAD_SECONDS: u64 = 5;
+/// The workers that connections are handed to.
+pub(crate) type Doors<L> = Vec<Arc<Door<L>, Global>>;
 
-/// How many bytes of a connection are read at once.
-const READ_BYTES: usize = 65_536;
+/// Starts a worker for each processor.
+pub(crate) fn start_workers<
+    L: Founding + Send + Sync + 'static,
+    D: Disk + Drop + Send + 'static,
+    R: Host + Net<Listener = TcpListener, Stream = TcpStream>,
+>(rt: R, shared: &Arc<Shared<L, D, OpenGate>, Global>) -> io::Result<Doors<L>> {
+    let count = thread::available_parallelism(&rt)?.get();
+    let mut doors = Vec::new(rt.alloc());
+    for _ in 0..count {
+        doors.push(start_worker(rt, shared)?)?;
+    }
+    Ok(doors)
+}
 
-/// Serves each connection in a thread of its own, until the store fails.
+/// Starts a worker.
+fn start_worker<
+    L: Founding + Send + Sync + 'static,
+    D: Disk + Drop + Send + 'static,
+    R: Host + Net<Listener = TcpListener, Stream = TcpStream>,
+>(rt: R, shared: &Arc<Shared<L, D, OpenGate>, Global>) -> io::Result<Arc<Door<L>, Global>> {
+    let tools = Tools::new(&rt)?;
+    let door = open_door(&rt, shared, &tools)?;
+    let mine = Arc::try_clone(shared)?;
+    let same = Arc::try_clone(&door)?;
+    thread::spawn(&rt, move || run(&rt, &*mine, &*same, tools))?;
+    Ok(door)
+}
+
+/// Hands each connection to a worker, until the store fails.
 pub(crate) fn accept<L: Founding + Send + Sync + 'static, D: Disk + Drop + Send + 'static, R: Host>(
     rt: R,
     listener: &UnixListener,
     shared: &Arc<Shared<L, D, OpenGate>, Global>,
-    watch: &Arc<Watch, Global>,
+    doors: &Doors<L>,
     admissions: Admissions<L>,
 ) -> StoreFault {
     let mut admissions = admissions;
+    let mut next = 0;
     for stream in listener.incoming() {
         if let Some(fault) = shared.fault(&rt) {
             return fault;
         }
         match stream {
-            Ok(stream) => {
+            Ok(socket) => {
                 if let Some(admission) = admissions.next() {
-                    begin(rt, stream, shared, watch, admission);
+                    next = after(next, doors.len());
+                    if let Some(door) = doors.get(next) {
+                        door.hand_in(&rt, Arrival { socket, admission });
+                    }
                 }
             }
             // No descriptor is left: wait for one.
@@ -47,56 +74,10 @@ pub(crate) fn accept<L: Founding + Send + Sync + 'static, D: Disk + Drop + Send 
     StoreFault::Failed
 }
 
-/// Begins to serve a connection. If there is no session, thread or memory for it, it is closed.
-fn begin<L: Founding + Send + Sync + 'static, D: Disk + Drop + Send + 'static, R: Host>(
-    rt: R,
-    stream: UnixStream,
-    shared: &Arc<Shared<L, D, OpenGate>, Global>,
-    watch: &Arc<Watch, Global>,
-    admission: Admission<L>,
-) {
-    let (Ok(mine), Ok(watch)) = (Arc::try_clone(shared), Arc::try_clone(watch)) else {
-        return;
-    };
-    let _ = thread::spawn(&rt, move || {
-        let _ = serve_stream(&rt, &stream, &mine, &watch, admission);
-        let _ = stream.shutdown(Shutdown::Both);
-    });
-}
-
-/// A connection that was accepted, and who watches its other side.
-#[derive(Drop)]
-struct Accepted<'a> {
-    stream: &'a UnixStream,
-    watch: &'a Watch,
-}
-
-impl<'a> Connection for Accepted<'a> {
-    type Peer = SocketPeer<'a>;
-
-    fn peer(&self, session: u32) -> SocketPeer<'a> {
-        SocketPeer::new(self.stream, self.watch.add(self.stream, session))
-    }
-}
-
-/// Serves a connection to its end. It has no part in what is called or written: that is `serve_connection`'s.
-fn serve_stream<L: Founding, D: Disk, R: Wait + Clock + AllocGlobal>(
-    rt: &R,
-    stream: &UnixStream,
-    shared: &Shared<L, D, OpenGate>,
-    watch: &Watch,
-    admission: Admission<L>,
-) -> io::Result<()> {
-    stream.set_write_timeout(Some(Duration::from_secs(UNREAD_SECONDS)))?;
-    let mut reader = BufReader::with_capacity(rt.alloc(), READ_BYTES, stream)?;
-    let mut writer = BufWriter::new(rt.alloc(), stream)?;
-    let accepted = Accepted { stream, watch };
-    let served = serve_connection(rt, shared, admission, &accepted, &mut reader, &mut writer);
-    if let Some(Err(_)) = served {
-        // What the writer still holds then fails at once when it is dropped, and isn't waited for.
-        return stream.shutdown(Shutdown::Both);
-    }
-    Ok(())
+/// The number after this one of so many, or the first.
+fn after(number: usize, count: usize) -> usize {
+    let next = number.saturating_add(1);
+    if next < count { next } else { 0 }
 }
 
 /// Starts the loops that store and make images. Returns whether both run.

@@ -1,3 +1,4 @@
-mod Serves
+mod Begun
 mod Showing
 mod Staying
+mod Unconfined

@@ -1,11 +1,15 @@
--- A connection served as one session: which calls it makes, and what it writes.
-use Rattle.std.specs.Prelude.{◌≡◌, ℕ, false, List, [], Option, None, Some, Result}
+-- A connection served as one session: how its conversation begins.
+use Rattle.std.specs.Prelude.{◌≡◌, [], None, Some}
+use Rattle.std.specs.declared.io.traits.Read as read
+use Rattle.std.specs.declared.io.traits.Write as write
 use Rattle.codes.specs.declared.name.TheConstants.{FIRST_SPACE}
-use Rattle.frame_service.specs.Asking.{EndsAsked}
-use Rattle.frame_service.specs.declared.service.ServeFault.{ServeFault}
-use Rattle.ipc_model.specs.state.State.{State}
+use Rattle.frame_service.specs.Conversing.{Begins}
+use Rattle.frame_service.specs.declared.asking.Asker as asker
+use Rattle.frame_service.specs.declared.conversation.Conversation.{Conversation}
 use Rattle.kernel_keeper.specs.Tokens.{SessionValue}
-use Rattle.socket_session.specs.Connecting.{AcknowledgesOne, ConnectedValue, LacksOne, MakesOne, answer_of}
+use Rattle.socket_buffers.specs.Boxes.{InboxValue, OutboxValue}
+use Rattle.socket_buffers.specs.declared.inbox.Source.TheVariants.{Open}
+use Rattle.socket_session.specs.Connecting.{AskedValue, ConnectedValue}
 
 -- a session that has made no call
 pub record IsNewSession (session : SessionValue) : Type 0 where
@@ -16,18 +20,19 @@ pub record IsNewSession (session : SessionValue) : Type 0 where
 
 -- the caller of a connection that isn't confined yet
 abbrev pub unconfined : SessionValue → ConnectedValue
-unconfined session = record { session = Some session; confined = false }
+unconfined session = record { session = Some session; since = None }
 
-module _ (base : State) (input before : List ℕ) (left written : Option (List ℕ)) where
-  -- All calls of one new session are those of the frames that were read, and all that was written are their replies.
-  pub record ServesNew (result : Result (Unit {0}) ServeFault) : Type 0 where
-    pub session : SessionValue
-    pub last : ConnectedValue
-    pub new : IsNewSession session
-    pub ends : EndsAsked answer_of (MakesOne base) (LacksOne base) (AcknowledgesOne base)
-        (λ old asked fault after. after ≡ old) (unconfined session) [] last input before left written result
+-- nothing came yet, and nothing is to go out
+abbrev pub from_stream : {S : Type 0} → S → InboxValue S
+from_stream stream = record { stream = stream; bytes = []; source = Open }
 
-  -- where no session was left for it, nothing was read or written
-  abbrev pub EndsConnection : Option (Result (Unit {0}) ServeFault) → Type 0
-  EndsConnection None = (left ≡ Some input) × (written ≡ Some before)
-  EndsConnection (Some result) = ServesNew result
+abbrev pub to_stream : {W : Type 0} → W → OutboxValue W
+to_stream stream = record { stream = stream; bytes = [] }
+
+module _ {S W Turn : Type 0} {reading : read.Ghosts S} {writing : write.Ghosts W}
+    {asking : asker.Ghosts ConnectedValue AskedValue Turn} where
+  -- A conversation that begins with one new session, over these streams.
+  abbrev pub BeginsNew : S → W → Conversation S W ConnectedValue AskedValue Turn reading writing asking → Type 0
+  BeginsNew reader writer talk =
+      (session : SessionValue) × IsNewSession session
+      × Begins (unconfined session) (from_stream reader) (to_stream writer) talk

@@ -41,6 +41,13 @@ impl Asked {
         (self.ticket, self.shown)
     }
 
+    /// How many records its reply saw.
+    pub fn seen(&self) -> u64
+        ensures { result ≡ self.now.ticket.seen }
+    {
+        self.ticket.seen()
+    }
+
     /// Whether what was asked was done, which is code 0.
     #[tactic(auto, using(crate::proofs::Showing::attach_is_not_done, crate::proofs::Showing::confine_is_done))]
     pub(crate) fn is_done(&self) -> bool

@@ -1,4 +1,4 @@
-ghost use Rattle.std.specs.Prelude.{◌≡◌, ◌≤◌, Some, false, length, IfOk, IfErr, IfSome, IfNone};
+ghost use Rattle.std.specs.Prelude.{◌≡◌, ◌≤◌, Some, length, IfOk, IfErr, IfSome, IfNone};
 ghost use Rattle.calls.specs.declared.request.Request.{Request};
 ghost use Rattle.codes.specs.declared.limits.TheConstants.{MAX_FRAME_CONTENT};
 ghost use Rattle.socket_session.specs.Connecting.{AcknowledgesOne, LacksOne, MakesOne, answer_of};
@@ -8,17 +8,16 @@ ghost use Rattle.ipc_model.specs.encodings.Encodings.{reply_encoding};
 ghost use Rattle.frame_service.specs.Asking.{timed_out};
 
 use crate::asked::Asked;
+use crate::held::Held;
 use crate::making::{confine, make};
-use crate::patience::Patience;
 use calls::Request;
 use disk::Disk;
 use frame_service::Asker;
 use ipc_model::{Call, Reply};
-use sessions::{Founding, Peer, Seat, Session, Shared, Turn, Waited};
+use sessions::{Founding, Peer, Seat, Session, Shared, Turn};
 use std::alloc::Global;
 use std::marker::Model;
 use std::sync::Wait;
-use std::time::Clock;
 use store_fault::StoreFault;
 
 /// The caller of a connection among others: a session of a shared store.
@@ -32,10 +31,10 @@ pub struct Connected<'a, L: Founding, D: Disk, G, R, P> {
     // `None` while a call is being made.
     session: Option<Session<L>>,
 
-    // Where it is confined to its session's space, how many records had been made then.
+    // Where it is confined to its session's space, how many records the session had seen then.
     since: Option<u64>,
 
-    // While several calls are made, from the second on.
+    // While it makes calls in a turn.
     turn: Option<Turn<'a, L>>,
 }
 
@@ -47,7 +46,7 @@ impl<'a, L: Founding, D: Disk, G, R, P> Model for Connected<'a, L, D, G, R, P> {
 
     ghost coded = { connected_code };
 
-    ghost view = { λ c. record { session = c.session; confined = is_some c.since } };
+    ghost view = { λ c. record { session = c.session; since = c.since } };
 
     ghost invariant = { λ c. is_some c.session ≡ true };
 }
@@ -74,37 +73,27 @@ impl<'a, L: Founding, D: Disk, G, R, P> Connected<'a, L, D, G, R, P> {
             turn: None,
         }
     }
-}
 
-impl<'a, L: Founding, D: Disk, G: Drop, R: Wait + Clock, P: Peer> Connected<'a, L, D, G, R, P> {
-    /// Waits as long as one wait may take. Returns whether the call's turn has come, or `None` if its task waits on.
-    /// Whether the task has gone is checked after the call's first attempt; if it goes later and is watched, its turn
-    /// comes at once.
-    fn wait_once(&self, session: &Session<L>, patience: &Patience) -> Option<bool> {
-        if self.seat.peer().is_gone() {
-            return Some(false);
-        }
-        let Some(left) = patience.left(self.rt) else {
-            return Some(false);
-        };
-        let most = if self.seat.peer().is_watched() {
-            left.time()
-        } else {
-            Some(left.until_look())
-        };
-        match self.shared.wait(self.rt, session, &self.seat, most) {
-            Waited::Turn => Some(true),
-            Waited::Ended => Some(false),
-            Waited::TimeOver => None,
+    /// The task.
+    pub fn peer(&self) -> &P {
+        self.seat.peer()
+    }
+
+    /// The number of its session.
+    pub fn number(&self) -> u32
+        ensures { IfSome self.now.session (λ session. result ≡ session.number) }
+    {
+        match &self.session {
+            Some(session) => session.number(),
+            None => unreachable!(),
         }
     }
 }
 
-impl<'a, L: Founding, D: Disk, G: Drop, R: Wait + Clock, P: Peer> Asker
-    for Connected<'a, L, D, G, R, P> {
+impl<'a, L: Founding, D: Disk, G: Drop, R: Wait, P: Peer> Asker for Connected<'a, L, D, G, R, P> {
     type Ticket = Asked;
 
-    type Patience = Patience;
+    type Turn = Held<'a, L, D, G, R>;
 
     ghost answer = { answer_of };
 
@@ -166,22 +155,28 @@ impl<'a, L: Founding, D: Disk, G: Drop, R: Wait + Clock, P: Peer> Asker
         made
     }
 
-    /// Takes the kernel's lock for them, if it isn't held.
-    fn begin_turn(&mut self)
+    fn join_turn(&mut self, turn: Held<'a, L, D, G, R>)
         ensures { self.new ≡ self.old }
     {
-        if self.turn.is_none() {
-            self.turn = Some(self.shared.begin_turn(self.rt));
-        }
+        let Held {
+            rt: _,
+            shared: _,
+            turn,
+        } = turn;
+        self.turn = Some(turn);
     }
 
-    /// Frees the kernel's lock.
-    fn end_turn(&mut self)
+    fn leave_turn(&mut self) -> Option<Held<'a, L, D, G, R>>
         ensures { self.new ≡ self.old }
     {
-        if let Some(turn) = self.turn.take() {
-            self.shared.end_turn(turn);
-        }
+        let Some(turn) = self.turn.take() else {
+            return None;
+        };
+        Some(Held {
+            rt: self.rt,
+            shared: self.shared,
+            turn,
+        })
     }
 
     fn is_done(&self, asked: &Asked) -> bool
@@ -196,7 +191,11 @@ impl<'a, L: Founding, D: Disk, G: Drop, R: Wait + Clock, P: Peer> Asker
         asked.is_timed_out()
     }
 
-    /// Waits until all that the ticket's call saw is stored.
+    fn is_due(&self, asked: &Asked) -> bool {
+        self.shared.is_due(self.rt, asked.seen())
+    }
+
+    /// Waits until all that the ticket's call saw is stored, where that isn't known (`is_due`).
     fn redeem(&mut self, asked: Asked) -> Result<Reply, StoreFault>
         ensures reply { IfOk result (λ reply. reply ≡ answer_of asked) }
         ensures acknowledges { IfOk result (λ reply. AcknowledgesOne L.base self.old asked self.new) }
@@ -213,22 +212,5 @@ impl<'a, L: Founding, D: Disk, G: Drop, R: Wait + Clock, P: Peer> Asker
             Ok(reply) => Ok(shown.reply(self.alloc, reply)),
             Err(fault) => Err(fault),
         }
-    }
-
-    fn patience(&self, bound: Option<u32>) -> Patience {
-        Patience::new(self.rt, bound)
-    }
-
-    /// Waits until the call's turn has come. It doesn't wait on for a task that has gone.
-    fn wait(&self, patience: &Patience) -> bool {
-        let Some(session) = &self.session else {
-            return false;
-        };
-        for _ in self.rt.forever() {
-            if let Some(is_more) = self.wait_once(session, patience) {
-                return is_more;
-            }
-        }
-        false
     }
 }

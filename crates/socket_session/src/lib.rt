@@ -1,16 +1,17 @@
-//! A connection among others on one store. Its calls are those of a session of the store's history, and one that finds
-//! nothing to do waits until more was recorded, as long as it may and its task is there.
+//! A connection among others on one store. Its calls are those of a session of the store's history.
 #![tactic(auto)]
 
 mod asked;
+mod beginning;
 mod connected;
+mod held;
 mod laws;
 mod making;
-mod patience;
-mod serving;
+mod stream;
 
 pub use asked::Asked;
+pub use beginning::{Talk, begin};
 pub use connected::Connected;
+pub use held::Held;
 pub use laws::{answer_says_confined, confined_connections_stay};
-pub use patience::{Patience, SocketPeer};
-pub use serving::{Connection, serve_connection};
+pub use stream::Stream;

@@ -1,11 +1,9 @@
 //! How the calls of a connection are made: each in a turn, which is held or begun for it.
-ghost use Rattle.std.specs.Prelude.{◌≡◌, ◌||◌, is_some, IfNone, IfSome};
+ghost use Rattle.std.specs.Prelude.{◌≡◌, Some, is_some, IfNone, IfSome, if◌then◌else◌};
 ghost use Rattle.frame_service.specs.Confining.{attach_to, made_of, shown_for};
 ghost use Rattle.frame_service.specs.declared.confining.Shown.TheVariants.{ToConfine};
 ghost use Rattle.ipc_model.specs.calls.Step.{succeeded};
-ghost use Rattle.ipc_model.specs.history.History.{called, looked};
-ghost use Rattle.kernel_keeper.specs.Tokens.{Did};
-ghost use Rattle.socket_session.specs.Connecting.{LacksIn, MakesIn, Settles};
+ghost use Rattle.kernel_keeper.specs.Destroying.{LackedSince, MadeSince};
 
 use crate::asked::Asked;
 use disk::Disk;
@@ -15,7 +13,8 @@ use sessions::{Founding, Peer, Seat, Session, Shared, Turn};
 use std::sync::Wait;
 use system::Ticket;
 
-/// Makes a call of a session, which is confined if it has been since so many records were made.
+/// Makes a call of a session. If it is confined since it had seen so many records, an attach isn't made: it only asks
+/// whether its own space is there.
 pub(crate) fn make<'a, L: Founding, D: Disk, G: Drop, R: Wait, P: Peer>(
     rt: &R,
     shared: &'a Shared<L, D, G>,
@@ -26,10 +25,10 @@ pub(crate) fn make<'a, L: Founding, D: Disk, G: Drop, R: Wait, P: Peer>(
     call: &Call,
     may_wait: bool,
 ) -> (Session<L>, Option<Asked>)
-    ensures made { IfSome result.1 (λ asked. MakesIn L.base (is_some since) session
-        (λ space. made_of (is_some since) space call.now) asked.ticket result.0
+    ensures made { IfSome result.1 (λ asked. MadeSince L.base since session
+        (made_of (is_some since) session.task.space call.now) asked.ticket result.0
         × (asked.shown ≡ shown_for (is_some since) call.now)) }
-    ensures lacks { IfNone result.1 (LacksIn L.base (is_some since) session result.0) }
+    ensures lacks { IfNone result.1 (LackedSince L.base since session result.0) }
 {
     match turn {
         Some(turn) => make_in(turn, seat, since, session, call, may_wait),
@@ -51,49 +50,36 @@ fn make_in<L: Founding, P: Peer>(
     call: &Call,
     may_wait: bool,
 ) -> (Session<L>, Option<Asked>)
-    ensures made { IfSome result.1 (λ asked. MakesIn L.base (is_some since) session
-        (λ space. made_of (is_some since) space call.now) asked.ticket result.0
+    ensures made { IfSome result.1 (λ asked. MadeSince L.base since session
+        (made_of (is_some since) session.task.space call.now) asked.ticket result.0
         × (asked.shown ≡ shown_for (is_some since) call.now)) }
-    ensures lacks { IfNone result.1 (LacksIn L.base (is_some since) session result.0) }
+    ensures lacks { IfNone result.1 (LackedSince L.base since session result.0) }
 {
-    let is_confined = since.is_some();
-    let shown = Shown::for_call(is_confined, call);
-    let session = settle(turn, session, since);
-    let (session, made) = submit(turn, seat, is_confined, session, call, may_wait);
+    let shown = Shown::for_call(since.is_some(), call);
+    let (session, made) = submit(turn, seat, since, session, call, may_wait);
     match made {
         Some(ticket) => (session, Some(Asked::new(ticket, shown))),
         None => (session, None),
     }
 }
 
-/// The session with which a call is made: detached, if it is confined and its space was destroyed.
-fn settle<L: Founding>(turn: &Turn<'_, L>, session: Session<L>, since: Option<u64>) -> Session<L>
-    ensures { Settles L.base (is_some since) session result }
-{
-    match since {
-        Some(since) => turn.settle(session, since),
-        None => session,
-    }
-}
-
-/// Makes a call of a settled session, or for an attach that is confined the one to its own space.
+/// Makes a call of a session, or for an attach that is confined the one to its own space.
 fn submit<L: Founding, P: Peer>(
     turn: &mut Turn<'_, L>,
     seat: &Seat<P>,
-    is_confined: bool,
+    since: Option<u64>,
     session: Session<L>,
     call: &Call,
     may_wait: bool,
 ) -> (Session<L>, Option<Ticket>)
-    ensures made { IfSome result.1 (λ ticket.
-        Did L.base session (called (made_of is_confined session.task.space call.now) ticket.answer) result.0
-        × (ticket.seen ≡ result.0.task.seen)) }
-    ensures lacks { IfNone result.1 (Did L.base session looked result.0) }
+    ensures made { IfSome result.1 (λ ticket. MadeSince L.base since session
+        (made_of (is_some since) session.task.space call.now) ticket result.0) }
+    ensures lacks { IfNone result.1 (LackedSince L.base since session result.0) }
 {
-    if is_kept(is_confined, call) {
-        return attach_again(turn, seat, session);
+    if is_kept(since.is_some(), call) {
+        return attach_again(turn, seat, since, session);
     }
-    let (session, made) = turn.submit(session, call, seat, may_wait);
+    let (session, made) = turn.submit(session, since, call, seat, may_wait);
     (session, made.ok())
 }
 
@@ -101,19 +87,20 @@ fn submit<L: Founding, P: Peer>(
 fn attach_again<L: Founding, P: Peer>(
     turn: &mut Turn<'_, L>,
     seat: &Seat<P>,
+    since: Option<u64>,
     session: Session<L>,
 ) -> (Session<L>, Option<Ticket>)
-    ensures made { IfSome result.1 (λ ticket.
-        Did L.base session (called (attach_to session.task.space) ticket.answer) result.0
-        × (ticket.seen ≡ result.0.task.seen)) }
-    ensures lacks { IfNone result.1 (Did L.base session looked result.0) }
+    ensures made { IfSome result.1 (λ ticket. MadeSince L.base since session (attach_to session.task.space) ticket
+        result.0) }
+    ensures lacks { IfNone result.1 (LackedSince L.base since session result.0) }
 {
     let own = attach_to(session.space());
-    let (session, made) = turn.submit(session, &own, seat, false);
+    let (session, made) = turn.submit(session, since, &own, seat, false);
     (session, made.ok())
 }
 
-/// Confines a session to the space that it is in, if that is there. Returns since when it is confined.
+/// Confines a session to the space that it is in, if that is there. Returns how many records it had seen when it was
+/// confined.
 pub(crate) fn confine<'a, L: Founding, D: Disk, G: Drop, R: Wait, P: Peer>(
     rt: &R,
     shared: &'a Shared<L, D, G>,
@@ -122,9 +109,10 @@ pub(crate) fn confine<'a, L: Founding, D: Disk, G: Drop, R: Wait, P: Peer>(
     since: Option<u64>,
     session: Session<L>,
 ) -> (Session<L>, Option<u64>, Option<Asked>)
-    ensures made { IfSome result.2 (λ asked. MakesIn L.base (is_some since) session attach_to asked.ticket result.0
-        × (asked.shown ≡ ToConfine) × (is_some result.1 ≡ (succeeded asked.ticket.answer || is_some since))) }
-    ensures lacks { IfNone result.2 (LacksIn L.base (is_some since) session result.0 × (result.1 ≡ since)) }
+    ensures made { IfSome result.2 (λ asked. MadeSince L.base since session (attach_to session.task.space) asked.ticket
+        result.0 × (asked.shown ≡ ToConfine)
+        × (result.1 ≡ (if succeeded asked.ticket.answer then Some result.0.task.seen else since))) }
+    ensures lacks { IfNone result.2 (LackedSince L.base since session result.0 × (result.1 ≡ since)) }
 {
     match turn {
         Some(turn) => confine_in(turn, seat, since, session),
@@ -144,27 +132,28 @@ fn confine_in<L: Founding, P: Peer>(
     since: Option<u64>,
     session: Session<L>,
 ) -> (Session<L>, Option<u64>, Option<Asked>)
-    ensures made { IfSome result.2 (λ asked. MakesIn L.base (is_some since) session attach_to asked.ticket result.0
-        × (asked.shown ≡ ToConfine) × (is_some result.1 ≡ (succeeded asked.ticket.answer || is_some since))) }
-    ensures lacks { IfNone result.2 (LacksIn L.base (is_some since) session result.0 × (result.1 ≡ since)) }
+    ensures made { IfSome result.2 (λ asked. MadeSince L.base since session (attach_to session.task.space) asked.ticket
+        result.0 × (asked.shown ≡ ToConfine)
+        × (result.1 ≡ (if succeeded asked.ticket.answer then Some result.0.task.seen else since))) }
+    ensures lacks { IfNone result.2 (LackedSince L.base since session result.0 × (result.1 ≡ since)) }
 {
-    let session = settle(turn, session, since);
-    let (session, made) = attach_again(turn, seat, session);
+    let (session, made) = attach_again(turn, seat, since, session);
     match made {
         Some(ticket) => {
-            let since = since_after(turn.made(), &ticket, since);
+            let since = since_after(session.seen() as u64, &ticket, since);
             (session, since, Some(Asked::new(ticket, Shown::ToConfine)))
         }
         None => (session, since, None),
     }
 }
 
-/// Since when a session is confined, after the attach that asked whether its space is there.
-fn since_after(made: u64, ticket: &Ticket, since: Option<u64>) -> Option<u64>
-    ensures { is_some result ≡ (succeeded ticket.now.answer || is_some since) }
+/// Since how many records a session is confined that has seen so many, after the attach that asked whether its space is
+/// there.
+fn since_after(seen: u64, ticket: &Ticket, since: Option<u64>) -> Option<u64>
+    ensures { result ≡ (if succeeded ticket.now.answer then Some seen else since) }
 {
     if ticket.is_success() {
-        Some(made)
+        Some(seen)
     } else {
         since
     }

@@ -37,13 +37,13 @@ returns-then-waits-clause-took g c = one_known _ _ (λ input known.
     took_some g.A.Asker.answer g.A.Asker.makes g.A.Asker.lacks g.A.Asker.acknowledges g.A.Asker.fails c.args.asker.now _
     _ input _ _
     (one_taken g.A.Asker.answer g.A.Asker.makes g.A.Asker.lacks g.A.Asker.acknowledges g.A.Asker.fails c.args.asker.now
-    c.loop.asker c.take_next-pending.new.asker c.loop.all_pending.items c.push_back_reserved.new.self.items
-    c.take_next-pending.result input c.in-Some.request.content front.0 _ _ c.loop.counter so_far front.1
-    front.2 c.take_next-pending.ensures c.push_back_reserved.ensures.items)
+    c.loop.asker c.take_frame-pending.new.asker c.loop.all_pending.items c.push_back_reserved.new.self.items
+    c.take_frame-pending.result input c.in-Some.request.content front.0 _ _ c.loop.counter so_far front.1
+    front.2 c.take_frame-pending.ensures c.push_back_reserved.ensures.items)
     (omega arith))
 
-pub returns-then-not-has_frame-clause-took : goal.returns-then-not-has_frame-clause-took
-returns-then-not-has_frame-clause-took g c = one_known _ _ (λ input known.
+pub returns-then-not-holds_frame-clause-took : goal.returns-then-not-holds_frame-clause-took
+returns-then-not-holds_frame-clause-took g c = one_known _ _ (λ input known.
     let so_far = c.loop.invariant.taking input known in
     let front =
     frame_read _ _ so_far.rest c.in-Some.request.content so_far.left_is
@@ -51,9 +51,9 @@ returns-then-not-has_frame-clause-took g c = one_known _ _ (λ input known.
     took_some g.A.Asker.answer g.A.Asker.makes g.A.Asker.lacks g.A.Asker.acknowledges g.A.Asker.fails c.args.asker.now _
     _ input _ _
     (one_taken g.A.Asker.answer g.A.Asker.makes g.A.Asker.lacks g.A.Asker.acknowledges g.A.Asker.fails c.args.asker.now
-    c.loop.asker c.take_next-pending.new.asker c.loop.all_pending.items c.push_back_reserved.new.self.items
-    c.take_next-pending.result input c.in-Some.request.content front.0 _ _ c.loop.counter so_far front.1
-    front.2 c.take_next-pending.ensures c.push_back_reserved.ensures.items)
+    c.loop.asker c.take_frame-pending.new.asker c.loop.all_pending.items c.push_back_reserved.new.self.items
+    c.take_frame-pending.result input c.in-Some.request.content front.0 _ _ c.loop.counter so_far front.1
+    front.2 c.take_frame-pending.ensures c.push_back_reserved.ensures.items)
     (omega arith))
 
 pub loop-preserved : goal.loop-preserved
@@ -66,9 +66,9 @@ loop-preserved g c = record {
       frame_read _ _ so_far.rest c.in-Some.request.content so_far.left_is
       (rw c.in-Some.is at c.in_ok-request.ensures.found) in
       one_taken g.A.Asker.answer g.A.Asker.makes g.A.Asker.lacks g.A.Asker.acknowledges g.A.Asker.fails c.args.asker.now
-      c.loop.asker c.take_next-pending.new.asker c.loop.all_pending.items c.push_back_reserved.new.self.items
-      c.take_next-pending.result input c.in-Some.request.content front.0 _ _ c.loop.counter so_far front.1
-      front.2 c.take_next-pending.ensures c.push_back_reserved.ensures.items;
+      c.loop.asker c.take_frame-pending.new.asker c.loop.all_pending.items c.push_back_reserved.new.self.items
+      c.take_frame-pending.result input c.in-Some.request.content front.0 _ _ c.loop.counter so_far front.1
+      front.2 c.take_frame-pending.ensures c.push_back_reserved.ensures.items;
 }
 
 pub returns-clause-took : goal.returns-clause-took

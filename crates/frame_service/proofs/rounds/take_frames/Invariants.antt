@@ -1,5 +1,6 @@
 use Rattle.std.proofs.Common.{◌≡◌, ◌≤◌, ℕ, List, Some}
 use Rattle.std.specs.VecDeque.{deque_capacity, deque_len}
+use Rattle.socket_buffers.specs.Boxes.{inbox_remaining}
 use Rattle.frame_service.specs.declared.rounds.TheConstants.{MOST_PENDING_FRAMES}
 use Rattle.frame_service.proofs.Acting.{Taking}
 use Rattle.frame_service.proofs.rounds.take_frames.Given as goal
@@ -9,7 +10,7 @@ abbrev pub invariant-loop : goal.invariant-loop
 invariant-loop g l = record {
   room : MOST_PENDING_FRAMES ≤ deque_capacity l.all_pending;
   counted : deque_len l.all_pending ≡ l.counter;
-  taking : (input : List ℕ) → g.R.Read.remaining l.fn.reader ≡ Some input
+  taking : (input : List ℕ) → inbox_remaining g.S.Read.remaining l.fn.inbox ≡ Some input
       → Taking g.A.Asker.answer g.A.Asker.makes g.A.Asker.lacks g.A.Asker.acknowledges g.A.Asker.fails l.fn.asker
-      l.asker l.all_pending.items input (g.R.Read.remaining l.reader) l.counter;
+      l.asker l.all_pending.items input (inbox_remaining g.S.Read.remaining l.inbox) l.counter;
 }

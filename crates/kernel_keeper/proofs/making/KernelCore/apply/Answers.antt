@@ -3,6 +3,7 @@ use Rattle.history.specs.declared.entry.Entry.{Entry}
 use Rattle.history.specs.Pasts.{PastValue}
 use Rattle.kernel_keeper.specs.Keeping.{KernelCoreValue, IsApart, IsKernelCore}
 use Rattle.kernel_keeper.proofs.Cores.{after_call, applied_call, handed_after, kept_some, unapplied_call}
+use Rattle.kernel_keeper.proofs.Destroyed.{destroys_known, level_ok}
 use Rattle.system.specs.Halves.{IsFullFor}
 use Rattle.std.specs.Prelude.{IfOk}
 use Rattle.waiting.specs.Places.{names}
@@ -62,3 +63,18 @@ returns-clause-wakes g c =
     let a = c.apply_with_witness-kept in
     subst (λ (v : KernelCoreValue). IfOk a.result.2
     (λ ticket. Wakes v.half.kernel.ipc a.new.half.kernel.ipc (names a.new.places))) c.self.view_is a.ensures.wakes
+
+pub returns-clause-level : goal.returns-clause-level
+returns-clause-level g c =
+    let a = c.apply_with_witness-kept in
+    level_ok a.result.2 a.result.0.entries a.result.1.entries a.ensures.seen
+
+pub returns-clause-known : goal.returns-clause-known
+returns-clause-known g c =
+    let s = c.self.inside in
+    let core =
+    kept_some (λ (l : List Entry). IsKernelCore g.L.Founding.base s.half l s.opened s.earlier s.taken s.older)
+    s.past c.in-Some.kept (sym c.take.ensures.value ∙ c.in-Some.is) c.self.invariant.2 in
+    let a = c.apply_with_witness-kept in
+    destroys_known g.L.Founding.base s.half a.new.half c.in-Some.kept.entries s.opened s.earlier s.taken s.older
+    c.args.space c.args.call.now core a.result.2 a.ensures.given

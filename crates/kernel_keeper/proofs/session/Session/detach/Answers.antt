@@ -1,4 +1,4 @@
-use Rattle.std.proofs.Common.{subst}
+use Rattle.std.proofs.Common.{ap, subst}
 use Rattle.ipc_model.specs.history.History.{detached}
 use Rattle.kernel_keeper.specs.Tokens.{Did, SessionValue, session_of}
 use Rattle.kernel_keeper.proofs.Histories.{detaches, detaching, did_detach}
@@ -22,3 +22,6 @@ returns-clause-detached g c =
     own_state.places.numbers past in
     subst (λ (s : SessionValue). Did g.L.Founding.base s detached (detaching old)) c.session.view_is
     (did_detach g.L.Founding.base old c.session.invariant.0.seen)
+
+pub returns-clause-past : goal.returns-clause-past
+returns-clause-past g c = ap (λ (s : SessionValue). s.past) c.session.view_is

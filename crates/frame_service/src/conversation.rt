@@ -1,0 +1,29 @@
+ghost use Rattle.std.specs.Prelude.{◌≤◌};
+ghost use Rattle.std.specs.VecDeque.{deque_capacity};
+ghost use Rattle.frame_service.specs.declared.rounds.TheConstants.{MOST_PENDING_FRAMES};
+
+use crate::asking::{Asker, PendingFrame};
+use socket_buffers::{Inbox, Outbox};
+use std::collections::VecDeque;
+use std::io::{Read, Write};
+use wire::WireFault;
+
+/// A connection: what comes in, the caller that makes its calls, its frames in hand, and what goes out. Nothing here
+/// waits; whoever has it says when it reads, takes frames, makes a call again and answers.
+///
+/// Whatever steps are taken, in whatever order, each keeps this (`GoesOn`): the bytes that were read are whole frames,
+/// each of which was taken in hand in order, and an unread rest; and the bytes that are written are one whole reply to
+/// each of the first of these frames, in order. A step that fails, and an input that is over, ends the conversation
+/// (`EndsAsked`).
+#[derive(Drop)]
+pub struct Conversation<S: Read, W: Write, A: Asker> {
+    pub(crate) inbox: Inbox<S>,
+    pub(crate) outbox: Outbox<W>,
+    pub(crate) asker: A,
+    pub(crate) pending: VecDeque<PendingFrame<A::Ticket>>,
+
+    // How the input ended, once it did.
+    pub(crate) input_end: Option<Result<(), WireFault>>,
+
+    ghost room: { MOST_PENDING_FRAMES ≤ deque_capacity pending },
+}

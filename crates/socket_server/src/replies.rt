@@ -1,0 +1,32 @@
+//! Where a worker encodes replies.
+ghost use Rattle.std.specs.Prelude.{◌≤◌};
+ghost use Rattle.codes.specs.declared.limits.TheConstants.{MAX_FRAME_CONTENT};
+
+use codes::MAX_FRAME_CONTENT;
+use frame_service::{Asker, Conversation, ServeFault};
+use std::alloc::{AllocError, Global};
+use std::io::{Read, Write};
+use wire::Frame;
+
+/// A frame with room for any reply, used again for each.
+#[derive(Drop)]
+pub(crate) struct ReplyFrame {
+    frame: Frame,
+
+    ghost room: { MAX_FRAME_CONTENT ≤ frame.room },
+}
+
+impl ReplyFrame {
+    pub(crate) fn new(alloc: Global) -> Result<Self, AllocError> {
+        let frame = Frame::with_room(alloc, MAX_FRAME_CONTENT as usize)?;
+        Ok(ReplyFrame { frame })
+    }
+
+    /// Answers what can be answered of a conversation.
+    pub(crate) fn answer<S: Read, W: Write, A: Asker>(
+        &mut self,
+        talk: &mut Conversation<S, W, A>,
+    ) -> Result<(), ServeFault> {
+        talk.answer(&mut self.frame)
+    }
+}
