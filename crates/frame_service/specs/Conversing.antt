@@ -86,7 +86,7 @@ module _ {S W C T Turn : Type 0} {reading : read.Ghosts S} {writing : write.Ghos
   abbrev pub Goes : C → List ℕ → List ℕ → Conversation S W C T Turn reading writing asking → Type 0
   Goes start input before c =
       GoesOn asking.answer asking.makes asking.lacks asking.acknowledges asking.fails start input before c.asker
-      c.pending.items c.input_end (inbox_remaining reading.remaining c.inbox) (outbox_contents writing.contents c.outbox)
+      c.pending.frames.items c.input_end (inbox_remaining reading.remaining c.inbox) (outbox_contents writing.contents c.outbox)
 
   -- It begins with this caller, with whatever input comes and whatever was written before.
   abbrev pub Begins : C → InboxValue S → OutboxValue W → Conversation S W C T Turn reading writing asking → Type 0

@@ -1,10 +1,6 @@
-ghost use Rattle.std.specs.Prelude.{◌≤◌};
-ghost use Rattle.std.specs.VecDeque.{deque_capacity};
-ghost use Rattle.frame_service.specs.declared.rounds.TheConstants.{MOST_PENDING_FRAMES};
-
-use crate::asking::{Asker, PendingFrame};
+use crate::asking::Asker;
+use crate::pending::PendingFrames;
 use socket_buffers::{Inbox, Outbox};
-use std::collections::VecDeque;
 use std::io::{Read, Write};
 use wire::WireFault;
 
@@ -20,10 +16,8 @@ pub struct Conversation<S: Read, W: Write, A: Asker> {
     pub(crate) inbox: Inbox<S>,
     pub(crate) outbox: Outbox<W>,
     pub(crate) asker: A,
-    pub(crate) pending: VecDeque<PendingFrame<A::Ticket>>,
+    pub(crate) pending: PendingFrames<A::Ticket>,
 
     // How the input ended, once it did.
     pub(crate) input_end: Option<Result<(), WireFault>>,
-
-    ghost room: { MOST_PENDING_FRAMES ≤ deque_capacity pending },
 }

@@ -10,6 +10,7 @@ ghost use Rattle.frame_service.specs.Conversing.{Begins, IsRetried, Kept, Stops,
 use crate::ahead::holds_frame;
 use crate::asking::{Asker, PendingFrame, Ready};
 use crate::conversation::Conversation;
+use crate::pending::PendingFrames;
 use crate::rounds::{MOST_PENDING_FRAMES, take_frames};
 use crate::service::ServeFault;
 use crate::taking::proceed;
@@ -49,14 +50,14 @@ impl<S: Read, W: Write, A: Asker> Conversation<S, W, A> {
         ensures asker { IfOk result (λ c. c.asker ≡ asker) }
         ensures begins { IfOk result (λ c. Begins asker inbox outbox c) }
     {
-        let Ok(pending) = VecDeque::with_capacity(alloc, MOST_PENDING_FRAMES) else {
+        let Ok(frames) = VecDeque::with_capacity(alloc, MOST_PENDING_FRAMES) else {
             return Err(AllocError);
         };
         Ok(Conversation {
             inbox,
             outbox,
             asker,
-            pending,
+            pending: PendingFrames { frames },
             input_end: None,
         })
     }
@@ -75,7 +76,7 @@ impl<S: Read, W: Write, A: Asker> Conversation<S, W, A> {
         ensures keeps { Kept self.old self.new }
     {
         self.asker.join_turn(turn);
-        if self.pending.is_empty() && self.input_end.is_none() {
+        if self.pending.frames.is_empty() && self.input_end.is_none() {
             self.take_all(alloc);
         }
         self.asker.leave_turn()
@@ -83,11 +84,11 @@ impl<S: Read, W: Write, A: Asker> Conversation<S, W, A> {
 
     /// Takes them.
     fn take_all(&mut self, alloc: Global)
-        requires none { (self.old.pending.items ≡ []) × (deque_len self.old.pending ≡ 0) }
+        requires none { (self.old.pending.frames.items ≡ []) × (deque_len self.old.pending.frames ≡ 0) }
         requires more { self.old.input_end ≡ None }
         ensures keeps { Kept self.old self.new }
     {
-        let taken = take_frames(alloc, &mut self.inbox, &mut self.asker, &mut self.pending);
+        let taken = take_frames(alloc, &mut self.inbox, &mut self.asker, &mut self.pending.frames);
         self.input_end = end_of(taken);
     }
 
@@ -109,11 +110,11 @@ impl<S: Read, W: Write, A: Asker> Conversation<S, W, A> {
     fn try_first(&mut self, alloc: Global, may_wait: bool) -> Tried
         ensures keeps { Kept self.old self.new }
     {
-        let Some(pending) = self.pending.pop_front() else {
+        let Some(pending) = self.pending.frames.pop_front() else {
             return Tried::Settled;
         };
         let (pending, tried) = retry(alloc, &mut self.asker, pending, may_wait);
-        self.pending.push_front_reserved(pending);
+        self.pending.frames.push_front_reserved(pending);
         tried
     }
 
@@ -149,7 +150,7 @@ impl<S: Read, W: Write, A: Asker> Conversation<S, W, A> {
         if !self.is_due() {
             return Ok(false);
         }
-        match self.pending.pop_front() {
+        match self.pending.frames.pop_front() {
             Some(PendingFrame::Settled(ready)) => {
                 match tell(&mut self.asker, &mut self.outbox, ready, reply) {
                     Ok(()) => Ok(true),
@@ -157,7 +158,7 @@ impl<S: Read, W: Write, A: Asker> Conversation<S, W, A> {
                 }
             }
             Some(waiting) => {
-                self.pending.push_front_reserved(waiting);
+                self.pending.frames.push_front_reserved(waiting);
                 Ok(false)
             }
             None => Ok(false),
@@ -166,7 +167,7 @@ impl<S: Read, W: Write, A: Asker> Conversation<S, W, A> {
 
     /// Whether the reply to the first frame in hand can be had without a wait.
     fn is_due(&self) -> bool {
-        match self.pending.front() {
+        match self.pending.frames.front() {
             Some(PendingFrame::Settled(Ready::Known(_))) => true,
             Some(PendingFrame::Settled(Ready::Made(ticket))) => self.asker.is_due(ticket),
             _ => false,
@@ -189,11 +190,11 @@ impl<S: Read, W: Write, A: Asker> Conversation<S, W, A> {
 
     /// How the conversation has ended, if the input is over and nothing is in hand.
     pub fn ended(&self) -> Option<Result<(), ServeFault>>
-        ensures value { result ≡ over_of self.now.pending.items self.now.input_end }
+        ensures value { result ≡ over_of self.now.pending.frames.items self.now.input_end }
         ensures ends { IfSome result (λ how.
             Stops self.now self.now how) }
     {
-        if !self.pending.is_empty() {
+        if !self.pending.frames.is_empty() {
             return None;
         }
         match self.input_end {
@@ -226,9 +227,9 @@ impl<S: Read, W: Write, A: Asker> Conversation<S, W, A> {
 
     /// Whether there is a frame to be taken, or the end of the input, and nothing in hand.
     pub fn has_next(&self) -> bool
-        ensures { result ≡ has_next self.now.pending.items self.now.input_end self.now.inbox }
+        ensures { result ≡ has_next self.now.pending.frames.items self.now.input_end self.now.inbox }
     {
-        if !self.pending.is_empty() || self.input_end.is_some() {
+        if !self.pending.frames.is_empty() || self.input_end.is_some() {
             return false;
         }
         match self.inbox.source() {
@@ -239,9 +240,9 @@ impl<S: Read, W: Write, A: Asker> Conversation<S, W, A> {
 
     /// The ticket of the first frame in hand, if it waits only to be answered.
     pub fn awaited(&self) -> Option<&A::Ticket>
-        ensures { option_map (λ ticket. ticket.now) result ≡ awaited_of self.now.pending.items }
+        ensures { option_map (λ ticket. ticket.now) result ≡ awaited_of self.now.pending.frames.items }
     {
-        match self.pending.front() {
+        match self.pending.frames.front() {
             Some(PendingFrame::Settled(Ready::Made(ticket))) => Some(ticket),
             _ => None,
         }
@@ -249,9 +250,9 @@ impl<S: Read, W: Write, A: Asker> Conversation<S, W, A> {
 
     /// The bound of the call that the first frame in hand waits for, if it waits.
     pub fn waits(&self) -> Option<Option<u32>>
-        ensures { result ≡ waits_of self.now.pending.items }
+        ensures { result ≡ waits_of self.now.pending.frames.items }
     {
-        match self.pending.front() {
+        match self.pending.frames.front() {
             Some(PendingFrame::Waits(message)) => Some(bound_of(message)),
             _ => None,
         }

@@ -7,6 +7,7 @@ mod caller;
 mod confining;
 mod conversation;
 mod conversing;
+mod pending;
 mod rounds;
 mod service;
 mod short_reply;

@@ -1,12 +1,12 @@
 //! One connection, as a worker sees it.
 use crate::replies::ReplyFrame;
 use disk::Disk;
-use frame_service::{Asker, Tried};
+use frame_service::Tried;
 use mio::unix::SourceFd;
 use mio::{Interest, Registry, Token};
 use sessions::{Founding, OpenGate, Peer};
 use socket_buffers::Filled;
-use socket_session::{Asked, Connected, Stream};
+use socket_session::Stream;
 use std::alloc::Global;
 use std::mem;
 use std::os::fd::AsRawFd;
@@ -80,10 +80,7 @@ pub(crate) type Talk<'a, L, D, R> = socket_session::Talk<
 
 /// A connection, with what its worker knows of it.
 #[derive(Drop)]
-pub(crate) struct Client<'a, L: Founding, D: Disk, R: Wait>
-where
-    Connected<'a, L, D, OpenGate, R, Stream>: Asker<Ticket = Asked, Turn = Held<'a, L, D, R>>,
-{
+pub(crate) struct Client<'a, L: Founding, D: Disk, R: Wait> {
     stream: Stream,
     talk: Talk<'a, L, D, R>,
 
@@ -109,10 +106,7 @@ where
     pub(crate) is_worked: bool,
 }
 
-impl<'a, L: Founding, D: Disk, R: Wait> Client<'a, L, D, R>
-where
-    Connected<'a, L, D, OpenGate, R, Stream>: Asker<Ticket = Asked, Turn = Held<'a, L, D, R>>,
-{
+impl<'a, L: Founding, D: Disk, R: Wait> Client<'a, L, D, R> {
     /// A connection of which nothing was read yet, reported to this registry from now on.
     pub(crate) fn new(stream: Stream, talk: Talk<'a, L, D, R>, registry: &Registry) -> Self {
         let mut client = Client {

@@ -4,11 +4,10 @@ use crate::client::{Awaits, Client, Held};
 use crate::replies::ReplyFrame;
 use crate::timers::Timers;
 use disk::Disk;
-use frame_service::Asker;
 use mio::event::Events;
 use mio::{Poll, Token, Waker};
 use sessions::{Admission, Founding, OpenGate, Shared, Worker};
-use socket_session::{Asked, Connected, Stream, begin};
+use socket_session::{Stream, begin};
 use std::alloc::{AllocError, AllocGlobal, Global};
 use std::collections::{BTreeMap, VecDeque};
 use std::io::{self, ErrorKind};
@@ -113,10 +112,7 @@ pub(crate) fn run<L: Founding, D: Disk, R: Wait + Clock + AllocGlobal>(
 
 /// A worker with its connections, by the numbers of their sessions.
 #[derive(Drop)]
-struct Work<'a, L: Founding, D: Disk, R: Wait + Clock>
-where
-    Connected<'a, L, D, OpenGate, R, Stream>: Asker<Ticket = Asked, Turn = Held<'a, L, D, R>>,
-{
+struct Work<'a, L: Founding, D: Disk, R: Wait + Clock> {
     rt: &'a R,
     shared: &'a Shared<L, D, OpenGate>,
     door: &'a Door<L>,
@@ -135,10 +131,7 @@ where
     lacks_due: bool,
 }
 
-impl<'a, L: Founding, D: Disk, R: Wait + Clock + AllocGlobal> Work<'a, L, D, R>
-where
-    Connected<'a, L, D, OpenGate, R, Stream>: Asker<Ticket = Asked, Turn = Held<'a, L, D, R>>,
-{
+impl<'a, L: Founding, D: Disk, R: Wait + Clock + AllocGlobal> Work<'a, L, D, R> {
     /// Waits until there is something to do, and does it.
     fn round(&mut self) {
         if self.wait() {
@@ -414,10 +407,7 @@ fn make_ready<'a, L: Founding, D: Disk, R: Wait + Clock>(
     client: &mut Client<'a, L, D, R>,
     session: u32,
     ready: &mut VecDeque<u32>,
-)
-where
-    Connected<'a, L, D, OpenGate, R, Stream>: Asker<Ticket = Asked, Turn = Held<'a, L, D, R>>,
-{
+) {
     if !client.is_ready {
         client.is_ready = true;
         let _ = ready.push_back(session);
