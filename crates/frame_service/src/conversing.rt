@@ -88,7 +88,12 @@ impl<S: Read, W: Write, A: Asker> Conversation<S, W, A> {
         requires more { self.old.input_end ≡ None }
         ensures keeps { Kept self.old self.new }
     {
-        let taken = take_frames(alloc, &mut self.inbox, &mut self.asker, &mut self.pending.frames);
+        let taken = take_frames(
+            alloc,
+            &mut self.inbox,
+            &mut self.asker,
+            &mut self.pending.frames,
+        );
         self.input_end = end_of(taken);
     }
 
