@@ -1,8 +1,6 @@
 -- What a conversation is between two of its steps: one connection, as far as it goes without waiting, whoever takes the
 -- steps.
 use Rattle.std.specs.Prelude.{◌≡◌, ℕ, Bool, true, false, List, [], ◌∷◌, Option, None, Some, Result, Ok, Err, option_map}
-use Rattle.std.specs.declared.io.traits.Read as read
-use Rattle.std.specs.declared.io.traits.Write as write
 use Rattle.std.specs.Io.KnownBytes.{Appends, Keeps}
 use Rattle.calls.specs.declared.request.Request.{Request}
 use Rattle.ipc_model.specs.declared.reply.Reply.{Reply}
@@ -12,7 +10,6 @@ use Rattle.socket_buffers.specs.Boxes.{InboxValue, OutboxValue, inbox_remaining,
 use Rattle.socket_buffers.specs.declared.inbox.Source.{Source}
 use Rattle.socket_buffers.specs.declared.inbox.Source.TheVariants.{Open}
 use Rattle.frame_service.specs.Asking.{EndsAsked, GoesOn, IsGiven, IsUngiven, Proceeds, bound_of, holds_frame}
-use Rattle.frame_service.specs.declared.asking.Asker as asker
 use Rattle.frame_service.specs.declared.asking.PendingFrame.{PendingFrame}
 use Rattle.frame_service.specs.declared.asking.PendingFrame.TheVariants.{Settled, Waits}
 use Rattle.frame_service.specs.declared.asking.Ready.{Ready}
@@ -81,26 +78,28 @@ module _ {C T : Type 0} (answer : T → Reply) (makes : C → Request → T → 
       (fault ≡ Device) × ((said : Reply) × IsGiven answer makes lacks acknowledges fails old ready said new
       × AppendsPart before written (frame_encoding (reply_encoding said)))
 
-module _ {S W C T Turn : Type 0} {reading : read.Ghosts S} {writing : write.Ghosts W} {asking : asker.Ghosts C T Turn} where
+module _ {S W C T Turn : Type 0} (remaining : S → Option (List ℕ)) (contents : W → Option (List ℕ)) (answer : T → Reply)
+    (makes : C → Request → T → C → Type 0) (lacks : C → Request → C → Type 0) (acknowledges : C → T → C → Type 0)
+    (fails : C → T → StoreFault → C → Type 0) where
   -- It began with this caller, before this input and after this output, and has come so far.
-  abbrev pub Goes : C → List ℕ → List ℕ → Conversation S W C T Turn reading writing asking → Type 0
+  abbrev pub Goes : C → List ℕ → List ℕ → Conversation S W C T Turn → Type 0
   Goes start input before c =
-      GoesOn asking.answer asking.makes asking.lacks asking.acknowledges asking.fails start input before c.asker
-      c.pending.frames.items c.input_end (inbox_remaining reading.remaining c.inbox) (outbox_contents writing.contents c.outbox)
+      GoesOn answer makes lacks acknowledges fails start input before c.asker c.pending.frames.items c.input_end
+      (inbox_remaining remaining c.inbox) (outbox_contents contents c.outbox)
 
   -- It begins with this caller, with whatever input comes and whatever was written before.
-  abbrev pub Begins : C → InboxValue S → OutboxValue W → Conversation S W C T Turn reading writing asking → Type 0
+  abbrev pub Begins : C → InboxValue S → OutboxValue W → Conversation S W C T Turn → Type 0
   Begins start inbox outbox c =
-      (input before : List ℕ) → inbox_remaining reading.remaining inbox ≡ Some input
-      → outbox_contents writing.contents outbox ≡ Some before → Goes start input before c
+      (input before : List ℕ) → inbox_remaining remaining inbox ≡ Some input
+      → outbox_contents contents outbox ≡ Some before → Goes start input before c
 
   -- However it began and came so far, it has come so far afterwards.
-  abbrev pub Kept : (old new : Conversation S W C T Turn reading writing asking) → Type 0
+  abbrev pub Kept : (old new : Conversation S W C T Turn) → Type 0
   Kept old new = (start : C) (input before : List ℕ) → Goes start input before old → Goes start input before new
 
   -- However it began and came so far, it ends like this.
-  abbrev pub Stops : (old new : Conversation S W C T Turn reading writing asking) → Result (Unit {0}) ServeFault → Type 0
+  abbrev pub Stops : (old new : Conversation S W C T Turn) → Result (Unit {0}) ServeFault → Type 0
   Stops old new result =
       (start : C) (input before : List ℕ) → Goes start input before old
-      → EndsAsked asking.answer asking.makes asking.lacks asking.acknowledges asking.fails start input before new.asker
-      (inbox_remaining reading.remaining new.inbox) (outbox_contents writing.contents new.outbox) result
+      → EndsAsked answer makes lacks acknowledges fails start input before new.asker
+      (inbox_remaining remaining new.inbox) (outbox_contents contents new.outbox) result

@@ -48,7 +48,7 @@ impl<S: Read, W: Write, A: Asker> Conversation<S, W, A> {
         W: Drop,
         A: Drop,
         ensures asker { IfOk result (λ c. c.asker ≡ asker) }
-        ensures begins { IfOk result (λ c. Begins asker inbox outbox c) }
+        ensures begins { IfOk result (λ c. Begins S.remaining W.contents A.answer A.makes A.lacks A.acknowledges A.fails asker inbox outbox c) }
     {
         let Ok(frames) = VecDeque::with_capacity(alloc, MOST_PENDING_FRAMES) else {
             return Err(AllocError);
@@ -64,7 +64,7 @@ impl<S: Read, W: Write, A: Asker> Conversation<S, W, A> {
 
     /// Asks once for more of the input.
     pub fn read(&mut self) -> Filled
-        ensures keeps { Kept self.old self.new }
+        ensures keeps { Kept S.remaining W.contents A.answer A.makes A.lacks A.acknowledges A.fails self.old self.new }
         ensures asker { self.new.asker ≡ self.old.asker }
     {
         self.inbox.fill()
@@ -73,7 +73,7 @@ impl<S: Read, W: Write, A: Asker> Conversation<S, W, A> {
     /// Takes the frames that are there in hand, unless some are in hand already, and makes their calls as far as they
     /// can be made now: in this turn of the caller's, which it gives back if it is still held.
     pub fn take(&mut self, alloc: Global, turn: A::Turn) -> Option<A::Turn>
-        ensures keeps { Kept self.old self.new }
+        ensures keeps { Kept S.remaining W.contents A.answer A.makes A.lacks A.acknowledges A.fails self.old self.new }
     {
         self.asker.join_turn(turn);
         if self.pending.frames.is_empty() && self.input_end.is_none() {
@@ -86,7 +86,7 @@ impl<S: Read, W: Write, A: Asker> Conversation<S, W, A> {
     fn take_all(&mut self, alloc: Global)
         requires none { (self.old.pending.frames.items ≡ []) × (deque_len self.old.pending.frames ≡ 0) }
         requires more { self.old.input_end ≡ None }
-        ensures keeps { Kept self.old self.new }
+        ensures keeps { Kept S.remaining W.contents A.answer A.makes A.lacks A.acknowledges A.fails self.old self.new }
     {
         let taken = take_frames(
             alloc,
@@ -105,7 +105,7 @@ impl<S: Read, W: Write, A: Asker> Conversation<S, W, A> {
         turn: A::Turn,
         may_wait: bool,
     ) -> (Option<A::Turn>, Tried)
-        ensures keeps { Kept self.old self.new }
+        ensures keeps { Kept S.remaining W.contents A.answer A.makes A.lacks A.acknowledges A.fails self.old self.new }
     {
         self.asker.join_turn(turn);
         let tried = self.try_first(alloc, may_wait);
@@ -113,7 +113,7 @@ impl<S: Read, W: Write, A: Asker> Conversation<S, W, A> {
     }
 
     fn try_first(&mut self, alloc: Global, may_wait: bool) -> Tried
-        ensures keeps { Kept self.old self.new }
+        ensures keeps { Kept S.remaining W.contents A.answer A.makes A.lacks A.acknowledges A.fails self.old self.new }
     {
         let Some(pending) = self.pending.frames.pop_front() else {
             return Tried::Settled;
@@ -129,9 +129,9 @@ impl<S: Read, W: Write, A: Asker> Conversation<S, W, A> {
         requires { MAX_FRAME_CONTENT ≤ reply.old.room }
         ensures room { reply.old.room ≤ reply.new.room }
         ensures keeps { OnOk result
-            (Kept self.old self.new) }
+            (Kept S.remaining W.contents A.answer A.makes A.lacks A.acknowledges A.fails self.old self.new) }
         ensures ends { IfErr result (λ fault.
-            Stops self.old self.new (Err fault)) }
+            Stops S.remaining W.contents A.answer A.makes A.lacks A.acknowledges A.fails self.old self.new (Err fault)) }
     {
         for _ in 0..MOST_PENDING_FRAMES {
             match self.answer_first(reply) {
@@ -148,9 +148,9 @@ impl<S: Read, W: Write, A: Asker> Conversation<S, W, A> {
         requires { MAX_FRAME_CONTENT ≤ reply.old.room }
         ensures room { reply.old.room ≤ reply.new.room }
         ensures keeps { OnOk result
-            (Kept self.old self.new) }
+            (Kept S.remaining W.contents A.answer A.makes A.lacks A.acknowledges A.fails self.old self.new) }
         ensures ends { IfErr result (λ fault.
-            Stops self.old self.new (Err fault)) }
+            Stops S.remaining W.contents A.answer A.makes A.lacks A.acknowledges A.fails self.old self.new (Err fault)) }
     {
         if !self.is_due() {
             return Ok(false);
@@ -182,9 +182,9 @@ impl<S: Read, W: Write, A: Asker> Conversation<S, W, A> {
     /// Gives what was written to whom it is for, as much as is taken now.
     pub fn flush(&mut self) -> Result<(), ServeFault>
         ensures keeps { OnOk result
-            (Kept self.old self.new) }
+            (Kept S.remaining W.contents A.answer A.makes A.lacks A.acknowledges A.fails self.old self.new) }
         ensures ends { IfErr result (λ fault.
-            Stops self.old self.new (Err fault)) }
+            Stops S.remaining W.contents A.answer A.makes A.lacks A.acknowledges A.fails self.old self.new (Err fault)) }
         ensures asker { self.new.asker ≡ self.old.asker }
     {
         if self.outbox.flush().is_err() {
@@ -197,7 +197,7 @@ impl<S: Read, W: Write, A: Asker> Conversation<S, W, A> {
     pub fn ended(&self) -> Option<Result<(), ServeFault>>
         ensures value { result ≡ over_of self.now.pending.frames.items self.now.input_end }
         ensures ends { IfSome result (λ how.
-            Stops self.now self.now how) }
+            Stops S.remaining W.contents A.answer A.makes A.lacks A.acknowledges A.fails self.now self.now how) }
     {
         if !self.pending.frames.is_empty() {
             return None;

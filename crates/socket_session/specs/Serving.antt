@@ -1,15 +1,13 @@
 -- A connection served as one session: how its conversation begins.
-use Rattle.std.specs.Prelude.{◌≡◌, [], None, Some}
-use Rattle.std.specs.declared.io.traits.Read as read
-use Rattle.std.specs.declared.io.traits.Write as write
+use Rattle.std.specs.Prelude.{◌≡◌, ℕ, List, [], Option, None, Some}
 use Rattle.codes.specs.declared.name.TheConstants.{FIRST_SPACE}
 use Rattle.frame_service.specs.Conversing.{Begins}
-use Rattle.frame_service.specs.declared.asking.Asker as asker
 use Rattle.frame_service.specs.declared.conversation.Conversation.{Conversation}
+use Rattle.ipc_model.specs.state.State.{State}
 use Rattle.kernel_keeper.specs.Tokens.{SessionValue}
 use Rattle.socket_buffers.specs.Boxes.{InboxValue, OutboxValue}
 use Rattle.socket_buffers.specs.declared.inbox.Source.TheVariants.{Open}
-use Rattle.socket_session.specs.Connecting.{AskedValue, ConnectedValue}
+use Rattle.socket_session.specs.Connecting.{AcknowledgesOne, AskedValue, ConnectedValue, LacksOne, MakesOne, answer_of}
 
 -- a session that has made no call
 pub record IsNewSession (session : SessionValue) : Type 0 where
@@ -29,10 +27,10 @@ from_stream stream = record { stream = stream; bytes = []; source = Open }
 abbrev pub to_stream : {W : Type 0} → W → OutboxValue W
 to_stream stream = record { stream = stream; bytes = [] }
 
-module _ {S W Turn : Type 0} {reading : read.Ghosts S} {writing : write.Ghosts W}
-    {asking : asker.Ghosts ConnectedValue AskedValue Turn} where
-  -- A conversation that begins with one new session, over these streams.
-  abbrev pub BeginsNew : S → W → Conversation S W ConnectedValue AskedValue Turn reading writing asking → Type 0
+module _ {S W Turn : Type 0} (remaining : S → Option (List ℕ)) (contents : W → Option (List ℕ)) (base : State) where
+  -- A conversation that begins with one new session of a store with this founding state, over these streams.
+  abbrev pub BeginsNew : S → W → Conversation S W ConnectedValue AskedValue Turn → Type 0
   BeginsNew reader writer talk =
       (session : SessionValue) × IsNewSession session
-      × Begins (unconfined session) (from_stream reader) (to_stream writer) talk
+      × Begins remaining contents answer_of (MakesOne base) (LacksOne base) (AcknowledgesOne base)
+      (λ old asked fault new. new ≡ old) (unconfined session) (from_stream reader) (to_stream writer) talk

@@ -36,7 +36,7 @@ pub fn begin<
     reader: S,
     writer: W,
 ) -> Option<Talk<'a, L, D, G, R, P, S, W>>
-    ensures begins { IfSome result (λ talk. BeginsNew reader writer talk) }
+    ensures begins { IfSome result (λ talk. BeginsNew S.remaining W.contents L.base reader writer talk) }
 {
     let Ok(session) = shared.session(rt, admission) else {
         return None;
