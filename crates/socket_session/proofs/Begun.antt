@@ -9,7 +9,8 @@ use Rattle.socket_session.specs.Connecting.{AcknowledgesOne, AskedValue, Connect
 use Rattle.socket_session.specs.Serving.{BeginsNew, IsNewSession, from_stream, to_stream, unconfined}
 
 module _ {S W Turn : Type 0} (remaining : S → Option (List ℕ)) (contents : W → Option (List ℕ)) (base : State) where
-  abbrev FirstBegins : ConnectedValue → InboxValue S → OutboxValue W → Conversation S W ConnectedValue AskedValue Turn → Type 0
+  abbrev FirstBegins : ConnectedValue → InboxValue S → OutboxValue W
+      → Conversation S W ConnectedValue AskedValue Turn → Type 0
   FirstBegins =
       Begins remaining contents answer_of (MakesOne base) (LacksOne base) (AcknowledgesOne base)
       (λ old asked fault new. new ≡ old)

@@ -4,8 +4,9 @@ use Rattle.socket_session.proofs.beginning.begin.Goals as goal
 pub returns : goal.returns
 returns g c = record {
   begins =
-      begins_new g.S.Read.remaining g.W.Write.contents g.L.Founding.base c.args.reader c.args.writer c.in-Ok-new.talk c.in-Ok.session c.new-asker.result c.new-inbox.result
-      c.new-outbox.result c.new-asker.ensures c.new-inbox.ensures c.new-outbox.ensures
+      begins_new g.S.Read.remaining g.W.Write.contents g.L.Founding.base c.args.reader c.args.writer c.in-Ok-new.talk
+      c.in-Ok.session c.new-asker.result c.new-inbox.result c.new-outbox.result c.new-asker.ensures c.new-inbox.ensures
+      c.new-outbox.ensures
       (record {
         space = c.in-Ok.ensures.new.0;
         acknowledged = c.in-Ok.ensures.new.1;
