@@ -78,11 +78,11 @@ pub(crate) type Talk<'a, L, D, R> = socket_session::Talk<
     Stream,
 >;
 
-/// A connection, with what its worker knows of it.
+/// A connection, with what its worker knows of it: with a `Talk`.
 #[derive(Drop)]
-pub(crate) struct Client<'a, L: Founding, D: Disk, R: Wait> {
+pub(crate) struct Client<T> {
     stream: Stream,
-    talk: Talk<'a, L, D, R>,
+    talk: T,
 
     // Whether there may be something to read, whether memory for it ran out, and whether room is reported.
     may_read: bool,
@@ -106,7 +106,68 @@ pub(crate) struct Client<'a, L: Founding, D: Disk, R: Wait> {
     pub(crate) is_worked: bool,
 }
 
-impl<'a, L: Founding, D: Disk, R: Wait> Client<'a, L, D, R> {
+impl<T> Client<T> {
+    /// Its call's turn has come.
+    pub(crate) fn note_turn(&mut self) {
+        self.has_turn = true;
+    }
+
+    /// Its timer's time is over.
+    pub(crate) fn note_time(&mut self) {
+        let Some((_, timed)) = self.timer.take() else {
+            return;
+        };
+        if timed == Timed::Memory {
+            self.lacks_memory = false;
+            self.may_read = true;
+        } else {
+            self.over = Some(timed);
+        }
+    }
+
+    /// The time in which the other side has to take something begins, if it took something or had nothing to take, and
+    /// something is left.
+    fn note_sent(&mut self, begins: bool, is_left: bool) {
+        if self.over == Some(Timed::Room) && (begins || !is_left) {
+            self.over = None;
+        }
+        self.begins = self.begins || (begins && is_left);
+    }
+
+    /// The time that its timer is set to.
+    pub(crate) fn timer(&self) -> Option<u64> {
+        let (end, _) = self.timer?;
+        Some(end)
+    }
+
+    /// Its timer is set to this time.
+    pub(crate) fn set_timer(&mut self, end: u64, timed: Timed) {
+        self.timer = Some((end, timed));
+    }
+
+    /// The time that its timer is set to, if that isn't for what it awaits now. It has no timer then.
+    pub(crate) fn take_other_timer(&mut self, awaited: Option<Timed>) -> Option<u64> {
+        let begins = mem::replace(&mut self.begins, false);
+        let (end, timed) = self.timer?;
+        if !begins && awaited == Some(timed) {
+            return None;
+        }
+        self.timer = None;
+        Some(end)
+    }
+
+    /// Whether a call of it waits in no line, and is to be made again.
+    pub(crate) fn has_no_line(&self) -> bool {
+        self.has_no_line
+    }
+
+    /// Closes the socket.
+    pub(crate) fn close(&self) {
+        self.stream.close();
+    }
+}
+
+impl<'a, L: Founding, D: Disk, R: Wait> Client<Talk<'a, L, D, R>> {
     /// A connection of which nothing was read yet, reported to this registry from now on.
     pub(crate) fn new(stream: Stream, talk: Talk<'a, L, D, R>, registry: &Registry) -> Self {
         let mut client = Client {
@@ -162,24 +223,6 @@ impl<'a, L: Founding, D: Disk, R: Wait> Client<'a, L, D, R> {
         self.may_read = true;
         if self.talk.waits().is_some() && self.talk.asker().peer().is_gone() {
             self.has_failed = true;
-        }
-    }
-
-    /// Its call's turn has come.
-    pub(crate) fn note_turn(&mut self) {
-        self.has_turn = true;
-    }
-
-    /// Its timer's time is over.
-    pub(crate) fn note_time(&mut self) {
-        let Some((_, timed)) = self.timer.take() else {
-            return;
-        };
-        if timed == Timed::Memory {
-            self.lacks_memory = false;
-            self.may_read = true;
-        } else {
-            self.over = Some(timed);
         }
     }
 
@@ -256,15 +299,6 @@ impl<'a, L: Founding, D: Disk, R: Wait> Client<'a, L, D, R> {
         self.report_room(registry, left != 0);
     }
 
-    /// The time in which the other side has to take something begins, if it took something or had nothing to take, and
-    /// something is left.
-    fn note_sent(&mut self, begins: bool, is_left: bool) {
-        if self.over == Some(Timed::Room) && (begins || !is_left) {
-            self.over = None;
-        }
-        self.begins = self.begins || (begins && is_left);
-    }
-
     /// What it waits for now.
     pub(crate) fn awaits(&self) -> Awaits {
         if self.has_failed {
@@ -296,40 +330,8 @@ impl<'a, L: Founding, D: Disk, R: Wait> Client<'a, L, D, R> {
         }
     }
 
-    /// The time that its timer is set to.
-    pub(crate) fn timer(&self) -> Option<u64> {
-        let (end, _) = self.timer?;
-        Some(end)
-    }
-
-    /// Its timer is set to this time.
-    pub(crate) fn set_timer(&mut self, end: u64, timed: Timed) {
-        self.timer = Some((end, timed));
-    }
-
-    /// The time that its timer is set to, if that isn't for what it awaits now. It has no timer then.
-    pub(crate) fn take_other_timer(&mut self, awaited: Option<Timed>) -> Option<u64> {
-        let begins = mem::replace(&mut self.begins, false);
-        let (end, timed) = self.timer?;
-        if !begins && awaited == Some(timed) {
-            return None;
-        }
-        self.timer = None;
-        Some(end)
-    }
-
-    /// Whether a call of it waits in no line, and is to be made again.
-    pub(crate) fn has_no_line(&self) -> bool {
-        self.has_no_line
-    }
-
     /// Whether a call of it waits.
     pub(crate) fn waits(&self) -> bool {
         self.talk.waits().is_some()
-    }
-
-    /// Closes the socket.
-    pub(crate) fn close(&self) {
-        self.stream.close();
     }
 }

@@ -1,6 +1,6 @@
 //! A thread that serves many connections, each as far as it goes without waiting.
 
-use crate::client::{Awaits, Client, Held};
+use crate::client::{Awaits, Client, Held, Talk};
 use crate::replies::ReplyFrame;
 use crate::timers::Timers;
 use disk::Disk;
@@ -90,34 +90,21 @@ pub(crate) fn run<L: Founding, D: Disk, R: Wait + Clock + AllocGlobal>(
     door: &Door<L>,
     tools: Tools,
 ) {
-    let alloc = rt.alloc();
-    let mut work = Work {
-        rt,
-        shared,
-        door,
-        tools,
-        clients: BTreeMap::new(alloc),
-        ready: VecDeque::new(alloc),
-        worked: Vec::new(alloc),
-        awaiting: Vec::new(alloc),
-        failed: Vec::new(alloc),
-        due: Vec::new(alloc),
-        lacks_due: false,
-    };
+    let mut work = Work::new(rt, shared, door, tools);
     for _ in rt.forever() {
         work.round();
     }
-    drop(work);
+    unreachable!()
 }
 
-/// A worker with its connections, by the numbers of their sessions.
+/// A worker with its connections, by the numbers of their sessions: with a `Talk` for each.
 #[derive(Drop)]
-struct Work<'a, L: Founding, D: Disk, R: Wait + Clock> {
+struct Work<'a, L: Founding, D: Disk, R, T> {
     rt: &'a R,
     shared: &'a Shared<L, D, OpenGate>,
     door: &'a Door<L>,
     tools: Tools,
-    clients: BTreeMap<u32, Client<'a, L, D, R>>,
+    clients: BTreeMap<u32, Client<T>>,
 
     // For which of them there is something to do, for which something was done, which await records, and for which an
     // allocation failed that is tried again. There is room for all of them.
@@ -131,7 +118,25 @@ struct Work<'a, L: Founding, D: Disk, R: Wait + Clock> {
     lacks_due: bool,
 }
 
-impl<'a, L: Founding, D: Disk, R: Wait + Clock + AllocGlobal> Work<'a, L, D, R> {
+impl<'a, L: Founding, D: Disk, R: Wait + Clock + AllocGlobal> Work<'a, L, D, R, Talk<'a, L, D, R>> {
+    /// With no connection.
+    fn new(rt: &'a R, shared: &'a Shared<L, D, OpenGate>, door: &'a Door<L>, tools: Tools) -> Self {
+        let alloc = rt.alloc();
+        Work {
+            rt,
+            shared,
+            door,
+            tools,
+            clients: BTreeMap::new(alloc),
+            ready: VecDeque::new(alloc),
+            worked: Vec::new(alloc),
+            awaiting: Vec::new(alloc),
+            failed: Vec::new(alloc),
+            due: Vec::new(alloc),
+            lacks_due: false,
+        }
+    }
+
     /// Waits until there is something to do, and does it.
     fn round(&mut self) {
         if self.wait() {
@@ -398,16 +403,11 @@ impl<'a, L: Founding, D: Disk, R: Wait + Clock + AllocGlobal> Work<'a, L, D, R> 
             self.shared.leave_line(self.rt, session);
         }
         client.close();
-        drop(client);
     }
 }
 
 /// There is something to do for a connection.
-fn make_ready<'a, L: Founding, D: Disk, R: Wait + Clock>(
-    client: &mut Client<'a, L, D, R>,
-    session: u32,
-    ready: &mut VecDeque<u32>,
-) {
+fn make_ready<T>(client: &mut Client<T>, session: u32, ready: &mut VecDeque<u32>) {
     if !client.is_ready {
         client.is_ready = true;
         let _ = ready.push_back(session);
