@@ -81,7 +81,6 @@ pub(crate) type Talk<'a, L, D, R> = socket_session::Talk<
 /// A connection, with what its worker knows of it: with a `Talk`.
 #[derive(Drop)]
 pub(crate) struct Client<T> {
-    stream: Stream,
     talk: T,
 
     // Whether there may be something to read, whether memory for it ran out, and whether room is reported.
@@ -160,18 +159,12 @@ impl<T> Client<T> {
     pub(crate) fn has_no_line(&self) -> bool {
         self.has_no_line
     }
-
-    /// Closes the socket.
-    pub(crate) fn close(&self) {
-        self.stream.close();
-    }
 }
 
 impl<'a, L: Founding, D: Disk, R: Wait> Client<Talk<'a, L, D, R>> {
     /// A connection of which nothing was read yet, reported to this registry from now on.
-    pub(crate) fn new(stream: Stream, talk: Talk<'a, L, D, R>, registry: &Registry) -> Self {
+    pub(crate) fn new(talk: Talk<'a, L, D, R>, registry: &Registry) -> Self {
         let mut client = Client {
-            stream,
             talk,
             may_read: true,
             lacks_memory: false,
@@ -194,8 +187,13 @@ impl<'a, L: Founding, D: Disk, R: Wait> Client<Talk<'a, L, D, R>> {
         self.talk.asker().number()
     }
 
+    /// Its socket.
+    fn stream(&self) -> &Stream {
+        self.talk.asker().peer()
+    }
+
     fn register(&mut self, registry: &Registry) {
-        let descriptor = self.stream.socket().as_raw_fd();
+        let descriptor = self.stream().socket().as_raw_fd();
         let token = Token(self.number() as usize);
         let registered = registry.register(&mut SourceFd(&descriptor), token, Interest::READABLE);
         self.has_failed = self.has_failed || registered.is_err();
@@ -207,7 +205,7 @@ impl<'a, L: Founding, D: Disk, R: Wait> Client<Talk<'a, L, D, R>> {
             return;
         }
         self.awaits_room = awaits_room;
-        let descriptor = self.stream.socket().as_raw_fd();
+        let descriptor = self.stream().socket().as_raw_fd();
         let token = Token(self.number() as usize);
         let interest = if awaits_room {
             Interest::READABLE | Interest::WRITABLE
@@ -221,7 +219,7 @@ impl<'a, L: Founding, D: Disk, R: Wait> Client<Talk<'a, L, D, R>> {
     /// Something came, or there is room, or the other side was closed.
     pub(crate) fn note_event(&mut self) {
         self.may_read = true;
-        if self.talk.waits().is_some() && self.talk.asker().peer().is_gone() {
+        if self.talk.waits().is_some() && self.stream().is_gone() {
             self.has_failed = true;
         }
     }
@@ -333,5 +331,10 @@ impl<'a, L: Founding, D: Disk, R: Wait> Client<Talk<'a, L, D, R>> {
     /// Whether a call of it waits.
     pub(crate) fn waits(&self) -> bool {
         self.talk.waits().is_some()
+    }
+
+    /// Closes its socket.
+    pub(crate) fn end(self) {
+        self.stream().close();
     }
 }

@@ -203,13 +203,13 @@ impl<'a, L: Founding, D: Disk, R: Wait + Clock + AllocGlobal> Work<'a, L, D, R, 
         self.make_room()?;
         let stream = Stream::new(self.rt.alloc(), socket)?;
         let worker = Arc::try_clone(&self.door.worker)?;
-        let (peer, reader, writer) = (stream.again()?, stream.again()?, stream.again()?);
+        let (reader, writer) = (stream.again()?, stream.again()?);
         let begun = begin(
             self.rt,
             self.shared,
             admission,
             worker,
-            peer,
+            stream,
             reader,
             writer,
         );
@@ -217,8 +217,10 @@ impl<'a, L: Founding, D: Disk, R: Wait + Clock + AllocGlobal> Work<'a, L, D, R, 
             return Err(ErrorKind::OutOfMemory.into());
         };
         let number = talk.asker().number();
-        let client = Client::new(stream, talk, self.tools.poll.registry());
-        let _ = self.clients.insert(number, client);
+        let client = Client::new(talk, self.tools.poll.registry());
+        if let Ok(former) = self.clients.insert(number, client) {
+            end(former);
+        }
         if let Some(client) = self.clients.get_mut(&number) {
             make_ready(client, number, &mut self.ready);
         }
@@ -393,7 +395,13 @@ impl<'a, L: Founding, D: Disk, R: Wait + Clock + AllocGlobal> Work<'a, L, D, R, 
 
     /// Ends a connection.
     fn remove(&mut self, session: u32) {
-        let Some(client) = self.clients.remove(&session) else {
+        self.forget(session);
+        end(self.clients.remove(&session));
+    }
+
+    /// Nothing is to be done for a connection any more.
+    fn forget(&mut self, session: u32) {
+        let Some(client) = self.clients.get(&session) else {
             return;
         };
         if let Some(end) = client.timer() {
@@ -402,7 +410,13 @@ impl<'a, L: Founding, D: Disk, R: Wait + Clock + AllocGlobal> Work<'a, L, D, R, 
         if client.waits() {
             self.shared.leave_line(self.rt, session);
         }
-        client.close();
+    }
+}
+
+/// Closes a connection's socket, if there is one.
+fn end<'a, L: Founding, D: Disk, R: Wait>(client: Option<Client<Talk<'a, L, D, R>>>) {
+    if let Some(client) = client {
+        client.end();
     }
 }
 
