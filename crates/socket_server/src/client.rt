@@ -335,6 +335,7 @@ impl<'a, L: Founding, D: Disk, R: Wait> Client<Talk<'a, L, D, R>> {
 
     /// Closes its socket.
     pub(crate) fn end(self) {
-        self.stream().close();
+        let Client { talk, .. } = self;
+        talk.asker().peer().close();
     }
 }
