@@ -85,8 +85,8 @@ pub record MadeSince (base : State) (since : Option ℕ) (old : SessionValue) (c
   pub settles : SettlesBy base since (Some before) old settled
   pub made : MadeAfter base before settled c ticket new
 
--- It wasn't made: the session is as it was or, where it is confined and its space was destroyed, detached; and it may
--- have seen more.
+-- It wasn't made: the session is as it was or, where it is confined, it may have been detached, by a history that isn't
+-- named here; and it may have seen more.
 pub record LackedSince (base : State) (since : Option ℕ) (old new : SessionValue) : Type 0 where
   pub settled : SessionValue
   pub settles : (settled ≡ old) ⊎ ((is_some since ≡ true) × Did base old detached settled)
