@@ -1,7 +1,8 @@
 //! Numbers at the front and at the end of byte strings, lowest byte first.
 #![tactic(auto)]
 
-ghost use Rattle.std.specs.Prelude.{◌≡◌, ◌<◌, ◌+◌, ◌^◌, ◌++◌, length, IfSome, IfNone, OnOk, OnErr};
+ghost use Rattle.std.specs.Prelude.{◌≡◌, ◌<◌, ◌+◌, ◌^◌, ◌++◌, ◌≤◌, length, IfSome, IfNone, OnOk, OnErr};
+ghost use Rattle.std.specs.Vec.{vec_len, vec_capacity};
 ghost use Rattle.words.specs.Words.{word, long_word};
 
 use byteorder::{ByteOrder, LittleEndian};
@@ -33,20 +34,24 @@ pub fn take_long_word(bytes: &[u8]) -> Option<(u64, &[u8])>
     Some((LittleEndian::read_u64(bytes), rest))
 }
 
-/// Adds the four bytes of a number. If an allocation fails, nothing changed.
+/// Adds the four bytes of a number. If an allocation fails, nothing changed. It takes no memory if there is room.
 pub fn push_word(out: &mut Vec<u8>, value: u32) -> Result<(), AllocError>
     ensures ok { OnOk result (out.new.items ≡ out.old.items ++ word value) }
     ensures err { OnErr result (out.new.items ≡ out.old.items) }
+    ensures full { OnErr result (vec_capacity out.old < vec_len out.old + 4) }
+    ensures room { vec_capacity out.old ≤ vec_capacity out.new }
 {
     let mut encoding = [0; 4];
     LittleEndian::write_u32(&mut encoding, value);
     out.extend_from_slice(&encoding)
 }
 
-/// Adds the eight bytes of a number. If an allocation fails, nothing changed.
+/// Adds the eight bytes of a number. If an allocation fails, nothing changed. It takes no memory if there is room.
 pub fn push_long_word(out: &mut Vec<u8>, value: u64) -> Result<(), AllocError>
     ensures ok { OnOk result (out.new.items ≡ out.old.items ++ long_word value) }
     ensures err { OnErr result (out.new.items ≡ out.old.items) }
+    ensures full { OnErr result (vec_capacity out.old < vec_len out.old + 8) }
+    ensures room { vec_capacity out.old ≤ vec_capacity out.new }
 {
     let mut encoding = [0; 8];
     LittleEndian::write_u64(&mut encoding, value);
