@@ -10,7 +10,6 @@ use bitflags::Flags;
 use codes::{CONFINE, KernReturn, MACH_MSG, MessageOptions, NUMBERED};
 use ipc_model::{Call, PlainCall, Sequence};
 use std::alloc::{AllocError, Global};
-use wire::Frame;
 use words::take_word;
 
 /// What a `mach_msg` asks for: to send, to receive, or first the one and then the other. The session decides how long
@@ -176,18 +175,18 @@ fn read_confine(arguments: &[u8]) -> Result<Request, CallFault>
     }
 }
 
-/// What a frame asks for. `NoCall`: no call has this number and arguments of this length. `NoMemory`, only for a send,
-/// which may be numbered: out of memory for its message.
+/// What a frame of this content asks for. `NoCall`: no call has this number and arguments of this length. `NoMemory`,
+/// only for a send, which may be numbered: out of memory for its message.
 #[tactic(auto, unfolding(ipc_model::specs::encodings::PlainCalls::call_encoding))]
-pub fn read_request(alloc: Global, frame: &Frame) -> Result<Request, CallFault>
-    ensures found { IfOk result (λ request. requests.Asks frame.now.content request) }
-    ensures only { (asks : Request) → requests.Asks frame.now.content asks
+pub fn read_request(alloc: Global, content: &[u8]) -> Result<Request, CallFault>
+    ensures found { IfOk result (λ request. requests.Asks content.now request) }
+    ensures only { (asks : Request) → requests.Asks content.now asks
         → (result ≡ Ok asks) ⊎ (result ≡ Err CallFault.NoMemory) }
     ensures memory { IsErrOf result CallFault.NoMemory
-        → ((arguments : List ℕ) × (frame.now.content ≡ word MACH_MSG ++ arguments) × requests.IsSend arguments)
-        ⊎ requests.IsNumberedSend frame.now.content }
+        → ((arguments : List ℕ) × (content.now ≡ word MACH_MSG ++ arguments) × requests.IsSend arguments)
+        ⊎ requests.IsNumberedSend content.now }
 {
-    let Some((number, arguments)) = take_word(frame.content()) else {
+    let Some((number, arguments)) = take_word(content) else {
         return Err(CallFault::NoCall);
     };
     if number == MACH_MSG {

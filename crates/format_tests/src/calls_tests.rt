@@ -46,7 +46,7 @@ fn call_of_record(alloc: Global, encoding: &[u8]) -> Option<Option<Call>> {
 // What a frame with this content asks for, if it is a request.
 fn request_of(alloc: Global, content: &[u8]) -> Option<Result<Request, CallFault>> {
     let frame = frame_of(alloc, content)?;
-    let request = read_request(alloc, &frame);
+    let request = read_request(alloc, frame.content());
     drop(frame);
     Some(request)
 }

@@ -139,6 +139,15 @@ module _ {C T : Type 0} (answer : T → Reply) (makes : C → Request → T → 
       ⊎ ((known : Reply) × (pending ≡ Settled (Known known))
       × (IsRefused old content known new ⊎ LacksMemory old content known new))
 
+  -- What came of taking the next frame of an input in hand: it was taken; the input has ended; or the frame can't be
+  -- read. This of the input is left.
+  abbrev pub TookNext : C → List ℕ → Result (Option (PendingFrame T)) WireFault → C → Option (List ℕ) → Type 0
+  TookNext old input (Ok (Some pending)) new left =
+      (content rest : List ℕ) × (input ≡ frame_encoding content ++ rest) × (left ≡ Some rest)
+      × IsTaken old content pending new
+  TookNext old input (Ok None) new left = IsReadOf input (Ok None) left × (new ≡ old)
+  TookNext old input (Err fault) new left = IsReadOf input (Err fault) left × (new ≡ old)
+
 -- and further: that a ticket's reply was given, and that the store failed before
 module _ {C T : Type 0} (answer : T → Reply) (makes : C → Request → T → C → Type 0) (lacks : C → Request → C → Type 0)
     (acknowledges : C → T → C → Type 0) (fails : C → T → StoreFault → C → Type 0) where

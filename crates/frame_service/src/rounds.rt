@@ -1,10 +1,10 @@
 ghost use Rattle.std.specs.Prelude.{◌≡◌, ◌≤◌, [], IfSome};
 ghost use Rattle.std.specs.VecDeque.{deque_capacity, deque_len};
 ghost use Rattle.socket_buffers.specs.Boxes.{inbox_remaining};
-ghost use Rattle.frame_service.specs.Asking.{TookFrames};
+ghost use Rattle.frame_service.specs.Asking.{TookFrames, TookNext};
 ghost use Rattle.frame_service.specs.declared.rounds.TheConstants.{MOST_PENDING_FRAMES};
 
-use crate::ahead::holds_frame;
+use crate::ahead::{holds_frame, whole_frame};
 use crate::asking::{Asker, PendingFrame};
 use crate::taking::take_frame;
 use socket_buffers::Inbox;
@@ -12,6 +12,9 @@ use std::alloc::Global;
 use std::collections::VecDeque;
 use std::io::Read;
 use wire::{WireFault, read_frame};
+
+/// How many bytes a frame's length takes.
+const LENGTH_BYTES: usize = 4;
 
 /// How many frames of a connection are in hand at most.
 pub const MOST_PENDING_FRAMES: usize = 64;
@@ -32,10 +35,9 @@ pub(crate) fn take_frames<S: Read, A: Asker>(
         (inbox_remaining S.remaining inbox.new) result) }
 {
     for _ in 0..MOST_PENDING_FRAMES {
-        let Some(request) = read_frame(alloc, inbox)? else {
+        let Some(pending) = take_next(alloc, inbox, asker)? else {
             return Ok(false);
         };
-        let pending = take_frame(alloc, asker, &request);
         let waits = waits(&pending);
         all_pending.push_back_reserved(pending);
         if waits {
@@ -46,6 +48,27 @@ pub(crate) fn take_frames<S: Read, A: Asker>(
         }
     }
     Ok(true)
+}
+
+/// Takes the next frame in hand, where it lies if all of it has come: it isn't copied then. `None`: the input has ended.
+fn take_next<S: Read, A: Asker>(
+    alloc: Global,
+    inbox: &mut Inbox<S>,
+    asker: &mut A,
+) -> Result<Option<PendingFrame<A::Ticket>>, WireFault>
+    ensures { IfSome (inbox_remaining S.remaining inbox.old) (λ input. TookNext A.answer A.makes A.lacks asker.old input
+        result asker.new (inbox_remaining S.remaining inbox.new)) }
+{
+    if let Some((content, _)) = whole_frame(inbox.unread()) {
+        let count = LENGTH_BYTES + content.len();
+        let pending = take_frame(alloc, asker, content);
+        inbox.advance(count);
+        return Ok(Some(pending));
+    }
+    match read_frame(alloc, inbox)? {
+        Some(frame) => Ok(Some(take_frame(alloc, asker, frame.content()))),
+        None => Ok(None),
+    }
 }
 
 /// Whether a frame in hand has calls that are to be made again after a wait.

@@ -102,7 +102,7 @@ fn answer_of<C: Caller>(alloc: Global, caller: &mut C, request: &Frame) -> Resul
         (λ fault. IsFailed C.answers C.fails caller.old request.now.content fault caller.new) }
     ensures fits { IfOk result (λ reply. length (reply_encoding reply) ≤ MAX_FRAME_CONTENT) }
 {
-    match read_request(alloc, request) {
+    match read_request(alloc, request.content()) {
         Ok(asked) => answer_request(alloc, caller, asked),
         Err(CallFault::NoCall) => Ok(no_call(alloc, request.number())),
         Err(CallFault::NoMemory) => Ok(no_memory(alloc, request.number())),

@@ -1,4 +1,4 @@
-ghost use Rattle.std.specs.Prelude.{◌≡◌, ◌⊎◌, true, false, None, Some, IfErr, IfOk};
+ghost use Rattle.std.specs.Prelude.{◌≡◌, ◌⊎◌, true, false, None, Some, IfErr, IfOk, length};
 ghost use Rattle.ipc_model.specs.calls.Step.{succeeded};
 ghost use Rattle.calls.specs.declared.request.Request.{Request};
 ghost use Rattle.ipc_model.specs.declared.call.Call.{Call};
@@ -6,36 +6,38 @@ ghost use Rattle.frame_service.specs.Asking.{AsksConfine, AsksOne, IsTaken, Proc
 ghost use Rattle.frame_service.specs.Serving.{confine_shortage, only_code, shortage_of};
 ghost use Rattle.frame_service.specs.declared.asking.PendingFrame.TheVariants.{Settled, Waits};
 ghost use Rattle.frame_service.specs.declared.asking.Ready.TheVariants as ready;
+ghost use Rattle.wire.specs.Frame.{IsContentLength};
 
 use crate::asking::{Asker, PendingFrame, Ready};
 use crate::caller::shortage;
 use crate::confining::confine_shortage;
 use crate::service::{no_call, no_memory, only_code};
 use crate::short_reply::ShortReply;
+use byteorder::{ByteOrder, LittleEndian};
 use calls::{CallFault, MessageRequest, Request, read_request};
 use codes::KernReturn;
 use ipc_model::{Call, PlainCall};
 use std::alloc::Global;
-use wire::Frame;
 
-/// Takes a frame in hand: makes its calls as far as they can be made now. A frame that asks for nothing gets the reply
-/// for that.
+/// Takes a frame of this content in hand: makes its calls as far as they can be made now. A frame that asks for nothing
+/// gets the reply for that.
 pub(crate) fn take_frame<A: Asker>(
     alloc: Global,
     asker: &mut A,
-    request: &Frame,
+    content: &[u8],
 ) -> PendingFrame<A::Ticket>
-    ensures { IsTaken A.answer A.makes A.lacks asker.old request.now.content result asker.new }
+    requires { IsContentLength (length content.now) }
+    ensures { IsTaken A.answer A.makes A.lacks asker.old content.now result asker.new }
 {
-    match read_request(alloc, request) {
+    match read_request(alloc, content) {
         Ok(asked) => take_request(alloc, asker, asked),
         Err(CallFault::NoCall) => PendingFrame::Settled(Ready::Known(ShortReply::new(no_call(
             alloc,
-            request.number(),
+            LittleEndian::read_u32(content),
         )))),
         Err(CallFault::NoMemory) => PendingFrame::Settled(Ready::Known(ShortReply::new(no_memory(
             alloc,
-            request.number(),
+            LittleEndian::read_u32(content),
         )))),
     }
 }

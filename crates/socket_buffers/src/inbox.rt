@@ -1,4 +1,4 @@
-ghost use Rattle.std.specs.Prelude.{◌≡◌, ◌≢◌, ◌≤◌, [], length, take};
+ghost use Rattle.std.specs.Prelude.{◌≡◌, ◌≢◌, ◌≤◌, [], length, take, drop};
 ghost use Rattle.socket_buffers.specs.Boxes.{FillsFrom, inbox_remaining};
 
 use bytes::BytesMut;
@@ -101,6 +101,14 @@ impl<R: Read> Inbox<R> {
         ensures { result.now ≡ self.now.bytes }
     {
         self.bytes.as_slice()
+    }
+
+    /// Takes as many bytes off the front of what came: they were read where they lie.
+    pub fn advance(&mut self, count: usize)
+        requires { count ≤ length self.old.bytes }
+        ensures { self.new ≡ record self.old { bytes = drop count self.old.bytes } }
+    {
+        self.bytes.advance(count);
     }
 
     /// What the stream still has, as far as is known.

@@ -7,26 +7,26 @@ use Rattle.calls.proofs.request.read_request.Goals as goal
 pub returns-then-number-eq-MACH_MSG-clause-found :
     goal.returns-then-number-eq-MACH_MSG-clause-found
 returns-then-number-eq-MACH_MSG-clause-found c =
-    asks_in_front c.args.frame.now.content c.in-Some.arguments.now c.read_mach_msg.result
-    (sym c.content.ensures.value ∙ c.in-Some.ensures.found ∙ ap
+    asks_in_front c.args.content.now c.in-Some.arguments.now c.read_mach_msg.result
+    (c.in-Some.ensures.found ∙ ap
     (λ (n : ℕ). word n ++ c.in-Some.arguments.now) c.if-number-eq-MACH_MSG.true) c.read_mach_msg.ensures.found
 
 pub returns-then-number-eq-MACH_MSG-clause-only : goal.returns-then-number-eq-MACH_MSG-clause-only
 returns-then-number-eq-MACH_MSG-clause-only c =
-    asks_after c.args.frame.now.content c.in-Some.arguments.now c.read_mach_msg.result
-    (sym c.content.ensures.value ∙ c.in-Some.ensures.found ∙ ap
+    asks_after c.args.content.now c.in-Some.arguments.now c.read_mach_msg.result
+    (c.in-Some.ensures.found ∙ ap
     (λ (n : ℕ). word n ++ c.in-Some.arguments.now) c.if-number-eq-MACH_MSG.true) c.read_mach_msg.ensures.only
 
 pub returns-in-Ok-clause-only : goal.returns-in-Ok-clause-only
 returns-in-Ok-clause-only c =
-    one_numbered c.args.frame.now.content c.in-Some.arguments.now c.read_numbered.result c.in-Ok.call
-    (sym c.content.ensures.value ∙ c.in-Some.ensures.found ∙ ap
+    one_numbered c.args.content.now c.in-Some.arguments.now c.read_numbered.result c.in-Ok.call
+    (c.in-Some.ensures.found ∙ ap
     (λ (n : ℕ). word n ++ c.in-Some.arguments.now) c.if-number-eq-NUMBERED.true) c.in-Ok.is c.read_numbered.ensures.only
 
 pub returns-in-Err-clause-only : goal.returns-in-Err-clause-only
 returns-in-Err-clause-only c =
-    only_numbered c.args.frame.now.content c.in-Some.arguments.now c.read_numbered.result c.in-Err.fault
-    (sym c.content.ensures.value ∙ c.in-Some.ensures.found ∙ ap
+    only_numbered c.args.content.now c.in-Some.arguments.now c.read_numbered.result c.in-Err.fault
+    (c.in-Some.ensures.found ∙ ap
     (λ (n : ℕ). word n ++ c.in-Some.arguments.now) c.if-number-eq-NUMBERED.true) c.in-Err.is
     c.read_numbered.ensures.only
 
@@ -38,7 +38,7 @@ returns-in-Err-clause-memory c = λ is.
       asks.1,
       (
         c.in-Some.arguments.now,
-        (sym c.content.ensures.value ∙ c.in-Some.ensures.found ∙ ap
+        (c.in-Some.ensures.found ∙ ap
             (λ (n : ℕ). word n ++ c.in-Some.arguments.now) c.if-number-eq-NUMBERED.true),
         asks.2,
       ),
@@ -46,14 +46,14 @@ returns-in-Err-clause-memory c = λ is.
 
 pub returns-then-number-eq-CONFINE-clause-found : goal.returns-then-number-eq-CONFINE-clause-found
 returns-then-number-eq-CONFINE-clause-found c =
-    confine_found c.args.frame.now.content c.in-Some.arguments.now c.read_confine.result
-    (sym c.content.ensures.value ∙ c.in-Some.ensures.found ∙ ap
+    confine_found c.args.content.now c.in-Some.arguments.now c.read_confine.result
+    (c.in-Some.ensures.found ∙ ap
     (λ (n : ℕ). word n ++ c.in-Some.arguments.now) c.if-number-eq-CONFINE.true) c.read_confine.ensures.found
 
 pub returns-then-number-eq-CONFINE-clause-only : goal.returns-then-number-eq-CONFINE-clause-only
 returns-then-number-eq-CONFINE-clause-only c =
-    confine_only c.args.frame.now.content c.in-Some.arguments.now c.read_confine.result
-    (sym c.content.ensures.value ∙ c.in-Some.ensures.found ∙ ap
+    confine_only c.args.content.now c.in-Some.arguments.now c.read_confine.result
+    (c.in-Some.ensures.found ∙ ap
     (λ (n : ℕ). word n ++ c.in-Some.arguments.now) c.if-number-eq-CONFINE.true) c.read_confine.ensures.found
     c.read_confine.ensures.none
 

@@ -1,8 +1,7 @@
 use Rattle.std.proofs.Common.{Err, ap, ◌∙◌, arith}
 use Rattle.std.proofs.lemmas.Result.{err_from_is_err_and}
-use Rattle.frame_service.proofs.Acting.{none_taken, one_taken}
-use Rattle.frame_service.proofs.Going.{end_read, frame_read}
-use Rattle.frame_service.proofs.Turns.{one_known, took_all, took_some, took_stops}
+use Rattle.frame_service.proofs.Acting.{none_taken}
+use Rattle.frame_service.proofs.Turns.{one_known, took_all, took_one, took_some, took_stops}
 use Rattle.frame_service.proofs.rounds.take_frames.Goals as goal
 
 pub loop-init : goal.loop-init
@@ -14,46 +13,37 @@ loop-init g c = record {
       c.args.asker.now c.args.all_pending.now.items input _ c.requires.none.0 known;
 }
 
-pub returns-in_err-request-clause-took : goal.returns-in_err-request-clause-took
-returns-in_err-request-clause-took g c = one_known _ _ (λ input known.
+pub returns-in_err-pending-clause-took : goal.returns-in_err-pending-clause-took
+returns-in_err-pending-clause-took g c = one_known _ _ (λ input known.
     let p = err_from_is_err_and c.from_residual.result c.from_residual.ensures.1 in
     took_stops g.A.Asker.answer g.A.Asker.makes g.A.Asker.lacks g.A.Asker.acknowledges g.A.Asker.fails c.args.asker.now
-    c.loop.asker c.loop.all_pending.items input _ _ c.loop.counter _ c.from_residual.result
-    (c.loop.invariant.taking input known) c.in_err-request.ensures.exact (p.1 ∙ ap Err p.2))
+    c.loop.asker _ c.loop.all_pending.items input _ _ c.loop.counter _ c.from_residual.result
+    (c.loop.invariant.taking input known) c.in_err-pending.ensures (p.1 ∙ ap Err p.2))
 
 pub returns-in_default-clause-took : goal.returns-in_default-clause-took
 returns-in_default-clause-took g c = one_known _ _ (λ input known.
-    let so_far = c.loop.invariant.taking input known in
     took_all g.A.Asker.answer g.A.Asker.makes g.A.Asker.lacks g.A.Asker.acknowledges g.A.Asker.fails c.args.asker.now
-    c.loop.asker c.loop.all_pending.items input _ _ c.loop.counter so_far
-    (end_read _ _ so_far.rest so_far.left_is (rw c.in_default.is at c.in_ok-request.ensures.exact)))
+    c.loop.asker _ c.loop.all_pending.items input _ _ c.loop.counter (c.loop.invariant.taking input known)
+    (rw c.in_default.is at c.in_ok-pending.ensures))
 
 pub returns-then-waits-clause-took : goal.returns-then-waits-clause-took
 returns-then-waits-clause-took g c = one_known _ _ (λ input known.
-    let so_far = c.loop.invariant.taking input known in
-    let front =
-    frame_read _ _ so_far.rest c.in-Some.request.content so_far.left_is
-    (rw c.in-Some.is at c.in_ok-request.ensures.found) in
     took_some g.A.Asker.answer g.A.Asker.makes g.A.Asker.lacks g.A.Asker.acknowledges g.A.Asker.fails c.args.asker.now _
     _ input _ _
-    (one_taken g.A.Asker.answer g.A.Asker.makes g.A.Asker.lacks g.A.Asker.acknowledges g.A.Asker.fails c.args.asker.now
-    c.loop.asker c.take_frame-pending.new.asker c.loop.all_pending.items c.push_back_reserved.new.self.items
-    c.take_frame-pending.result input c.in-Some.request.content front.0 _ _ c.loop.counter so_far front.1
-    front.2 c.take_frame-pending.ensures c.push_back_reserved.ensures.items)
+    (took_one g.A.Asker.answer g.A.Asker.makes g.A.Asker.lacks g.A.Asker.acknowledges g.A.Asker.fails c.args.asker.now
+    c.loop.asker _ c.loop.all_pending.items c.push_back_reserved.new.self.items c.in-Some.pending input _ _
+    c.loop.counter (c.loop.invariant.taking input known) (rw c.in-Some.is at c.in_ok-pending.ensures)
+    c.push_back_reserved.ensures.items)
     (omega arith))
 
 pub returns-then-not-holds_frame-clause-took : goal.returns-then-not-holds_frame-clause-took
 returns-then-not-holds_frame-clause-took g c = one_known _ _ (λ input known.
-    let so_far = c.loop.invariant.taking input known in
-    let front =
-    frame_read _ _ so_far.rest c.in-Some.request.content so_far.left_is
-    (rw c.in-Some.is at c.in_ok-request.ensures.found) in
     took_some g.A.Asker.answer g.A.Asker.makes g.A.Asker.lacks g.A.Asker.acknowledges g.A.Asker.fails c.args.asker.now _
     _ input _ _
-    (one_taken g.A.Asker.answer g.A.Asker.makes g.A.Asker.lacks g.A.Asker.acknowledges g.A.Asker.fails c.args.asker.now
-    c.loop.asker c.take_frame-pending.new.asker c.loop.all_pending.items c.push_back_reserved.new.self.items
-    c.take_frame-pending.result input c.in-Some.request.content front.0 _ _ c.loop.counter so_far front.1
-    front.2 c.take_frame-pending.ensures c.push_back_reserved.ensures.items)
+    (took_one g.A.Asker.answer g.A.Asker.makes g.A.Asker.lacks g.A.Asker.acknowledges g.A.Asker.fails c.args.asker.now
+    c.loop.asker _ c.loop.all_pending.items c.push_back_reserved.new.self.items c.in-Some.pending input _ _
+    c.loop.counter (c.loop.invariant.taking input known) (rw c.in-Some.is at c.in_ok-pending.ensures)
+    c.push_back_reserved.ensures.items)
     (omega arith))
 
 pub loop-preserved : goal.loop-preserved
@@ -61,14 +51,10 @@ loop-preserved g c = record {
   room = omega (arith, c.loop.invariant.room, c.push_back_reserved.ensures.capacity);
   counted = omega (arith, c.loop.invariant.counted, c.push_back_reserved.ensures.len);
   taking = λ input known.
-      let so_far = c.loop.invariant.taking input known in
-      let front =
-      frame_read _ _ so_far.rest c.in-Some.request.content so_far.left_is
-      (rw c.in-Some.is at c.in_ok-request.ensures.found) in
-      one_taken g.A.Asker.answer g.A.Asker.makes g.A.Asker.lacks g.A.Asker.acknowledges g.A.Asker.fails c.args.asker.now
-      c.loop.asker c.take_frame-pending.new.asker c.loop.all_pending.items c.push_back_reserved.new.self.items
-      c.take_frame-pending.result input c.in-Some.request.content front.0 _ _ c.loop.counter so_far front.1
-      front.2 c.take_frame-pending.ensures c.push_back_reserved.ensures.items;
+      took_one g.A.Asker.answer g.A.Asker.makes g.A.Asker.lacks g.A.Asker.acknowledges g.A.Asker.fails
+      c.args.asker.now c.loop.asker _ c.loop.all_pending.items c.push_back_reserved.new.self.items c.in-Some.pending
+      input _ _ c.loop.counter (c.loop.invariant.taking input known) (rw c.in-Some.is at c.in_ok-pending.ensures)
+      c.push_back_reserved.ensures.items;
 }
 
 pub returns-clause-took : goal.returns-clause-took
