@@ -163,7 +163,7 @@ past_end a rest =
     by_length true n beyond = refl
     by_length false n beyond = goes_past n beyond
 
-nothing_left : (rest : List ℕ) → front_of rest ≡ ended → rest ≡ []
+pub nothing_left : (rest : List ℕ) → front_of rest ≡ ended → rest ≡ []
 unfolding is_ended
 nothing_left [] is = refl
 nothing_left (a ∷ rest) is = absurd (cc (sym (past_end a rest) ∙ ap is_ended is))

@@ -1,7 +1,7 @@
 -- How frames are taken.
-use Rattle.std.proofs.Common.{◌≡◌, ◌≤◌, ◌+◌, ◌-◌, ◌^◌, ℕ, Bool, true, false, inl, inr, List, [], ◌∷◌, ◌++◌, length, drop, Option, None, Some, Result, Ok, Err, IfSome, refl, sym, ap, subst, ◌∙◌, arith}
+use Rattle.std.proofs.Common.{◌≡◌, ◌≤◌, ◌+◌, ◌-◌, ◌^◌, ℕ, Bool, true, false, inl, inr, List, [], ◌∷◌, ◌++◌, length, drop, Option, None, Some, Result, Ok, Err, IfSome, refl, sym, ap, subst, ◌∙◌, arith, append_assoc, length-append}
 use Rattle.std.specs.Prelude.{IfErr}
-use Rattle.std.proofs.lemmas.List.{append-nil, append_assoc, drop_at, length-append}
+use Rattle.std.proofs.lemmas.List.{append-nil, drop_at}
 use Rattle.std.specs.Io.KnownBytes.{prepend_known}
 use Rattle.calls.specs.declared.request.Request.{Request}
 use Rattle.ipc_model.specs.declared.reply.Reply.{Reply}
