@@ -143,46 +143,9 @@ impl Kernel {
 
     /// Makes one step of the machine as `apply` does, and has its record written before the step is committed. If an
     /// allocation fails, neither the kernel nor the recorder changed.
+    ///
+    /// It names the places at which the step may have given a waiting call something to do: no wake-up is lost.
     pub fn apply_recorded<R: Recorder>(
-        &mut self,
-        space: u32,
-        call: &Call,
-        recorder: &mut R,
-    ) -> Result<Reply, AllocError>
-        requires { R.has_room recorder.old }
-        ensures step { IfOk result (λ reply. Step self.old space call.now reply self.new) }
-        ensures number { IfOk result (λ reply. number_of_reply reply ≡ number_of_call call.now) }
-        ensures written { IfOk result (λ reply. has_record call.now reply ≡ true
-            → R.wrote recorder.old space call.now reply recorder.new) }
-        ensures unwritten { IfOk result (λ reply. has_record call.now reply ≡ false → recorder.new ≡ recorder.old) }
-        ensures fits { IfOk result (λ reply. length (reply_encoding reply) ≤ MAX_FRAME_CONTENT) }
-        ensures err { OnErr result ((self.new ≡ self.old) × (recorder.new ≡ recorder.old)) }
-    {
-        call_in_range(call);
-        match step_recorded(
-            self.alloc,
-            &mut self.state,
-            &mut self.kept,
-            space,
-            call,
-            recorder,
-        ) {
-            Ok(reply) => {
-                reply_in_range(call, &reply);
-                self.state.commit();
-                self.state.show_queues_short();
-                Ok(reply)
-            }
-            Err(error) => {
-                self.state.roll_back();
-                Err(error)
-            }
-        }
-    }
-
-    /// Makes one step of the machine as `apply_recorded` does, and names the places at which it may have given a
-    /// waiting call something to do: no wake-up is lost.
-    pub fn apply_naming<R: Recorder>(
         &mut self,
         space: u32,
         call: &Call,

@@ -7,6 +7,7 @@ use ipc_model::{Call, PlainCall, PlainReply, Record, Reply};
 use kernel::{Kernel, ReplayFault};
 use snapshot::Snapshot;
 use std::alloc::Global;
+use waiting::Places;
 
 /// The first words of a reply's frame.
 pub(crate) type Words = [u32; 4];
@@ -29,7 +30,7 @@ pub(crate) trait Machine {
     fn make(&mut self, space: u32, call: &Call) -> Option<Words>;
 
     /// Makes a call of space 1, if there is memory for it and for its record.
-    fn make_recorded(&mut self, call: &Call, counter: &mut Counter) -> Option<Words>;
+    fn make_recorded(&mut self, alloc: Global, call: &Call, counter: &mut Counter) -> Option<Words>;
 
     /// The answer to a call that has no record, if there is memory.
     fn answered(&self, space: u32, call: &Call) -> Option<Option<Words>>;
@@ -109,8 +110,16 @@ impl Machine for Kernel {
         Some(words(self.apply(space, call).ok()?))
     }
 
-    fn make_recorded(&mut self, call: &Call, counter: &mut Counter) -> Option<Words> {
-        Some(words(self.apply_recorded(1, call, counter).ok()?))
+    fn make_recorded(
+        &mut self,
+        alloc: Global,
+        call: &Call,
+        counter: &mut Counter,
+    ) -> Option<Words> {
+        let mut places = Places::none(alloc);
+        let made = self.apply_recorded(1, call, counter, &mut places);
+        drop(places);
+        Some(words(made.ok()?))
     }
 
     fn answered(&self, space: u32, call: &Call) -> Option<Option<Words>> {

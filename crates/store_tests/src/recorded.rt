@@ -36,16 +36,16 @@ fn seen<M: Machine>(machine: &M, counter: &Counter) -> Seen {
 }
 
 /// Whether a call changes nothing if memory for its record runs out; and what it answers if there is memory.
-fn tried<M: Machine>(machine: &mut M, call: &Call) -> (bool, Option<Words>, u32) {
+fn tried<M: Machine>(alloc: Global, machine: &mut M, call: &Call) -> (bool, Option<Words>, u32) {
     let mut counter = Counter {
         has_memory: false,
         written: 0,
     };
     let before = seen(machine, &counter);
-    let refused = machine.make_recorded(call, &mut counter).is_none();
+    let refused = machine.make_recorded(alloc, call, &mut counter).is_none();
     let is_same = seen(machine, &counter) == before;
     counter.has_memory = true;
-    let answer = machine.make_recorded(call, &mut counter);
+    let answer = machine.make_recorded(alloc, call, &mut counter);
     (refused && is_same, answer, counter.written)
 }
 
@@ -56,7 +56,7 @@ fn tried_alongside_one_port<M: Machine + Drop>(
 ) -> Option<(bool, Option<Words>, u32)> {
     let mut machine: M = after_allocated(alloc, 1, 0x100)?;
     let call = asked.call();
-    let seen = tried(&mut machine, &call);
+    let seen = tried(alloc, &mut machine, &call);
     drop(call);
     drop(machine);
     Some(seen)

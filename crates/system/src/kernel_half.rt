@@ -144,28 +144,25 @@ impl KernelHalf {
     }
 
     /// Makes a call of a task of this space. Its record, if it has one, then waits to be taken.
-    pub fn submit(&mut self, space: u32, call: &Call) -> Result<Ticket, SubmitFault>
+    ///
+    /// It names the places at which the call may have given a waiting call something to do: no wake-up is lost.
+    pub fn submit(
+        &mut self,
+        space: u32,
+        call: &Call,
+        places: &mut Places,
+    ) -> Result<Ticket, SubmitFault>
         ensures given { IfOk result (λ ticket. Gives self.old space call.now ticket self.new) }
+        ensures wakes { IfOk result (λ ticket. Wakes self.old.kernel.ipc self.new.kernel.ipc (names places.new)) }
         ensures full { IsErrOf result SubmitFault.EpochFull → IsFullFor self.old space call.now }
         ensures err { OnErr result (self.new ≡ self.old) }
     {
-        call_in_range(call);
-        // No machine makes this many records.
-        if self.log.made() == u64::MAX {
-            return Err(SubmitFault::NoMemory);
-        }
-        if self.log.len() >= MAX_RECORDS {
-            return self.submit_without_room(space, call);
-        }
-        let reply = self.kernel.apply_recorded(space, call, &mut self.log)?;
-        let seen = self.log.made();
-        Ok(Ticket { reply, seen })
+        let (_, made) = self.submit_with_witness(space, call, (), places);
+        made
     }
 
     /// Makes a call as `submit` does, together with a witness that learns of its record, if it has one, before the call
     /// is committed. If the witness can't learn of it, the answer is out of memory, and nothing changed.
-    ///
-    /// It names the places at which the call may have given a waiting call something to do: no wake-up is lost.
     pub fn submit_with_witness<W: Witness>(
         &mut self,
         space: u32,
@@ -346,7 +343,7 @@ fn apply_with_witness<W: Witness>(
         log: taken,
         witness,
     };
-    let made = kernel.apply_naming(space, call, &mut both, places);
+    let made = kernel.apply_recorded(space, call, &mut both, places);
     let Witnessed { log: left, witness } = both;
     *log = left;
     (witness, made)

@@ -21,6 +21,7 @@ use std::alloc::Global;
 use std::marker::Model;
 use store_fault::StoreFault;
 use store_half::{Finished, Receipt, StoreHalf};
+use waiting::Places;
 
 /// Why a call of a single caller wasn't answered.
 #[derive(Clone, Copy, Debug, PartialEq, Eq)]
@@ -69,6 +70,9 @@ pub struct System<D: Disk> {
     // Whether the image's receipt is older than the batch's, if both are out.
     pub(crate) finished_first: bool,
     pub(crate) tickets: Tickets,
+
+    // The places that the last call named. No call waits here, so nobody looks; the room is used again.
+    pub(crate) places: Places,
 }
 
 // Written out, so that proofs above know one function and not its parts.
@@ -83,6 +87,7 @@ impl<D: Disk + Drop> Drop for System<D> {
             finished,
             finished_first: _,
             tickets,
+            places,
         } = self;
         drop(core);
         drop(store);
@@ -90,6 +95,7 @@ impl<D: Disk + Drop> Drop for System<D> {
         drop(receipt);
         drop(finished);
         drop(tickets);
+        drop(places);
     }
 }
 
@@ -146,6 +152,7 @@ impl<D: Disk> System<D> {
             finished: None,
             finished_first: false,
             tickets: Tickets::new(alloc),
+            places: Places::none(alloc),
         }
     }
 
@@ -166,6 +173,7 @@ impl<D: Disk> System<D> {
             finished: _,
             finished_first: _,
             tickets: _,
+            places: _,
         } = self;
         drop(core);
         store.into_disk()
@@ -184,7 +192,7 @@ impl<D: Disk> System<D> {
             return Err(SubmitFault::NoMemory);
         }
         self.tickets.make_place()?;
-        match self.core.submit(space, call) {
+        match self.core.submit(space, call, &mut self.places) {
             Ok(ticket) => Ok(self.tickets.give(ticket)),
             Err(fault) => {
                 self.tickets.drop_place();
