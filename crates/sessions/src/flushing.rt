@@ -83,11 +83,12 @@ impl<L: Founding, D: Disk, G: Gate> Shared<L, D, G> {
         match appended {
             Ok((receipt, stored)) => {
                 self.store_changed.notify_all();
-                self.gate.pass(rt, LoopStep::Durable);
-                self.guarded.lock(rt).learn(receipt);
+                // Replies needn't wait for the kernel's lock, which is busy where many call.
                 let side = self.replies.lock(rt).store(stored);
                 self.wake_workers(rt);
                 self.replies_at(side).notify_all();
+                self.gate.pass(rt, LoopStep::Durable);
+                self.guarded.lock(rt).learn(receipt);
                 Ok(true)
             }
             Err((why, back)) => self.put_off(rt, why, back),
