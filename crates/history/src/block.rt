@@ -58,13 +58,13 @@ impl EntryBlock {
     }
 
     /// Sets the cell at a place, and returns a note that knows what lies there now.
-    pub(crate) fn set(&self, alloc: Global, at: usize, held: Held) -> Result<Note<Held>, AddFault>
+    pub(crate) fn set(&self, at: usize, held: Box<Held>) -> Result<Note<Held>, AddFault>
         ensures cell { IfOk result (λ note. slice_get self.now.cells at ≡ Some note.cell) }
-        ensures known { IfOk result (λ note. note.known ≡ Some held) }
+        ensures known { IfOk result (λ note. note.known ≡ Some held.value) }
         ensures full { IsErrOf result AddFault.BlockFull → length self.now.cells ≤ at }
     {
         match self.cells.get(at) {
-            Some(cell) => set_cell(alloc, cell, held),
+            Some(cell) => set_cell(cell, held),
             None => Err(AddFault::BlockFull),
         }
     }
@@ -88,7 +88,8 @@ impl EntryBlock {
         ensures known { IfOk result (λ note. note.known ≡ Some link) }
         ensures full { IsErrOf result AddFault.BlockFull → ⊥ }
     {
-        set_cell(alloc, &self.link, link)
+        let boxed = link.boxed(alloc)?;
+        set_cell(&self.link, boxed)
     }
 
     /// How many entries there were when this block was left, with a note that knows the link. `None` if it wasn't left

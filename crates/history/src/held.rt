@@ -1,56 +1,55 @@
 ghost use Rattle.std.specs.Prelude.{◌≡◌, IfOk};
 
 use crate::Entry;
-use boxcar::tag::Tag;
+use boxcar::tag::{Names, Tag};
 use std::alloc::{AllocError, Global};
 use std::marker::Model;
-use std::sync::Arc;
 
-/// An entry, and ghost: all entries before it.
+/// An entry as it lies in its cell or, copied, in the list of a reader, and ghost: all entries before it.
 #[derive(Drop)]
-struct Placed {
+pub(crate) struct Held {
     entry: Entry,
     before: Tag,
 }
 
-/// An entry as it lies in its cell and in the lists of its readers, which share it.
-#[derive(Drop)]
-pub(crate) struct Held {
-    placed: Arc<Placed, Global>,
-}
-
 impl Model for Held {
-    ghost use Rattle.std.specs.Arc.{arc_value};
     ghost use Rattle.history.specs.Entries.{PlacedValue, placed_code};
 
     ghost Value = { PlacedValue };
 
     ghost coded = { placed_code };
 
-    ghost view = { λ h. record { entry = (arc_value h.placed).entry; before = (arc_value h.placed).before.numbers } };
+    ghost view = { λ h. record { entry = h.entry; before = h.before.numbers } };
+}
+
+/// All entries before this one.
+struct Before;
+
+impl Names<Held> for Before {
+    ghost numbers = { λ held. held.before };
 }
 
 impl Held {
-    /// An entry that comes after those that the tag stands for.
-    pub(crate) fn new(alloc: Global, entry: Entry, before: Tag) -> Result<Self, AllocError>
-        ensures { IfOk result (λ held. held ≡ record { entry = entry; before = before.numbers }) }
+    /// An entry that comes after those that the tag stands for, in a box as its cell takes it.
+    pub(crate) fn boxed(alloc: Global, entry: Entry, before: Tag) -> Result<Box<Self>, AllocError>
+        ensures { IfOk result (λ held. held.value ≡ record { entry = entry; before = before.numbers }) }
     {
-        let placed = Arc::new(alloc, Placed { entry, before })?;
-        Ok(Held { placed })
+        Ok(Box::new(alloc, Held { entry, before })?)
     }
 
-    /// Another handle to the same entry.
-    pub(crate) fn share(&self) -> Result<Self, AllocError>
+    /// The same entry once more, after the same ones.
+    pub(crate) fn copy(&self, alloc: Global) -> Result<Self, AllocError>
         ensures { IfOk result (λ held. held ≡ self.now) }
     {
-        let placed = Arc::try_clone(&self.placed)?;
-        Ok(Held { placed })
+        let entry = self.entry.copy(alloc)?;
+        let before = Tag::of::<Held, Before>(self);
+        Ok(Held { entry, before })
     }
 
     /// The entry itself.
     pub(crate) fn entry(&self) -> &Entry
         ensures { result.now ≡ self.now.entry }
     {
-        &self.placed.entry
+        &self.entry
     }
 }

@@ -3,6 +3,7 @@
 
 mod block;
 mod cell;
+mod copies;
 mod entry;
 mod fault;
 mod founding;

@@ -1,7 +1,8 @@
-ghost use Rattle.std.specs.Prelude.{◌≡◌};
+ghost use Rattle.std.specs.Prelude.{◌≡◌, IfOk};
 ghost use Rattle.history.specs.Blocks.{names_of_numbers, numbers_of_names, next_names};
 
 use boxcar::tag::{Names, Tag};
+use std::alloc::{AllocError, Global};
 use std::marker::Model;
 
 /// Where one entry block ended and the next began, and ghost: the names of the cells from then on.
@@ -54,6 +55,13 @@ impl Link {
             block: _,
         } = left;
         Link { start: long, next }
+    }
+
+    /// The link in a box, as its cell takes it.
+    pub(crate) fn boxed(self, alloc: Global) -> Result<Box<Self>, AllocError>
+        ensures { IfOk result (λ link. link.value ≡ self) }
+    {
+        Ok(Box::new(alloc, self)?)
     }
 
     /// How many entries there were.

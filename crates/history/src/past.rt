@@ -146,20 +146,20 @@ impl<L: FirstBlock> Past<L> {
         ensures err { OnErr result (self.new ≡ self.old) }
     {
         let before = Tag::of::<Past<L>, AllBefore>(self);
-        let held = Held::new(self.alloc, entry, before)?;
+        let held = Held::boxed(self.alloc, entry, before)?;
         self.put(held)
     }
 
-    fn put(&mut self, held: Held) -> Result<(), AddFault>
-        requires { held.before ≡ numbers_of self.old.entries }
-        ensures ok { OnOk result (self.new ≡ record self.old { entries = self.old.entries ++ held.entry ∷ [] }) }
+    fn put(&mut self, held: Box<Held>) -> Result<(), AddFault>
+        requires { held.value.before ≡ numbers_of self.old.entries }
+        ensures ok { OnOk result (self.new ≡ record self.old { entries = self.old.entries ++ held.value.entry ∷ [] }) }
         ensures full { IsErrOf result AddFault.BlockFull
             → self.old.start + length self.old.block.cells ≤ length self.old.entries }
         ensures err { OnErr result (self.new ≡ self.old) }
     {
         self.notes.reserve(1)?;
         let at = self.notes.len() - self.place.start();
-        match self.place.block().set(self.alloc, at, held) {
+        match self.place.block().set(at, held) {
             Ok(note) => {
                 self.notes.push_reserved(note);
                 Ok(())

@@ -5,7 +5,7 @@ use crate::notes::again_at;
 use crate::{EntryBlock, FirstBlock, Past};
 use ipc_model::Record;
 use once_cell::race::Note;
-use std::alloc::AllocError;
+use std::alloc::{AllocError, Global};
 
 impl<L: FirstBlock> Past<L> {
     /// How many entries of its block were read.
@@ -29,7 +29,7 @@ impl<L: FirstBlock> Past<L> {
         Some(&held.entry().record)
     }
 
-    /// Reads the entries of its block that it knows, from their cells. It takes no lock. If an allocation fails, what
+    /// Copies the entries of its block that it knows out of their cells. It takes no lock. If an allocation fails, what
     /// was read stays.
     pub fn read(&mut self) -> Result<(), AllocError>
         ensures ok { OnOk result (self.new ≡ record self.old { read = length self.old.entries - self.old.start }) }
@@ -51,20 +51,25 @@ impl<L: FirstBlock> Past<L> {
         self.seen.reserve(1)?;
         let at = self.seen.len();
         let mut note = again_at(&mut self.notes, self.place.start() + at);
-        let held = share_known(self.place.block(), at, &mut note)?;
+        let held = copy_known(self.alloc, self.place.block(), at, &mut note)?;
         self.seen.push_reserved(held);
         Ok(())
     }
 }
 
-/// The entry in the cell at a place, which a note knows.
-fn share_known(block: &EntryBlock, at: usize, note: &mut Note<Held>) -> Result<Held, AllocError>
+/// A copy of the entry in the cell at a place, which a note knows.
+fn copy_known(
+    alloc: Global,
+    block: &EntryBlock,
+    at: usize,
+    note: &mut Note<Held>,
+) -> Result<Held, AllocError>
     requires cell { slice_get block.now.cells at ≡ Some note.old.cell }
     requires known { is_some note.old.known ≡ true }
     ensures { IfOk result (λ held. note.old.known ≡ Some held) }
 {
     match block.look(at, note) {
-        Some(held) => held.share(),
+        Some(held) => held.copy(alloc),
         None => unreachable!(),
     }
 }

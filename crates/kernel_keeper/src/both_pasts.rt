@@ -1,7 +1,6 @@
 ghost use Rattle.std.specs.Prelude.{◌≡◌, length, OnOk, OnErr};
 ghost use Rattle.kernel_keeper.specs.Tokens.{with_entry};
 
-use crate::copies::copy_record;
 use history::{Entry, Founding, Past};
 use ipc_model::{Call, Reply};
 use std::alloc::{AllocError, Global};
@@ -37,11 +36,7 @@ impl<L: Founding> Witness for BothPasts<L> {
     ghost learned = { λ old space c answer new. new ≡ both_learned old space c answer };
 
     fn learn(&mut self, space: u32, call: &Call, reply: &Reply) -> Result<(), AllocError> {
-        let record = copy_record(self.alloc, space, call, reply)?;
-        let entry = Entry {
-            session: self.number,
-            record,
-        };
+        let entry = Entry::new(self.alloc, self.number, space, call, reply)?;
         add_to_both(&mut self.kept, &mut self.mine, entry)
     }
 }

@@ -5,7 +5,6 @@
 mod acknowledged;
 mod admissions;
 mod both_pasts;
-mod copies;
 mod counting;
 mod destructions;
 mod keeper;

@@ -17,7 +17,7 @@ invariant_of-self-in-Ok g c =
     let same = block_cell first place.block place.links place.start (length items) c.block.ensures.here begun in
     let set : slice_get place.block.cells (length items - place.start) ≡ Some c.in-Ok.note.cell =
     cc (c.block.ensures.block, long, c.start.ensures, c.in-Ok.ensures.cell) in
-    past_more (λ n. n.cell) (λ n. n.known) first place items c.push_reserved.new.self.items c.in-Ok.note c.args.held
+    past_more (λ n. n.cell) (λ n. n.known) first place items c.push_reserved.new.self.items c.in-Ok.note c.args.held.value
     c.self.inside.seen.items
     c.self.invariant (c.push_reserved.ensures.items ∙ ap (λ l. l ++ c.in-Ok.note ∷ []) c.in_ok-reserve.ensures.items)
     (sym same ∙ set) c.in-Ok.ensures.known
@@ -27,10 +27,10 @@ pub returns-in-Ok-clause-ok : goal.returns-in-Ok-clause-ok
 returns-in-Ok-clause-ok g c =
     let all =
     entries_more (λ n. n.cell) (λ n. n.known) c.self.inside.notes.items c.push_reserved.new.self.items c.in-Ok.note
-    c.args.held
+    c.args.held.value
     (c.push_reserved.ensures.items ∙ ap (λ l. l ++ c.in-Ok.note ∷ []) c.in_ok-reserve.ensures.items)
     c.in-Ok.ensures.known in
-    let entries = all ∙ ap (λ (v : PastValue). v.entries ++ c.args.held.entry ∷ []) c.self.view_is in
+    let entries = all ∙ ap (λ (v : PastValue). v.entries ++ c.args.held.value.entry ∷ []) c.self.view_is in
     let old = c.self.view_is in
     λ i. record {
       entries = entries i;

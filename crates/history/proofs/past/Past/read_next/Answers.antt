@@ -20,8 +20,8 @@ again_at-note-requires g c =
       ap (λ (v : PastValue). length v.entries) c.self.view_is,
     )
 
-pub share_known-requires-clause-cell : goal.share_known-requires-clause-cell
-share_known-requires-clause-cell g c =
+pub copy_known-requires-clause-cell : goal.copy_known-requires-clause-cell
+copy_known-requires-clause-cell g c =
     let place = c.self.inside.place in
     let items = c.self.inside.notes.items in
     let at : slice_get items (place.start + c.len-at.result) ≡ Some c.again_at-note.result =
@@ -30,8 +30,8 @@ share_known-requires-clause-cell g c =
     ∙ seen_cell (λ n. n.cell) (λ n. n.known) g.L.FirstBlock.first place.block place.links place.start c.len-at.result
     items c.again_at-note.result c.block.ensures.here c.self.invariant.notes at
 
-pub share_known-requires-clause-known : goal.share_known-requires-clause-known
-share_known-requires-clause-known g c =
+pub copy_known-requires-clause-known : goal.copy_known-requires-clause-known
+copy_known-requires-clause-known g c =
     knows (λ n. n.cell) (λ n. n.known) c.self.inside.notes.items c.again_at-note.result _ c.self.invariant.notes.entries
     c.again_at-note.ensures.note
 
