@@ -9,7 +9,7 @@ use Rattle.ipc_model.specs.encodings.Encodings.{reply_encoding}
 use Rattle.store_fault.specs.declared.fault.StoreFault.{StoreFault}
 use Rattle.frame_service.proofs.Acting.{Taking, one_taken}
 use Rattle.frame_service.proofs.Going.{nothing_left}
-use Rattle.frame_service.specs.Asking.{Act, Acted, TookFrames, TookNext}
+use Rattle.frame_service.specs.Asking.{Act, Acted, IsTaken, TookFrames, TookNext}
 use Rattle.frame_service.specs.declared.asking.PendingFrame.{PendingFrame}
 use Rattle.frame_service.specs.declared.service.ServeFault.{ServeFault}
 use Rattle.frame_service.specs.declared.service.ServeFault.TheVariants.{Wire, Store}
@@ -27,23 +27,12 @@ one_known (Some bytes) P f = f bytes refl
 pub at_known : (o : Option (List ℕ)) (bytes : List ℕ) (P : List ℕ → Type 0) → o ≡ Some bytes → IfSome o P → P bytes
 at_known o bytes P is holds = subst (λ p. IfSome p P) is holds
 
--- a frame that lies at the front of what came, and what is left once it is taken off
-pub read_in_place : (content rest bytes after : List ℕ) (stream : Option (List ℕ))
-    → bytes ≡ frame_encoding content ++ rest → after ≡ drop (4 + length content) bytes
-    → IfSome (prepend_known bytes stream) (λ input. (beyond : List ℕ) × (input ≡ frame_encoding content ++ beyond)
-    × (prepend_known after stream ≡ Some beyond))
-read_in_place content rest bytes after None front is = tt
-read_in_place content rest bytes after (Some more) front is = (
-  rest ++ more,
-  ap (λ l. l ++ more) front ∙ append_assoc (frame_encoding content) rest more,
-  ap (λ l. Some (l ++ more)) (is ∙ left_over content rest bytes front),
-)
-  where
-    left_over : (content rest bytes : List ℕ) → bytes ≡ frame_encoding content ++ rest
-        → drop (4 + length content) bytes ≡ rest
-    left_over content rest bytes front =
-        ap (λ l. drop (4 + length content) l) front ∙ drop_at (frame_encoding content) rest (4 + length content)
-        (omega (arith, length-append (word (length content)) content, length-word (length content)))
+-- what is left of what came, once a frame at its front is taken off
+behind : (content rest bytes : List ℕ) → bytes ≡ frame_encoding content ++ rest
+    → drop (4 + length content) bytes ≡ rest
+behind content rest bytes front =
+    ap (λ l. drop (4 + length content) l) front ∙ drop_at (frame_encoding content) rest (4 + length content)
+    (omega (arith, length-append (word (length content)) content, length-word (length content)))
 
 module _ {C T : Type 0} (answer : T → Reply) (makes : C → Request → T → C → Type 0) (lacks : C → Request → C → Type 0)
     (acknowledges : C → T → C → Type 0) (fails : C → T → StoreFault → C → Type 0) where
@@ -58,6 +47,20 @@ module _ {C T : Type 0} (answer : T → Reply) (makes : C → Request → T → 
 
   abbrev NextTaken : C → List ℕ → Result (Option (PendingFrame T)) WireFault → C → Option (List ℕ) → Type 0
   NextTaken = TookNext answer makes lacks
+
+  -- a frame was taken where it lies
+  pub took_in_place : (old new : C) (content rest bytes : List ℕ) (stream : Option (List ℕ)) (pending : PendingFrame T)
+      → bytes ≡ frame_encoding content ++ rest → IsTaken answer makes lacks old content pending new
+      → IfSome (prepend_known bytes stream) (λ input. NextTaken old input (Ok (Some pending)) new
+      (prepend_known (drop (4 + length content) bytes) stream))
+  took_in_place old new content rest bytes None pending front taken = tt
+  took_in_place old new content rest bytes (Some more) pending front taken = (
+    content,
+    rest ++ more,
+    ap (λ l. l ++ more) front ∙ append_assoc (frame_encoding content) rest more,
+    ap (λ l. Some (l ++ more)) (behind content rest bytes front),
+    taken,
+  )
 
   -- the next frame can't be read
   pub took_stops : (old mid new : C) (all_pending : List (PendingFrame T)) (input : List ℕ) (left now : Option (List ℕ))
