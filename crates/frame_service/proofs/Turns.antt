@@ -1,21 +1,15 @@
 -- How frames are taken.
-use Rattle.std.proofs.Common.{◌≡◌, ◌≤◌, ◌+◌, ◌-◌, ◌^◌, ℕ, Bool, true, false, inl, inr, List, [], ◌∷◌, ◌++◌, length, drop, Option, None, Some, Result, Ok, Err, IfSome, refl, sym, ap, subst, ◌∙◌, arith, append_assoc, length-append}
-use Rattle.std.specs.Prelude.{IfErr}
-use Rattle.std.proofs.lemmas.List.{append-nil, drop_at}
+use Rattle.std.proofs.Common.{◌≡◌, ◌≤◌, ◌+◌, ℕ, Bool, true, false, List, [], ◌∷◌, ◌++◌, length, drop, Option, None, Some, Result, Ok, Err, IfSome, refl, sym, ap, subst, ◌∙◌, arith, append_assoc, length-append}
+use Rattle.std.proofs.lemmas.List.{drop_at}
 use Rattle.std.specs.Io.KnownBytes.{prepend_known}
 use Rattle.calls.specs.declared.request.Request.{Request}
 use Rattle.ipc_model.specs.declared.reply.Reply.{Reply}
-use Rattle.ipc_model.specs.encodings.Encodings.{reply_encoding}
 use Rattle.store_fault.specs.declared.fault.StoreFault.{StoreFault}
 use Rattle.frame_service.proofs.Acting.{Taking, one_taken}
 use Rattle.frame_service.proofs.Going.{nothing_left}
 use Rattle.frame_service.specs.Asking.{Act, Acted, IsTaken, TookFrames, TookNext}
 use Rattle.frame_service.specs.declared.asking.PendingFrame.{PendingFrame}
-use Rattle.frame_service.specs.declared.service.ServeFault.{ServeFault}
-use Rattle.frame_service.specs.declared.service.ServeFault.TheVariants.{Wire, Store}
-use Rattle.wire.specs.Frame.{IsReadOf}
 use Rattle.wire.specs.declared.fault.WireFault.{WireFault}
-use Rattle.wire.specs.declared.fault.WireFault.TheVariants.{Device}
 use Rattle.words.specs.WordLaws.{length-word}
 use Rattle.words.specs.Words.{frame_encoding, word}
 

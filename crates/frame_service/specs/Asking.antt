@@ -1,5 +1,5 @@
 -- A caller that may be asked for more before it answers what it was asked first: what becomes of a connection's frames.
-use Rattle.std.specs.Prelude.{◌≡◌, ◌⊎◌, ℕ, ◌-◌, ◌^◌, ◌≤◌, Bool, true, false, zero, suc, ⊤, ◌&&◌, ◌||◌, nat_le, nat_lt, List, [], ◌∷◌, ◌++◌, length, drop, cond, is_some, Option, None, Some, Result, Ok, Err}
+use Rattle.std.specs.Prelude.{◌≡◌, ◌⊎◌, ℕ, ◌≤◌, Bool, true, false, zero, ⊤, ◌&&◌, ◌||◌, nat_le, nat_lt, List, [], ◌∷◌, ◌++◌, length, drop, cond, is_some, Option, None, Some, Result, Ok, Err}
 use Rattle.byteorder.specs.Endian.{little_number}
 use Rattle.calls.specs.Requests.{Asks}
 use Rattle.calls.specs.declared.request.MessageRequest.{MessageRequest}
@@ -27,7 +27,7 @@ use Rattle.frame_service.specs.declared.service.ServeFault.TheVariants.{Wire, St
 use Rattle.wire.specs.Frame.{IsReadOf}
 use Rattle.wire.specs.Writing.{AppendsPart}
 use Rattle.wire.specs.declared.fault.WireFault.{WireFault}
-use Rattle.wire.specs.declared.fault.WireFault.TheVariants.{Device, NoMemory}
+use Rattle.wire.specs.declared.fault.WireFault.TheVariants.{Device}
 use Rattle.words.specs.Words.{frame_encoding}
 
 -- Whether a call found nothing to do: there was no message, or no room in the queue. One that is numbered never waits.
