@@ -6,3 +6,4 @@ mod RequestLaws
 mod Options
 pub mod PlainReplies
 mod Encoded
+mod Room

@@ -14,12 +14,11 @@ masked_more (m ∷ masks) (b ∷ bytes) (suc i) v less within =
 
 -- the same of a list that has been masked so far
 pub kept_more : (masks bytes kept : List ℕ) (i v : ℕ) → kept ≡ masked (take i masks) bytes → i < length masks
-    → i < length bytes → v ≡ get_or kept i v
-    → set kept i (bit_and v (get_or masks i 0)) ≡ masked (take (i + 1) masks) bytes
-kept_more masks bytes kept i v so_far less within is =
+    → i < length bytes
+    → set kept i (bit_and (get_or kept i v) (get_or masks i 0)) ≡ masked (take (i + 1) masks) bytes
+kept_more masks bytes kept i v so_far less within =
     let next : suc i ≡ i + 1 = omega arith in
-    ap (λ (w : ℕ). set kept i (bit_and w (get_or masks i 0))) is
-    ∙ ap (λ (l : List ℕ). set l i (bit_and (get_or l i v) (get_or masks i 0))) so_far
+    ap (λ (l : List ℕ). set l i (bit_and (get_or l i v) (get_or masks i 0))) so_far
     ∙ masked_more masks bytes i v less within
     ∙ ap (λ (n : ℕ). masked (take n masks) bytes) next
 

@@ -1,4 +1,5 @@
-ghost use Rattle.std.specs.Prelude.{◌≡◌, ◌<◌, ◌++◌, length, Some, IfOk, IfSome, OnOk};
+ghost use Rattle.std.specs.Prelude.{◌≡◌, ◌<◌, ◌≤◌, ◌+◌, ◌++◌, length, Some, IfOk, IfSome, OnOk, OnErr};
+ghost use Rattle.std.specs.Vec.{vec_len, vec_capacity};
 ghost use Rattle.codes.specs.declared.call_number.TheConstants.{NUMBERED};
 ghost use Rattle.ipc_model.specs.declared.call.Call.{Call};
 ghost use Rattle.ipc_model.specs.declared.call.Call.TheVariants as variants;
@@ -15,9 +16,12 @@ use ipc_model::{Call, NumberedCall};
 use std::alloc::{AllocError, Global};
 use words::take_word;
 
-/// Adds the number and the arguments of a call. If an allocation fails, some of them may have been added.
+/// Adds the number and the arguments of a call. If an allocation fails, some of them may have been added. It takes no
+/// memory if there is room.
 pub fn push_call(out: &mut Vec<u8>, call: &Call) -> Result<(), AllocError>
     ensures ok { OnOk result (out.new.items ≡ out.old.items ++ call_encoding call.now) }
+    ensures full { OnErr result (vec_capacity out.old < vec_len out.old + length (call_encoding call.now)) }
+    ensures room { vec_capacity out.old ≤ vec_capacity out.new }
 {
     match call {
         Call::Plain(call) => push_plain_call(out, call),
@@ -30,15 +34,17 @@ pub fn push_call(out: &mut Vec<u8>, call: &Call) -> Result<(), AllocError>
 }
 
 /// Adds the number and the arguments of a call as a record keeps it: of a send the message with 0 in place of what a
-/// send ignores. If an allocation fails, some of them may have been added.
-pub fn push_canonical_call(alloc: Global, out: &mut Vec<u8>, call: &Call) -> Result<(), AllocError>
+/// send ignores. If an allocation fails, some of them may have been added. It takes no memory if there is room.
+pub fn push_canonical_call(out: &mut Vec<u8>, call: &Call) -> Result<(), AllocError>
     ensures ok { OnOk result (out.new.items ≡ out.old.items ++ call_encoding (canonical_call call.now)) }
+    ensures full { OnErr result (vec_capacity out.old < vec_len out.old + length (call_encoding call.now)) }
+    ensures room { vec_capacity out.old ≤ vec_capacity out.new }
 {
     match call {
-        Call::Plain(call) => push_canonical_plain_call(alloc, out, call),
+        Call::Plain(call) => push_canonical_plain_call(out, call),
         Call::Numbered(numbered) => {
             push_words(out, &[NUMBERED, numbered.request])?;
-            push_canonical_plain_call(alloc, out, &numbered.call)
+            push_canonical_plain_call(out, &numbered.call)
         }
         Call::Unnumberable => push_words(out, &[NUMBERED]),
     }

@@ -1,4 +1,5 @@
-ghost use Rattle.std.specs.Prelude.{◌≡◌, IfOk};
+ghost use Rattle.std.specs.Prelude.{◌≡◌, ◌≤◌, ◌++◌, length, take, drop, IfOk};
+ghost use Rattle.std.specs.Vec.{vec_capacity};
 ghost use Rattle.ipc_model.specs.messages.Kept.{canonical_message};
 
 use std::alloc::{AllocError, Global};
@@ -9,14 +10,31 @@ const USED_BITS: [u8; 20] = [
     0xff, 0xff, 0, 0x80, 0, 0, 0, 0, 0xff, 0xff, 0xff, 0xff, 0xff, 0xff, 0xff, 0xff, 0, 0, 0, 0,
 ];
 
-/// The message as a record keeps it: with 0 in place of what a send ignores.
+/// Makes a message what a record keeps of it: with 0 in place of what a send ignores.
 #[tactic(auto, unfolding(ipc_model::specs::messages::Kept::canonical_message))]
+fn clear_ignored(message: &mut [u8])
+    ensures { message.new ≡ canonical_message message.old }
+{
+    for i in 0..message.len().min(USED_BITS.len()) {
+        message[i] &= USED_BITS[i];
+    }
+}
+
+/// Makes the message that stands at this place, up to the end, what a record keeps of it. It takes no memory.
+pub(crate) fn make_canonical(out: &mut Vec<u8>, at: usize)
+    requires { at ≤ length out.old.items }
+    ensures message { out.new.items ≡ take at out.old.items ++ canonical_message (drop at out.old.items) }
+    ensures room { vec_capacity out.new ≡ vec_capacity out.old }
+{
+    let (_, message) = out.as_mut_slice().split_at_mut(at);
+    clear_ignored(message);
+}
+
+/// The message as a record keeps it.
 pub(crate) fn canonical_message_of(alloc: Global, message: &[u8]) -> Result<Vec<u8>, AllocError>
     ensures { IfOk result (λ kept. kept.items ≡ canonical_message message.now) }
 {
     let mut kept = Vec::from_slice(alloc, message)?;
-    for i in 0..kept.len().min(USED_BITS.len()) {
-        kept[i] &= USED_BITS[i];
-    }
+    clear_ignored(kept.as_mut_slice());
     Ok(kept)
 }

@@ -1,10 +1,12 @@
-ghost use Rattle.std.specs.Prelude.{◌≡◌, ◌++◌, ◌<◌, ◌^◌, OnOk, flat_map, length};
+ghost use Rattle.std.specs.Prelude.{◌≡◌, ◌+◌, ◌++◌, ◌<◌, ◌≤◌, ◌^◌, OnOk, OnErr, flat_map, length};
+ghost use Rattle.std.specs.Vec.{vec_len, vec_capacity};
 ghost use Rattle.ipc_model.specs.declared.plain_call.PlainCall.TheVariants as call;
 ghost use Rattle.ipc_model.specs.encodings.PlainCalls.{call_encoding, canonical_call, reply_encoding, done_encoding, status_encoding, number_of_bool};
+ghost use Rattle.ipc_model.specs.messages.Kept.{canonical_message};
 ghost use Rattle.words.specs.Words.{word};
 ghost use Rattle.calls.specs.Rows.{names_encoding};
 
-use crate::canonical_message::canonical_message_of;
+use crate::canonical_message::make_canonical;
 use crate::record_options::receive_options;
 use crate::word_rows::push_words;
 use bitflags::Flags;
@@ -17,11 +19,13 @@ use codes::{
     SPACE_DESTROY,
 };
 use ipc_model::{NamedType, PlainCall, PlainReply, ReceiveStatus, RightKind};
-use std::alloc::{AllocError, Global};
+use std::alloc::AllocError;
 
 /// Adds two numbers, as `push_words` does.
 fn push_two(out: &mut Vec<u8>, a: u32, b: u32) -> Result<(), AllocError>
     ensures ok { OnOk result (out.new.items ≡ out.old.items ++ (word a ++ word b)) }
+    ensures full { OnErr result (vec_capacity out.old < vec_len out.old + length (word a ++ word b)) }
+    ensures room { vec_capacity out.old ≤ vec_capacity out.new }
 {
     push_words(out, &[a, b])
 }
@@ -29,6 +33,8 @@ fn push_two(out: &mut Vec<u8>, a: u32, b: u32) -> Result<(), AllocError>
 /// Adds three numbers, as `push_words` does.
 fn push_three(out: &mut Vec<u8>, a: u32, b: u32, c: u32) -> Result<(), AllocError>
     ensures ok { OnOk result (out.new.items ≡ out.old.items ++ (word a ++ (word b ++ word c))) }
+    ensures full { OnErr result (vec_capacity out.old < vec_len out.old + length (word a ++ (word b ++ word c))) }
+    ensures room { vec_capacity out.old ≤ vec_capacity out.new }
 {
     push_words(out, &[a, b, c])
 }
@@ -36,6 +42,8 @@ fn push_three(out: &mut Vec<u8>, a: u32, b: u32, c: u32) -> Result<(), AllocErro
 /// Adds four numbers, as `push_words` does.
 fn push_four(out: &mut Vec<u8>, a: u32, b: u32, c: u32, d: u32) -> Result<(), AllocError>
     ensures ok { OnOk result (out.new.items ≡ out.old.items ++ (word a ++ (word b ++ (word c ++ word d)))) }
+    ensures full { OnErr result (vec_capacity out.old < vec_len out.old + length (word a ++ (word b ++ (word c ++ word d)))) }
+    ensures room { vec_capacity out.old ≤ vec_capacity out.new }
 {
     push_words(out, &[a, b, c, d])
 }
@@ -44,15 +52,35 @@ fn push_four(out: &mut Vec<u8>, a: u32, b: u32, c: u32, d: u32) -> Result<(), Al
 #[tactic(auto, unfolding(ipc_model::specs::encodings::PlainCalls::call_encoding))]
 fn push_send(out: &mut Vec<u8>, message: &[u8]) -> Result<(), AllocError>
     ensures ok { OnOk result (out.new.items ≡ out.old.items ++ call_encoding (call.Send message.now)) }
+    ensures full { OnErr result (vec_capacity out.old < vec_len out.old + length (call_encoding (call.Send message.now))) }
+    ensures room { vec_capacity out.old ≤ vec_capacity out.new }
 {
     push_words(out, &[MACH_MSG, MessageOptions::SEND.bits(), 0, 0, 0])?;
     out.extend_from_slice(message)
 }
 
-/// Adds the number and the arguments of a call. If an allocation fails, some of them may have been added.
+/// Adds the number and the arguments of a send as a record keeps them: the message with 0 in place of what a send
+/// ignores.
+#[tactic(auto, unfolding(ipc_model::specs::encodings::PlainCalls::call_encoding))]
+fn push_canonical_send(out: &mut Vec<u8>, message: &[u8]) -> Result<(), AllocError>
+    ensures ok { OnOk result (out.new.items ≡ out.old.items ++ call_encoding (call.Send (canonical_message message.now))) }
+    ensures full { OnErr result (vec_capacity out.old < vec_len out.old + length (call_encoding (call.Send message.now))) }
+    ensures room { vec_capacity out.old ≤ vec_capacity out.new }
+{
+    push_words(out, &[MACH_MSG, MessageOptions::SEND.bits(), 0, 0, 0])?;
+    let at = out.len();
+    out.extend_from_slice(message)?;
+    make_canonical(out, at);
+    Ok(())
+}
+
+/// Adds the number and the arguments of a call. If an allocation fails, some of them may have been added. It takes no
+/// memory if there is room.
 #[tactic(auto, unfolding(ipc_model::specs::encodings::PlainCalls::call_encoding))]
 pub fn push_plain_call(out: &mut Vec<u8>, call: &PlainCall) -> Result<(), AllocError>
     ensures ok { OnOk result (out.new.items ≡ out.old.items ++ call_encoding call.now) }
+    ensures full { OnErr result (vec_capacity out.old < vec_len out.old + length (call_encoding call.now)) }
+    ensures room { vec_capacity out.old ≤ vec_capacity out.new }
 {
     match call {
         &PlainCall::Attach { space } => push_two(out, ATTACH, space),
@@ -151,20 +179,20 @@ pub fn push_plain_call(out: &mut Vec<u8>, call: &PlainCall) -> Result<(), AllocE
 }
 
 /// Adds the number and the arguments of a call as a record keeps it: of a send the message with 0 in place of what a
-/// send ignores. If an allocation fails, some of them may have been added.
+/// send ignores. If an allocation fails, some of them may have been added. It takes no memory if there is room.
 #[tactic(auto, unfolding(ipc_model::specs::encodings::PlainCalls::call_encoding))]
 pub(crate) fn push_canonical_plain_call(
-    alloc: Global,
     out: &mut Vec<u8>,
     call: &PlainCall,
 ) -> Result<(), AllocError>
     ensures ok { OnOk result (out.new.items ≡ out.old.items ++ call_encoding (canonical_call call.now)) }
+    ensures full { OnErr result (vec_capacity out.old < vec_len out.old + length (call_encoding call.now)) }
+    ensures room { vec_capacity out.old ≤ vec_capacity out.new }
 {
     let PlainCall::Send { message } = call else {
         return push_plain_call(out, call);
     };
-    let kept = canonical_message_of(alloc, message.as_slice())?;
-    push_send(out, &kept)
+    push_canonical_send(out, message.as_slice())
 }
 
 /// A flag as a word.
@@ -178,6 +206,8 @@ fn bool_number(flag: bool) -> u32
 fn push_names(out: &mut Vec<u8>, names: &[NamedType]) -> Result<(), AllocError>
     requires { length names.now < 2 ^ 32 }
     ensures ok { OnOk result (out.new.items ≡ out.old.items ++ (word (length names.now) ++ names_encoding names.now)) }
+    ensures full { OnErr result (vec_capacity out.old < vec_len out.old + length (word (length names.now) ++ names_encoding names.now)) }
+    ensures room { vec_capacity out.old ≤ vec_capacity out.new }
 {
     push_words(out, &[names.len() as u32])?;
     for named in names {
@@ -207,16 +237,22 @@ pub(crate) fn status_words(status: &ReceiveStatus) -> [u32; 9]
 fn push_status(out: &mut Vec<u8>, status: &ReceiveStatus) -> Result<(), AllocError>
     ensures ok { OnOk result (out.new.items ≡ out.old.items
         ++ done_encoding MACH_PORT_GET_RECEIVE_STATUS (status_encoding status.now)) }
+    ensures full { OnErr result (vec_capacity out.old
+        < vec_len out.old + length (done_encoding MACH_PORT_GET_RECEIVE_STATUS (status_encoding status.now))) }
+    ensures room { vec_capacity out.old ≤ vec_capacity out.new }
 {
     push_words(out, &[MACH_PORT_GET_RECEIVE_STATUS, 0])?;
     push_words(out, &status_words(status))
 }
 
-/// Adds the number, the code and the results of a reply. If an allocation fails, some of them may have been added.
+/// Adds the number, the code and the results of a reply. If an allocation fails, some of them may have been added. It
+/// takes no memory if there is room.
 #[tactic(auto, unfolding(ipc_model::specs::encodings::PlainCalls::reply_encoding))]
 pub(crate) fn push_plain_reply(out: &mut Vec<u8>, reply: &PlainReply) -> Result<(), AllocError>
     requires { length (reply_encoding reply.now) < 2 ^ 32 }
     ensures ok { OnOk result (out.new.items ≡ out.old.items ++ reply_encoding reply.now) }
+    ensures full { OnErr result (vec_capacity out.old < vec_len out.old + length (reply_encoding reply.now)) }
+    ensures room { vec_capacity out.old ≤ vec_capacity out.new }
 {
     match reply {
         PlainReply::Refused { number, code } => push_two(out, *number, code.number()),

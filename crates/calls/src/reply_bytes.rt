@@ -1,4 +1,5 @@
-ghost use Rattle.std.specs.Prelude.{◌≡◌, ◌<◌, ◌≤◌, ◌^◌, ◌++◌, ℕ, List, length, Some, IfOk, IfSome, IsSomeAnd, OnOk};
+ghost use Rattle.std.specs.Prelude.{◌≡◌, ◌<◌, ◌≤◌, ◌^◌, ◌+◌, ◌++◌, ℕ, List, length, Some, IfOk, IfSome, IsSomeAnd, OnOk, OnErr};
+ghost use Rattle.std.specs.Vec.{vec_len, vec_capacity};
 ghost use Rattle.codes.specs.declared.call_number.TheConstants.{NUMBERED};
 ghost use Rattle.ipc_model.specs.calls.Step.{number_of_call};
 ghost use Rattle.ipc_model.specs.declared.call.Call.TheVariants as call;
@@ -38,19 +39,25 @@ pub fn reply_frame(reply: &Reply, frame: &mut Frame)
     }
 }
 
-/// Adds the reply to a numbered call. If an allocation fails, some of it may have been added.
+/// Adds the reply to a numbered call. If an allocation fails, some of it may have been added. It takes no memory if there
+/// is room.
 pub fn push_numbered_reply(out: &mut Vec<u8>, answer: &NumberedReply) -> Result<(), AllocError>
     requires { length (numbered_encoding answer.now) < 2 ^ 32 }
     ensures ok { OnOk result (out.new.items ≡ out.old.items ++ numbered_encoding answer.now) }
+    ensures full { OnErr result (vec_capacity out.old < vec_len out.old + length (numbered_encoding answer.now)) }
+    ensures room { vec_capacity out.old ≤ vec_capacity out.new }
 {
     push_words(out, &[NUMBERED, 0, answer.request])?;
     push_plain_reply(out, &answer.reply)
 }
 
-/// Adds the number, the code and the results of a reply. If an allocation fails, some of them may have been added.
+/// Adds the number, the code and the results of a reply. If an allocation fails, some of them may have been added. It
+/// takes no memory if there is room.
 pub fn push_reply(out: &mut Vec<u8>, reply: &Reply) -> Result<(), AllocError>
     requires { length (reply_encoding reply.now) < 2 ^ 32 }
     ensures ok { OnOk result (out.new.items ≡ out.old.items ++ reply_encoding reply.now) }
+    ensures full { OnErr result (vec_capacity out.old < vec_len out.old + length (reply_encoding reply.now)) }
+    ensures room { vec_capacity out.old ≤ vec_capacity out.new }
 {
     match reply {
         Reply::Plain(reply) => push_plain_reply(out, reply),

@@ -1,12 +1,16 @@
-ghost use Rattle.std.specs.Prelude.{◌≡◌, ◌≢◌, ◌++◌, ◌<◌, ◌^◌, OnOk, IfSome, IfNone, flat_map, length};
+ghost use Rattle.std.specs.Prelude.{◌≡◌, ◌≢◌, ◌+◌, ◌++◌, ◌<◌, ◌≤◌, ◌^◌, OnOk, OnErr, IfSome, IfNone, flat_map, length};
+ghost use Rattle.std.specs.Vec.{vec_len, vec_capacity};
 ghost use Rattle.words.specs.Words.{word};
 
 use std::alloc::AllocError;
 use words::{push_word, take_word};
 
-/// Adds numbers of four bytes. If an allocation fails, some of them may have been added.
+/// Adds numbers of four bytes. If an allocation fails, some of them may have been added. It takes no memory if there is
+/// room.
 pub(crate) fn push_words(out: &mut Vec<u8>, numbers: &[u32]) -> Result<(), AllocError>
     ensures ok { OnOk result (out.new.items ≡ out.old.items ++ flat_map word numbers.now) }
+    ensures full { OnErr result (vec_capacity out.old < vec_len out.old + length (flat_map word numbers.now)) }
+    ensures room { vec_capacity out.old ≤ vec_capacity out.new }
 {
     for &number in numbers {
         push_word(out, number)?;

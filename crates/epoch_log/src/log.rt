@@ -11,7 +11,7 @@ use codes::MAX_RECORDS;
 use ipc_model::{Call, Reply};
 use journal::Batch;
 use kernel::Recorder;
-use record::{in_range, push_exchange};
+use record::in_range;
 use std::alloc::{AllocError, Global};
 use std::marker::Model;
 
@@ -24,9 +24,6 @@ pub struct EpochLog {
     // How many records were made since the store was opened, in all epochs.
     made: u64,
     waiting: Batch,
-
-    // Where a record is encoded. Its room is used again.
-    encoding: Vec<u8>,
 }
 
 // Written out, so that proofs above know one function and not its parts.
@@ -37,10 +34,8 @@ impl Drop for EpochLog {
             length: _,
             made: _,
             waiting,
-            encoding,
         } = self;
         drop(waiting);
-        drop(encoding);
     }
 }
 
@@ -68,7 +63,6 @@ impl EpochLog {
             length,
             made: 0,
             waiting: Batch::new(alloc),
-            encoding: Vec::new(alloc),
         }
     }
 
@@ -106,19 +100,10 @@ impl EpochLog {
         ensures err { OnErr result (self.new ≡ self.old) }
     {
         in_range(space, call, reply);
-        self.encoding.clear();
-        push_exchange(
-            self.alloc,
-            &mut self.encoding,
-            self.length,
-            space,
-            call,
-            reply,
-        )?;
-        self.waiting.add(&self.encoding)?;
+        let size = self.waiting.add_exchange(self.length, space, call, reply)?;
         self.length += 1;
         self.made += 1;
-        Ok(self.encoding.len())
+        Ok(size)
     }
 
     /// Removes the last record, whose encoding has `size` bytes and which waits.

@@ -229,7 +229,7 @@ fn asked(alloc: Global, numbers: &[u32], message: &[u8]) -> Option<Request> {
 
 fn canonical_call_bytes(alloc: Global, call: &Call) -> Option<Vec<u8>> {
     let mut encoding = Vec::new(alloc);
-    push_canonical_call(alloc, &mut encoding, call).ok()?;
+    push_canonical_call(&mut encoding, call).ok()?;
     Some(encoding)
 }
 

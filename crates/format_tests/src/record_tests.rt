@@ -32,7 +32,7 @@ fn record_bytes(alloc: Global, number: u64, record: &Record) -> Option<Vec<u8>>
     requires reply { length (reply_encoding «record».now.reply) < 2 ^ 32 }
 {
     let mut out = Vec::new(alloc);
-    push_record(alloc, &mut out, number, record).ok()?;
+    push_record(&mut out, number, record).ok()?;
     Some(out)
 }
 

@@ -1,4 +1,5 @@
 mod Pieces
+mod Room
 mod Steps
 mod Storing
 mod Whole

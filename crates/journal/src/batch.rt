@@ -1,15 +1,23 @@
-ghost use Rattle.std.specs.Prelude.{◌≡◌, ◌+◌, ◌-◌, ◌<◌, ◌≤◌, ◌^◌, ◌++◌, ◌∷◌, [], length, take, drop, vec_len, vec_capacity, OnOk, OnErr};
+ghost use Rattle.std.specs.Prelude.{◌≡◌, ◌+◌, ◌-◌, ◌<◌, ◌≤◌, ◌^◌, ◌++◌, ◌∷◌, [], length, take, drop, vec_len, vec_capacity, IfOk, OnOk, OnErr};
+ghost use Rattle.codes.specs.declared.limits.TheConstants.{MAX_FRAME_CONTENT};
+ghost use Rattle.ipc_model.specs.encodings.Encodings.{call_encoding, reply_encoding, record_encoding};
 ghost use Rattle.ipc_model.specs.store.Store.{closed_gate};
 ghost use Rattle.words.specs.Words.{word, long_word};
 ghost use Rattle.journal.specs.Batch.{content_of, empty_batch, padded, with_encoding, without_last};
 
 use byteorder::{ByteOrder, LittleEndian};
+use codes::MAX_FRAME_CONTENT;
+use ipc_model::{Call, Reply};
+use record::push_exchange;
 use slot_steps::CLOSED_GATE;
 use std::alloc::{AllocError, Global};
 use std::marker::Model;
 
 /// How many bytes of a batch come before its records: their number, and how many bytes they have.
 const HEADER: usize = 12;
+
+/// The most bytes that a record has: its number and its space, and the frames of its call and its reply.
+const MOST_OF_RECORD: usize = 20 + 2 * (MAX_FRAME_CONTENT as usize);
 
 /// Records that are stored together, encoded as they are added. The batch is ready to be written at any time, so
 /// storing it takes no memory.
@@ -50,18 +58,30 @@ impl Batch {
         self.count
     }
 
-    /// Adds a record by its encoding. If an allocation fails, nothing changed.
-    pub fn add(&mut self, encoding: &[u8]) -> Result<(), AllocError>
-        requires { self.old.count < 2 ^ 32 - 1 }
-        ensures ok { OnOk result (self.new ≡ with_encoding self.old encoding.now) }
+    /// Adds the record of a call of a task of this space with this reply, with its number: the call as a record keeps it.
+    /// It returns how many bytes the record's encoding has. If an allocation fails, nothing changed.
+    pub fn add_exchange(
+        &mut self,
+        number: u64,
+        space: u32,
+        call: &Call,
+        reply: &Reply,
+    ) -> Result<usize, AllocError>
+        requires count { self.old.count < 2 ^ 32 - 1 }
+        requires call { length (call_encoding call.now) ≤ MAX_FRAME_CONTENT }
+        requires reply { length (reply_encoding reply.now) ≤ MAX_FRAME_CONTENT }
+        ensures ok { OnOk result (self.new ≡ with_encoding self.old
+            (record_encoding number (record { space = space; call = call.now; reply = reply.now }))) }
+        ensures size { IfOk result (λ size. size
+            ≡ length (record_encoding number (record { space = space; call = call.now; reply = reply.now }))) }
         ensures err { OnErr result (self.new ≡ self.old) }
     {
         write_front(&mut self.encoding)?;
-        self.encoding.reserve(encoding.len())?;
-        push_before_gate(&mut self.encoding, encoding);
+        self.encoding.reserve(MOST_OF_RECORD)?;
+        let size = push_before_gate(&mut self.encoding, number, space, call, reply);
         self.count += 1;
         write_header(&mut self.encoding, self.count);
-        Ok(())
+        Ok(size)
     }
 
     /// Removes the last record, which has `size` bytes. The room that it took stays.
@@ -105,17 +125,31 @@ fn write_front(encoding: &mut Vec<u8>) -> Result<(), AllocError>
     encoding.extend_from_slice(&[0; HEADER + 1])
 }
 
-/// Adds bytes before the gate at the end. There must be room.
-fn push_before_gate(encoding: &mut Vec<u8>, more: &[u8])
+/// Adds a record before the gate at the end, and returns how many bytes its encoding has. There must be room for the
+/// longest.
+fn push_before_gate(
+    encoding: &mut Vec<u8>,
+    number: u64,
+    space: u32,
+    call: &Call,
+    reply: &Reply,
+) -> usize
     requires some { 0 < length encoding.old.items }
-    requires room { vec_len encoding.old + length more.now ≤ vec_capacity encoding.old }
-    ensures { encoding.new.items ≡ take (length encoding.old.items - 1) encoding.old.items
-        ++ (more.now ++ closed_gate ∷ []) }
+    requires room { vec_len encoding.old + MOST_OF_RECORD ≤ vec_capacity encoding.old }
+    requires call { length (call_encoding call.now) ≤ MAX_FRAME_CONTENT }
+    requires reply { length (reply_encoding reply.now) ≤ MAX_FRAME_CONTENT }
+    ensures encoding { encoding.new.items ≡ take (length encoding.old.items - 1) encoding.old.items
+        ++ (record_encoding number (record { space = space; call = call.now; reply = reply.now }) ++ closed_gate ∷ []) }
+    ensures size { result
+        ≡ length (record_encoding number (record { space = space; call = call.now; reply = reply.now })) }
 {
     let end = encoding.len() - 1;
     encoding.truncate(end);
-    let _ = encoding.extend_from_slice(more);
+    // There is room, so no allocation fails.
+    let _ = push_exchange(encoding, number, space, call, reply);
+    let size = encoding.len() - end;
     encoding.push_reserved(CLOSED_GATE);
+    size
 }
 
 /// Removes bytes before the gate at the end.

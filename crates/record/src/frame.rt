@@ -1,4 +1,5 @@
 ghost use Rattle.std.specs.Prelude.{◌≡◌, ◌<◌, ◌≤◌, ◌+◌, ◌-◌, ◌^◌, ◌++◌, ℕ, List, IfSome, IsSomeAnd, length, take, drop};
+ghost use Rattle.std.specs.Vec.{vec_capacity};
 ghost use Rattle.words.specs.Words.{word, frame_encoding};
 
 use byteorder::{ByteOrder, LittleEndian};
@@ -22,8 +23,9 @@ pub fn take_frame(bytes: &[u8]) -> Option<(&[u8], &[u8])>
 pub(crate) fn set_length(out: &mut Vec<u8>, at: usize)
     requires room { at + 4 ≤ length out.old.items }
     requires fits { length out.old.items - (at + 4) < 2 ^ 32 }
-    ensures { out.new.items ≡ take at out.old.items
+    ensures encoding { out.new.items ≡ take at out.old.items
         ++ (word (length out.old.items - (at + 4)) ++ drop (at + 4) out.old.items) }
+    ensures room { vec_capacity out.new ≡ vec_capacity out.old }
 {
     let length = out.len() - (at + 4);
     let (_, frame) = out.as_mut_slice().split_at_mut(at);

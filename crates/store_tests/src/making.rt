@@ -1,12 +1,12 @@
 //! A stored record and the segment that stores it. The functions here have no contract, so that a test's proof doesn't
 //! carry it along.
-ghost use Rattle.std.specs.Prelude.{◌<◌, ◌^◌, length};
+ghost use Rattle.std.specs.Prelude.{◌≤◌, length};
+ghost use Rattle.codes.specs.declared.limits.TheConstants.{MAX_FRAME_CONTENT};
 ghost use Rattle.ipc_model.specs.encodings.Encodings.{call_encoding, reply_encoding};
 
 use disk::Disk;
 use ipc_model::{Call, PlainCall, PlainReply, Record, Reply};
 use journal::{Batch, Segment};
-use record::push_record;
 use slot_steps::segment_slot;
 use std::alloc::Global;
 use store_fault::StoreFault;
@@ -24,8 +24,8 @@ pub(crate) static NEW_SEGMENT: [u8; 17] = [0x5a, 2, 0, 0, 0, 0, 0, 0, 0, 0, 0, 0
 /// The allocation of a name, done.
 #[tactic(auto, unfolding(ipc_model::specs::encodings::PlainCalls::call_encoding, ipc_model::specs::encodings::PlainCalls::reply_encoding))]
 fn allocation(name: u32) -> Record
-    ensures call { length (call_encoding result.call) < 2 ^ 32 }
-    ensures reply { length (reply_encoding result.reply) < 2 ^ 32 }
+    ensures call { length (call_encoding result.call) ≤ MAX_FRAME_CONTENT }
+    ensures reply { length (reply_encoding result.reply) ≤ MAX_FRAME_CONTENT }
 {
     Record {
         space: 1,
@@ -35,36 +35,23 @@ fn allocation(name: u32) -> Record
 }
 
 /// Adds the record with this number, the allocation of a name: the first one plus the number's lowest byte.
-fn add_allocation(
-    alloc: Global,
-    batch: &mut Batch,
-    number: u64,
-    first: u8,
-) -> Result<(), StoreFault> {
+fn add_allocation(batch: &mut Batch, number: u64, first: u8) -> Result<(), StoreFault> {
     if batch.count() == u32::MAX {
         return Err(StoreFault::Full);
     }
     let [low, ..] = number.to_le_bytes();
-    let mut encoding = Vec::new(alloc);
     let record = allocation(0x100 + u32::from(first) + u32::from(low));
-    let pushed = push_record(alloc, &mut encoding, number, &record);
+    let added = batch.add_exchange(number, record.space, &record.call, &record.reply);
     drop(record);
-    pushed?;
-    batch.add(&encoding)?;
+    added?;
     Ok(())
 }
 
 /// Adds `count` records, numbered from this number on, where record 0 allocates this name after 0x100.
-fn add_allocations(
-    alloc: Global,
-    batch: &mut Batch,
-    number: u64,
-    count: u8,
-    first: u8,
-) -> Result<(), StoreFault> {
+fn add_allocations(batch: &mut Batch, number: u64, count: u8, first: u8) -> Result<(), StoreFault> {
     for at in 0..count {
         let number = number.saturating_add(u64::from(at));
-        add_allocation(alloc, batch, number, first)?;
+        add_allocation(batch, number, first)?;
     }
     Ok(())
 }
@@ -72,7 +59,7 @@ fn add_allocations(
 /// A batch of these records.
 fn batch_of(alloc: Global, number: u64, count: u8, first: u8) -> Result<Batch, StoreFault> {
     let mut batch = Batch::new(alloc);
-    add_allocations(alloc, &mut batch, number, count, first)?;
+    add_allocations(&mut batch, number, count, first)?;
     Ok(batch)
 }
 
