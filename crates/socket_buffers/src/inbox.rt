@@ -104,11 +104,11 @@ impl<R: Read> Inbox<R> {
     }
 
     /// Takes as many bytes off the front of what came: they were read where they lie.
-    pub fn advance(&mut self, count: usize)
-        requires { count ≤ length self.old.bytes }
-        ensures { self.new ≡ record self.old { bytes = drop count self.old.bytes } }
+    pub fn advance(&mut self, taken: usize)
+        requires { taken ≤ length self.old.bytes }
+        ensures { self.new ≡ record self.old { bytes = drop taken self.old.bytes } }
     {
-        self.bytes.advance(count);
+        self.bytes.advance(taken);
     }
 
     /// What the stream still has, as far as is known.
