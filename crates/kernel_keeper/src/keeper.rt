@@ -1,6 +1,6 @@
 ghost use Rattle.std.specs.Prelude.{◌≡◌, ◌⊎◌, ℕ, ◌+◌, ◌<◌, ◌≤◌, ◌∷◌, [], ◌++◌, Some, false, length, IfOk, IfErr, IfSome, IfNone, IsErrOf, MatchBool, MatchOption, OnErr};
 ghost use Rattle.codes.specs.declared.name.TheConstants.{FIRST_SPACE};
-ghost use Rattle.ipc_model.specs.history.History.{called, detached, looked, space_after};
+ghost use Rattle.ipc_model.specs.history.History.{called, looked, space_after};
 ghost use Rattle.ipc_model.specs.state.Circular.{Acyclic};
 ghost use Rattle.ipc_model.specs.state.LawfulState.{LawfulState};
 ghost use Rattle.kernel_keeper.specs.Destroying.{LackedSince, MadeSince, SettlesBy, SettlesExactly, count_at};
@@ -175,11 +175,9 @@ impl<L: Founding> KernelKeeper<L> {
 
     /// The session of a task that is confined to its space since so many records were made. If the space was destroyed
     /// after these, it is detached, whether or not there is a new space under the number.
-    pub fn settle(&self, session: Session<L>, since: u64) -> Session<L>
-        ensures settled { (result ≡ session) ⊎ Did L.base session detached result }
-        ensures exact { SettlesExactly L.base since (entries_in self.now.core) session result }
+    fn settle(&self, session: Session<L>, since: u64) -> Session<L>
+        ensures settled { SettlesExactly L.base since (entries_in self.now.core) session result }
         ensures past { result.past ≡ session.past }
-        ensures reads { KeepsRead session.past result.past }
     {
         if self.destructions.has_since(session.own_state.space, since) {
             session.detach()
