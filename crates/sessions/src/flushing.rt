@@ -1,11 +1,13 @@
 //! The loop that stores calls.
 
 use crate::gate::{Gate, LoopStep};
+use crate::guarded::KernelGuarded;
 use crate::shared::{RETRY_MILLISECONDS, Shared};
 use disk::Disk;
 use kernel_keeper::{Founding, Load};
-use std::sync::Wait;
+use std::sync::{MutexGuard, Wait};
 use std::time::{Clock, Duration};
+use store_half::Receipt;
 use store_keeper::NotStored;
 
 /// For how many microseconds a few records wait for calls that were just given their turn, so that these calls' records
@@ -16,35 +18,33 @@ impl<L: Founding, D: Disk, G: Gate> Shared<L, D, G> {
     /// Stores what calls make, batch by batch, until it is told to stop and nothing waits, or the store fails. It is
     /// for one thread. No call that is made after it ended is acknowledged.
     pub fn flusher<R: Wait + Clock>(&self, rt: &R) {
+        let mut receipt = None;
         for _ in rt.forever() {
-            let Some(load) = self.next_load(rt) else {
+            let Some(load) = self.next_load(rt, receipt) else {
                 break;
             };
-            if !self.store(rt, load) {
+            receipt = self.store(rt, load);
+            if receipt.is_none() {
                 break;
             }
         }
         self.end(rt);
     }
 
-    /// The records that wait, once there are some. `None` if the loop is to end.
-    fn next_load<R: Wait + Clock>(&self, rt: &R) -> Option<Load<L>> {
+    /// Hands in the receipt of the load before, and takes the records that wait, once there are some: both under one
+    /// hold of the kernel's lock, which is busy where many call. `None` if the loop is to end.
+    fn next_load<R: Wait + Clock>(&self, rt: &R, receipt: Option<Receipt>) -> Option<Load<L>> {
+        if receipt.is_some() {
+            self.gate.pass(rt, LoopStep::Durable);
+        }
+        let mut receipt = receipt;
         for _ in rt.forever() {
-            let guarded = self
-                .records
-                .wait_while(rt, self.guarded.lock(rt), |guarded| guarded.is_idle());
-            let (guarded, _) = self.turns_taken.wait_timeout_while(
-                rt,
-                guarded,
-                Duration::from_micros(TURN_MICROSECONDS),
-                |guarded| guarded.may_soon_have_more(),
-            );
-            let is_over = guarded.is_over();
-            drop(guarded);
-            if is_over {
+            self.gate.pass(rt, LoopStep::Take);
+            let guarded = self.await_records(rt, receipt.take());
+            if guarded.is_over() {
                 return None;
             }
-            if let Some(load) = self.take_load(rt) {
+            if let Some(load) = self.take_load(rt, guarded) {
                 return Some(load);
             }
             // Memory is short, or a load is out, which only a second loop of this kind meets.
@@ -53,31 +53,62 @@ impl<L: Founding, D: Disk, G: Gate> Shared<L, D, G> {
         None
     }
 
+    /// Hands in a receipt, and waits until records wait, or the loop is to end.
+    fn await_records<R: Wait + Clock>(
+        &self,
+        rt: &R,
+        receipt: Option<Receipt>,
+    ) -> MutexGuard<'_, KernelGuarded<L>> {
+        let mut guarded = self.guarded.lock(rt);
+        if let Some(receipt) = receipt {
+            guarded.learn(receipt);
+        }
+        let guarded = self
+            .records
+            .wait_while(rt, guarded, |guarded| guarded.is_idle());
+        let (guarded, _) = self.turns_taken.wait_timeout_while(
+            rt,
+            guarded,
+            Duration::from_micros(TURN_MICROSECONDS),
+            |guarded| guarded.may_soon_have_more(),
+        );
+        guarded
+    }
+
     /// Takes the records that wait.
-    fn take_load<R: Wait>(&self, rt: &R) -> Option<Load<L>> {
-        self.gate.pass(rt, LoopStep::Take);
-        let load = self.guarded.lock(rt).take()?;
+    fn take_load<R: Wait>(
+        &self,
+        rt: &R,
+        guarded: MutexGuard<'_, KernelGuarded<L>>,
+    ) -> Option<Load<L>> {
+        let mut guarded = guarded;
+        let load = guarded.take();
+        drop(guarded);
+        let load = load?;
         let taken = load.first.saturating_add(u64::from(load.taken.count()));
         self.replies.lock(rt).take(taken);
         Some(load)
     }
 
-    /// Stores a load, and delivers its receipt. Returns whether it did: else the store failed, and all waiting threads
-    /// are notified.
-    fn store<R: Wait + Clock>(&self, rt: &R, load: Load<L>) -> bool {
+    /// Stores a load, and returns its receipt. `None`: the store failed, and all waiting threads are notified.
+    fn store<R: Wait + Clock>(&self, rt: &R, load: Load<L>) -> Option<Receipt> {
         let mut load = load;
         for _ in rt.forever() {
             match self.try_to_store(rt, load) {
-                Ok(is_stored) => return is_stored,
+                Ok(receipt) => return receipt,
                 Err(back) => load = back,
             }
         }
         drop(load);
-        false
+        None
     }
 
     /// Stores a load as `store` does, unless it comes back to be tried once more.
-    fn try_to_store<R: Wait + Clock>(&self, rt: &R, load: Load<L>) -> Result<bool, Load<L>> {
+    fn try_to_store<R: Wait + Clock>(
+        &self,
+        rt: &R,
+        load: Load<L>,
+    ) -> Result<Option<Receipt>, Load<L>> {
         self.gate.pass(rt, LoopStep::Append);
         let appended = self.store_keeper.lock(rt).append(rt, &self.mark, load);
         match appended {
@@ -87,9 +118,7 @@ impl<L: Founding, D: Disk, G: Gate> Shared<L, D, G> {
                 let side = self.replies.lock(rt).store(stored);
                 self.wake_workers(rt);
                 self.replies_at(side).notify_all();
-                self.gate.pass(rt, LoopStep::Durable);
-                self.guarded.lock(rt).learn(receipt);
-                Ok(true)
+                Ok(Some(receipt))
             }
             Err((why, back)) => self.put_off(rt, why, back),
         }
@@ -102,7 +131,7 @@ impl<L: Founding, D: Disk, G: Gate> Shared<L, D, G> {
         rt: &R,
         why: NotStored,
         load: Load<L>,
-    ) -> Result<bool, Load<L>> {
+    ) -> Result<Option<Receipt>, Load<L>> {
         let is_over = match why {
             NotStored::Store(fault) => {
                 self.fail(rt, fault);
@@ -119,7 +148,7 @@ impl<L: Founding, D: Disk, G: Gate> Shared<L, D, G> {
         };
         if is_over {
             drop(load);
-            return Ok(false);
+            return Ok(None);
         }
         Err(load)
     }

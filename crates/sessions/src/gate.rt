@@ -3,7 +3,7 @@ use std::sync::Wait;
 /// The steps of the loops, before each of which a gate is passed.
 #[derive(Clone, Copy, PartialEq, Eq)]
 pub enum LoopStep {
-    /// Records are taken.
+    /// Records are waited for, and taken.
     Take,
     /// They are stored.
     Append,
