@@ -40,7 +40,7 @@ impl<L: Founding, D: Disk, G: Gate> Shared<L, D, G> {
         let mut receipt = receipt;
         for _ in rt.forever() {
             self.gate.pass(rt, LoopStep::Take);
-            let guarded = self.await_records(rt, receipt.take());
+            let guarded = self.await_load(rt, receipt.take());
             if guarded.is_over() {
                 return None;
             }
@@ -54,7 +54,7 @@ impl<L: Founding, D: Disk, G: Gate> Shared<L, D, G> {
     }
 
     /// Hands in a receipt, and waits until records wait, or the loop is to end.
-    fn await_records<R: Wait + Clock>(
+    fn await_load<R: Wait + Clock>(
         &self,
         rt: &R,
         receipt: Option<Receipt>,
