@@ -77,6 +77,7 @@ impl Batch {
         ensures err { OnErr result (self.new ≡ self.old) }
     {
         write_front(&mut self.encoding)?;
+        // How long the record is isn't known before it is encoded. With room for the longest, no push fails halfway.
         self.encoding.reserve(MOST_OF_RECORD)?;
         let size = push_before_gate(&mut self.encoding, number, space, call, reply);
         self.count += 1;
