@@ -56,6 +56,11 @@ impl<'a, L: Founding> Turn<'a, L> {
         }
     }
 
+    /// How many records were made in it.
+    pub fn made(&self) -> u64 {
+        self.guarded.keeper.made().saturating_sub(self.before)
+    }
+
     /// Whether the next call has to wait for an epoch, which doesn't begin while the lock is held.
     pub fn awaits_epoch(&self) -> bool {
         self.guarded.awaits_epoch()

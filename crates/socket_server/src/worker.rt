@@ -23,6 +23,9 @@ const MOST_EVENTS: usize = 256;
 /// How many connections' calls are made under one hold of the kernel's lock, at most.
 const MOST_AT_ONCE: usize = 64;
 
+/// After how many records no other connection's calls are made under the same hold: who stores them waits for the lock.
+const MANY_RECORDS: u64 = 64;
+
 /// The token of what wakes a worker. The others are the numbers of sessions.
 const WAKER: Token = Token(usize::MAX);
 
@@ -302,6 +305,9 @@ impl<'a, L: Founding, D: Disk, R: Wait + Clock + AllocGlobal> Work<'a, L, D, R, 
     fn make_calls(&mut self) {
         let mut held: Option<Held<'a, L, D, R>> = None;
         for _ in 0..MOST_AT_ONCE {
+            if has_many(&held) {
+                break;
+            }
             let Some(session) = self.ready.pop_front() else {
                 break;
             };
@@ -410,6 +416,14 @@ impl<'a, L: Founding, D: Disk, R: Wait + Clock + AllocGlobal> Work<'a, L, D, R, 
         if client.waits() {
             self.shared.leave_line(self.rt, session);
         }
+    }
+}
+
+/// Whether many records were made with the lock held.
+fn has_many<'a, L: Founding, D: Disk, R: Wait>(held: &Option<Held<'a, L, D, R>>) -> bool {
+    match held {
+        Some(held) => MANY_RECORDS <= held.made(),
+        None => false,
     }
 }
 

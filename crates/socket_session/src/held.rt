@@ -29,6 +29,11 @@ impl<'a, L: Founding, D: Disk, G: Drop, R: Wait> Held<'a, L, D, G, R> {
         self.turn.is_waiting(session)
     }
 
+    /// How many records were made with the lock held.
+    pub fn made(&self) -> u64 {
+        self.turn.made()
+    }
+
     /// Frees the lock, and notifies the loops of what they have to do.
     pub fn end(self) {
         let Held {
