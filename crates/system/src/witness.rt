@@ -22,8 +22,7 @@ pub trait Witness {
 impl Witness for () {
     ghost learned = { λ old space c answer new. new ≡ old };
 
-    fn learn(&mut self, space: u32, call: &Call, reply: &Reply) -> Result<(), AllocError> {
-        let _ = (space, call, reply);
+    fn learn(&mut self, _space: u32, _call: &Call, _reply: &Reply) -> Result<(), AllocError> {
         Ok(())
     }
 }
