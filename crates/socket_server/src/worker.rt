@@ -24,7 +24,7 @@ const MOST_EVENTS: usize = 256;
 const MOST_AT_ONCE: usize = 64;
 
 /// After how many records no other connection's calls are made under the same hold: who stores them waits for the lock.
-const MANY_RECORDS: u64 = 1_024;
+const MANY_RECORDS: u64 = 64;
 
 /// The token of what wakes a worker. The others are the numbers of sessions.
 const WAKER: Token = Token(usize::MAX);
