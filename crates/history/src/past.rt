@@ -130,12 +130,9 @@ impl<L: FirstBlock> Past<L> {
         self.place.block().capacity()
     }
 
-    /// Another handle to its entry block. A caller that keeps it frees the block, instead of the prefix, which may move
-    /// on under a lock.
-    pub fn block(&self) -> Result<Arc<EntryBlock, Global>, AllocError>
-        ensures { IfOk result (λ block. arc_value block ≡ self.now.block) }
-    {
-        self.place.share_block()
+    /// Returns true if nothing else holds its entry block, which is freed with it then.
+    pub fn owns_block(&self) -> bool {
+        self.place.owns_block()
     }
 
     /// Adds an entry after all that it has.

@@ -90,11 +90,9 @@ impl<L: FirstBlock> Place<L> {
         &self.block
     }
 
-    /// Another handle to its entry block.
-    pub(crate) fn share_block(&self) -> Result<Arc<EntryBlock, Global>, AllocError>
-        ensures { IfOk result (λ block. arc_value block ≡ self.now.block) }
-    {
-        Arc::try_clone(&self.block)
+    /// Returns true if nothing else holds its entry block.
+    pub(crate) fn owns_block(&self) -> bool {
+        Arc::strong_count(&self.block) == 1
     }
 
     /// How many entries come before its block.

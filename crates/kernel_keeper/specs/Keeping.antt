@@ -73,6 +73,10 @@ keeper_code =
 abbrev pub entries_in : KernelCoreValue → Option (List Entry)
 entries_in core = option_map (λ p. p.entries) core.past
 
+-- how many entry blocks came before the one in which the history continues
+abbrev pub blocks_in : KernelCoreValue → Option ℕ
+blocks_in core = option_map (λ p. p.blocks) core.past
+
 -- The number, in its epoch, of the first record that wasn't taken: in the epoch before, or in this one.
 abbrev pub first_number : ℕ → ℕ → ℕ → ℕ → Bool → ℕ
 first_number opened earlier older taken is_older =

@@ -4,7 +4,7 @@ ghost use Rattle.ipc_model.specs.history.History.{called, looked, space_after};
 ghost use Rattle.ipc_model.specs.state.Circular.{Acyclic};
 ghost use Rattle.ipc_model.specs.state.LawfulState.{LawfulState};
 ghost use Rattle.kernel_keeper.specs.Destroying.{LackedSince, MadeSince, SettlesBy, SettlesExactly, count_at};
-ghost use Rattle.kernel_keeper.specs.Keeping.{Ends, IsApart, IsSame, Loads, MadeAfter, Makes, entries_in, first_core};
+ghost use Rattle.kernel_keeper.specs.Keeping.{Ends, IsApart, IsSame, Loads, MadeAfter, Makes, blocks_in, entries_in, first_core};
 ghost use Rattle.kernel_keeper.specs.Tokens.{Did, IsHistory, KeepsRead};
 ghost use Rattle.system.specs.Halves.{CanCut, CannotTake, IsFullFor, with_receipt};
 ghost use Rattle.waiting.specs.Places.{names};
@@ -15,6 +15,7 @@ use crate::acknowledged::Acknowledged;
 use crate::admissions::Admission;
 use crate::counting::Tally;
 use crate::destructions::Destructions;
+use crate::latest::Latest;
 use crate::making::KernelCore;
 use crate::session::{Session, SessionState};
 use boxcar::tag::{Names, Tag};
@@ -279,6 +280,16 @@ impl<L: Founding> KernelKeeper<L> {
         ensures err { OnErr result (IsSame self.old.core self.new.core) }
     {
         self.core.cut(block)
+    }
+
+    /// Returns all of the history, for sessions to catch up with.
+    pub fn latest(&mut self) -> Result<Latest<L>, AllocError>
+        ensures same { self.new ≡ self.old }
+        ensures entries { IfOk result (λ latest. entries_in self.old.core ≡ Some latest.entries) }
+        ensures block { IfOk result (λ latest. blocks_in self.old.core ≡ Some latest.blocks) }
+    {
+        let past = self.core.again()?;
+        Ok(Latest { past })
     }
 
     /// Learns that a checkpoint is over.

@@ -8,6 +8,7 @@ mod both_pasts;
 mod counting;
 mod destructions;
 mod keeper;
+mod latest;
 mod laws;
 mod making;
 mod meeting;
@@ -16,8 +17,9 @@ mod showing;
 
 pub use admissions::{Admission, Admissions, MOST_SESSIONS};
 pub use destructions::Destructions;
-pub use history::{EntryBlock, Founding, Past};
+pub use history::{CatchUpFault, EntryBlock, Founding, Past};
 pub use keeper::KernelKeeper;
+pub use latest::Latest;
 pub use laws::no_space_is_refused;
 pub use meeting::{MeetFault, Unmet, meet};
 pub use session::Session;

@@ -3,7 +3,7 @@ ghost use Rattle.history.specs.Entries.{Begins};
 ghost use Rattle.ipc_model.specs.state.Circular.{Acyclic};
 ghost use Rattle.ipc_model.specs.state.LawfulState.{LawfulState};
 ghost use Rattle.kernel_keeper.specs.Destroying.{DestroysKnown};
-ghost use Rattle.kernel_keeper.specs.Keeping.{Applies, Ends, IsApart, IsSame, Learns, Loads, Makes, entries_in, entries_of_call, first_core, first_number};
+ghost use Rattle.kernel_keeper.specs.Keeping.{Applies, Ends, IsApart, IsSame, Learns, Loads, Makes, blocks_in, entries_in, entries_of_call, first_core, first_number};
 ghost use Rattle.kernel_keeper.specs.Tokens.{IsHistory, KeepsRead};
 ghost use Rattle.system.specs.Halves.{CanCut, CannotTake, Gives, IsFullFor, with_receipt};
 ghost use Rattle.waiting.specs.Places.{names};
@@ -281,6 +281,7 @@ impl<L: Founding> KernelCore<L> {
         ensures same { self.new ≡ self.old }
         ensures history { IfOk result (λ past. IsHistory L.base past.entries) }
         ensures entries { IfOk result (λ past. entries_in self.old ≡ Some past.entries) }
+        ensures block { IfOk result (λ past. blocks_in self.old ≡ Some past.blocks) }
     {
         let Some(past) = &mut self.past else {
             unreachable!()

@@ -2,7 +2,7 @@ ghost use Rattle.std.specs.Prelude.{◌≡◌, ◌≢◌, ◌↔◌, IfOk, IfErr
 ghost use Rattle.kernel_keeper.specs.Tokens.{IsAfter, Meets};
 
 use crate::session::Session;
-use history::{CatchUpFault, Founding};
+use history::{CatchUpFault, Founding, Past};
 
 /// Why two sessions couldn't meet.
 #[derive(Clone, Copy, Debug, PartialEq, Eq)]
@@ -72,12 +72,7 @@ impl<L: Founding> Session<L> {
     fn is_after(&self, other: &Session<L>) -> bool
         ensures { MatchBool result (IsAfter self.now.past other.now.past) (IsAfter other.now.past self.now.past) }
     {
-        let own = self.past.blocks();
-        let theirs = other.past.blocks();
-        if own == theirs {
-            return self.past.len() <= other.past.len();
-        }
-        own < theirs
+        is_after(&self.past, &other.past)
     }
 
     /// Learns what another session has seen, which is no less. At a fault nothing changed.
@@ -91,4 +86,17 @@ impl<L: Founding> Session<L> {
     {
         self.past.catch_up(&mut other.past)
     }
+}
+
+/// Returns true if a prefix ends no further than another: in an earlier entry block, or in the same one with no more
+/// entries.
+pub(crate) fn is_after<L: Founding>(past: &Past<L>, other: &Past<L>) -> bool
+    ensures { MatchBool result (IsAfter past.now other.now) (IsAfter other.now past.now) }
+{
+    let own = past.blocks();
+    let theirs = other.blocks();
+    if own == theirs {
+        return past.len() <= other.len();
+    }
+    own < theirs
 }

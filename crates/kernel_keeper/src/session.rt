@@ -1,13 +1,15 @@
-ghost use Rattle.std.specs.Prelude.{◌≡◌, ◌⊎◌, ◌+◌, ◌≤◌, ◌<◌, ◌-◌, Some, length, option_map, slice_get, IfOk, IfErr, MatchOption, OnOk, OnErr};
+ghost use Rattle.std.specs.Prelude.{◌≡◌, ◌≢◌, ◌⊎◌, ◌+◌, ◌≤◌, ◌<◌, ◌-◌, Some, length, option_map, slice_get, IfOk, IfErr, IsErrOf, MatchOption, OnOk, OnErr};
 ghost use Rattle.codes.specs.declared.limits.TheConstants.{MAX_FRAME_CONTENT};
 ghost use Rattle.ipc_model.specs.history.History.{detached, looked, redemption};
 ghost use Rattle.ipc_model.specs.encodings.Encodings.{reply_encoding};
-ghost use Rattle.kernel_keeper.specs.Tokens.{Did, HasRead, KeepsRead};
+ghost use Rattle.kernel_keeper.specs.Tokens.{Did, HasRead, IsAfter, KeepsRead};
 
 use crate::acknowledged::Acknowledged;
+use crate::latest::Latest;
+use crate::meeting::is_after;
 use boxcar::tag::Tag;
 use codes::NO_SPACE;
-use history::{Founding, Past};
+use history::{CatchUpFault, Founding, Past};
 use ipc_model::{Record, Reply};
 use std::alloc::AllocError;
 use std::marker::Model;
@@ -132,6 +134,26 @@ impl<L: Founding> Session<L> {
         let mut session = self;
         session.own_state.space = NO_SPACE;
         session
+    }
+
+    /// Learns what others did meanwhile, and moves on to the entry block of `latest`, so that the block that it saw last
+    /// can be freed. A session that has seen more stays as it was. It takes neither lock nor memory.
+    ///
+    /// At an error nothing changed. `Apart` doesn't come for a prefix of the history of its `Shared`, which no clause
+    /// says.
+    pub fn catch_up(&mut self, latest: &mut Latest<L>) -> Result<(), CatchUpFault>
+        ensures looked { Did L.base self.old looked self.new }
+        ensures caught { OnOk result (IsAfter self.old.past latest.old
+            → (self.new.past.entries ≡ latest.old.entries) × (self.new.past.blocks ≡ latest.old.blocks)) }
+        ensures ahead { (IsAfter self.old.past latest.old → ⊥) → self.new ≡ self.old }
+        ensures apart { IsErrOf result CatchUpFault.Apart → self.old.past.blocks ≢ latest.old.blocks }
+        ensures same { latest.new ≡ latest.old }
+        ensures err { OnErr result (self.new ≡ self.old) }
+    {
+        if !is_after(&self.past, &latest.past) {
+            return Ok(());
+        }
+        self.past.catch_up(&mut latest.past)
     }
 
     /// Reads the records of the entry block that it saw last. It takes no lock. If an allocation fails, what was read

@@ -1,39 +1,77 @@
 //! The loop that makes images while calls go on.
 
 use crate::gate::{Gate, LoopStep};
+use crate::guarded::KernelGuarded;
 use crate::shared::Shared;
 use codes::MAX_RECORDS;
 use disk::Disk;
-use kernel_keeper::{End, EntryBlock, Founding};
-use std::sync::{Arc, Wait};
+use kernel_keeper::{End, EntryBlock, Founding, Latest};
+use std::alloc::Global;
+use std::sync::{Arc, MutexGuard, Wait};
 use std::time::Clock;
 use store_fault::StoreFault;
 use store_half::Finished;
 use store_keeper::NotBegun;
+
+/// How many pieces of an image are written before a batch that waits is stored. They take about 2 ms.
+const PIECES_IN_A_ROW: u64 = 256;
+
+/// How many times the loop waits for sessions to leave a finished epoch's entry block, at most.
+const MOST_PAUSES: u32 = 10;
+
+/// The end of an epoch, with a handle to its entry block, so that no other thread frees the block under a lock.
+#[derive(Drop)]
+struct Ended<L: Founding> {
+    end: End<L>,
+    former: Latest<L>,
+}
 
 impl<L: Founding, D: Disk, G: Gate> Shared<L, D, G> {
     /// Makes an image each time that the epoch log has `records` records, until it is told to stop or the store fails.
     pub fn checkpointer<R: Wait + Clock>(&self, rt: &R, records: u64) {
         self.guarded.lock(rt).begin_images(records);
         for _ in rt.forever() {
-            let Some(end) = self.next_end(rt, records) else {
+            let Some(ended) = self.next_end(rt, records) else {
                 return;
             };
-            if !self.checkpoint(rt, end) {
+            if !self.finish_epoch(rt, ended) {
                 return;
             }
         }
     }
 
+    /// Makes a checkpoint of an epoch's end, and frees what the epoch took on disk and in memory. Returns whether the
+    /// checkpoint was made.
+    fn finish_epoch<R: Wait + Clock>(&self, rt: &R, ended: Ended<L>) -> bool {
+        let Ended { end, former } = ended;
+        let made = self.checkpoint(rt, end) && self.clear(rt);
+        if made {
+            self.await_sessions(rt, &former);
+        }
+        drop(former);
+        made
+    }
+
+    /// Waits a while until no session holds a finished epoch's entry block: it is then freed here, where no lock is
+    /// held.
+    fn await_sessions<R: Wait + Clock>(&self, rt: &R, former: &Latest<L>) {
+        for _ in 0..MOST_PAUSES {
+            if former.owns_block() {
+                return;
+            }
+            self.pause(rt);
+        }
+    }
+
     /// The end of an epoch, once its log is long enough. `None` if the loop is to end.
-    fn next_end<R: Wait + Clock>(&self, rt: &R, records: u64) -> Option<End<L>> {
+    fn next_end<R: Wait + Clock>(&self, rt: &R, records: u64) -> Option<Ended<L>> {
         for _ in rt.forever() {
             if !self.await_records(rt, records) {
                 return None;
             }
             self.gate.pass(rt, LoopStep::Cut);
-            if let Some(end) = self.cut(rt) {
-                return Some(end);
+            if let Some(ended) = self.cut(rt) {
+                return Some(ended);
             }
             self.pause(rt);
         }
@@ -50,13 +88,16 @@ impl<L: Founding, D: Disk, G: Gate> Shared<L, D, G> {
         !guarded.is_ending()
     }
 
-    /// Ends the epoch, if there is memory for it.
-    fn cut<R: Wait>(&self, rt: &R) -> Option<End<L>> {
+    /// Ends the epoch, if there is memory for it, and has the workers bring their sessions up to date.
+    fn cut<R: Wait>(&self, rt: &R) -> Option<Ended<L>> {
         let block = EntryBlock::new(self.alloc, MAX_RECORDS as usize).ok()?;
         let block = Arc::new(self.alloc, block).ok()?;
-        let cut = self.guarded.lock(rt).keeper.cut(block);
+        let (ended, latest) = end_epoch(self.guarded.lock(rt), block);
         self.epochs.notify_all();
-        cut.ok()?
+        if let Some(latest) = latest {
+            self.begin_epoch(rt, latest);
+        }
+        ended
     }
 
     /// Makes a checkpoint, and notifies the waiting calls. Returns whether it was made.
@@ -97,7 +138,7 @@ impl<L: Founding, D: Disk, G: Gate> Shared<L, D, G> {
 
     /// Passes the state to the store. If memory is short, the end comes back.
     fn try_to_begin<R: Wait>(&self, rt: &R, end: End<L>) -> Result<Option<End<L>>, StoreFault> {
-        match self.store_keeper.lock(rt).begin(end) {
+        match self.lock_store(rt).begin(end) {
             Ok(()) => Ok(None),
             Err((NotBegun::NoMemory, back)) => Ok(Some(back)),
             Err((NotBegun::NotNow, back)) => {
@@ -110,13 +151,13 @@ impl<L: Founding, D: Disk, G: Gate> Shared<L, D, G> {
     /// Makes the next segment, which is opened once the one before holds all of its records.
     fn roll<R: Wait + Clock>(&self, rt: &R) -> Result<(), StoreFault> {
         self.gate.pass(rt, LoopStep::RollClose);
-        self.store_keeper.lock(rt).roll_close()?;
+        self.lock_store(rt).roll_close()?;
         self.gate.pass(rt, LoopStep::RollHead);
-        self.store_keeper.lock(rt).roll_head()?;
+        self.lock_store(rt).roll_head()?;
         for _ in rt.forever() {
             self.await_stored(rt);
             self.gate.pass(rt, LoopStep::RollOpen);
-            if self.store_keeper.lock(rt).roll_open()? {
+            if self.lock_store(rt).roll_open()? {
                 self.store_changed.notify_all();
                 return Ok(());
             }
@@ -140,21 +181,46 @@ impl<L: Founding, D: Disk, G: Gate> Shared<L, D, G> {
         self.close_image(rt)?;
         for piece in 0..u64::MAX {
             self.gate.pass(rt, LoopStep::Piece(piece));
-            let written = self.store_keeper.lock(rt).write_piece()?;
-            if !written {
+            if !self.write_piece(rt, piece)? {
                 break;
             }
         }
         self.gate.pass(rt, LoopStep::Finish);
-        let finished = self.store_keeper.lock(rt).finish()?;
+        let finished = self.lock_store(rt).finish()?;
         finished.ok_or(StoreFault::Failed)
+    }
+
+    /// Writes a piece of the image. Returns whether one was left.
+    fn write_piece<R: Wait>(&self, rt: &R, piece: u64) -> Result<bool, StoreFault> {
+        if piece % PIECES_IN_A_ROW == 0 {
+            return self.lock_store(rt).write_piece();
+        }
+        self.store_keeper.lock(rt).write_piece()
+    }
+
+    /// Truncates the slot of the segment before the one in use, so that the end of the next epoch doesn't wait for that.
+    /// Returns whether the loop is to go on.
+    fn clear<R: Wait>(&self, rt: &R) -> bool {
+        for _ in 0..u64::MAX {
+            self.gate.pass(rt, LoopStep::Clear);
+            let cleared = self.lock_store(rt).clear();
+            match cleared {
+                Ok(true) => {}
+                Ok(false) => return true,
+                Err(fault) => {
+                    self.fail(rt, fault);
+                    return false;
+                }
+            }
+        }
+        true
     }
 
     /// Closes the image's slot, once there is memory for its encoding.
     fn close_image<R: Wait + Clock>(&self, rt: &R) -> Result<(), StoreFault> {
         for _ in rt.forever() {
             self.gate.pass(rt, LoopStep::ImageClose);
-            let closed = self.store_keeper.lock(rt).close_image(self.alloc);
+            let closed = self.lock_store(rt).close_image(self.alloc);
             match closed {
                 Err(StoreFault::NoMemory) => self.pause(rt),
                 Err(fault) => return Err(fault),
@@ -162,5 +228,20 @@ impl<L: Founding, D: Disk, G: Gate> Shared<L, D, G> {
             }
         }
         Err(StoreFault::Failed)
+    }
+}
+
+/// Ends the epoch under the kernel's lock, and returns the history up to the next one for sessions to catch up with.
+fn end_epoch<L: Founding>(
+    guarded: MutexGuard<'_, KernelGuarded<L>>,
+    block: Arc<EntryBlock, Global>,
+) -> (Option<Ended<L>>, Option<Latest<L>>) {
+    let mut guarded = guarded;
+    let Ok(former) = guarded.keeper.latest() else {
+        return (None, None);
+    };
+    match guarded.keeper.cut(block) {
+        Ok(Some(end)) => (Some(Ended { end, former }), guarded.keeper.latest().ok()),
+        _ => (None, None),
     }
 }

@@ -44,7 +44,7 @@ impl<L: Founding, D: Disk, G: Gate> Shared<L, D, G> {
             if guarded.is_over() {
                 return None;
             }
-            if let Some(load) = self.take_load(rt, guarded) {
+            if let Some(load) = take_load(guarded) {
                 return Some(load);
             }
             // Memory is short, or a load is out, which only a second loop of this kind meets.
@@ -75,21 +75,6 @@ impl<L: Founding, D: Disk, G: Gate> Shared<L, D, G> {
         guarded
     }
 
-    /// Takes the records that wait.
-    fn take_load<R: Wait>(
-        &self,
-        rt: &R,
-        guarded: MutexGuard<'_, KernelGuarded<L>>,
-    ) -> Option<Load<L>> {
-        let mut guarded = guarded;
-        let load = guarded.take();
-        drop(guarded);
-        let load = load?;
-        let taken = load.first.saturating_add(u64::from(load.taken.count()));
-        self.replies.lock(rt).take(taken);
-        Some(load)
-    }
-
     /// Stores a load, and returns its receipt. `None`: the store failed, and all waiting threads are notified.
     fn store<R: Wait + Clock>(&self, rt: &R, load: Load<L>) -> Option<Receipt> {
         let mut load = load;
@@ -110,14 +95,14 @@ impl<L: Founding, D: Disk, G: Gate> Shared<L, D, G> {
         load: Load<L>,
     ) -> Result<Option<Receipt>, Load<L>> {
         self.gate.pass(rt, LoopStep::Append);
-        let appended = self.store_keeper.lock(rt).append(rt, &self.mark, load);
+        let appended = self.lock_store(rt).append(rt, &self.mark, load);
         match appended {
             Ok((receipt, stored)) => {
                 self.store_changed.notify_all();
                 // Replies needn't wait for the kernel's lock, which is busy where many call.
-                let side = self.replies.lock(rt).store(stored);
+                self.replies.lock(rt).store(stored);
                 self.wake_workers(rt);
-                self.replies_at(side).notify_all();
+                self.more_stored.notify_all();
                 Ok(Some(receipt))
             }
             Err((why, back)) => self.put_off(rt, why, back),
@@ -162,4 +147,10 @@ impl<L: Founding, D: Disk, G: Gate> Shared<L, D, G> {
             |store_keeper| store_keeper.epoch() != epoch && !store_keeper.has_failed(),
         );
     }
+}
+
+/// Takes the records that wait, and frees the lock.
+fn take_load<L: Founding>(guarded: MutexGuard<'_, KernelGuarded<L>>) -> Option<Load<L>> {
+    let mut guarded = guarded;
+    guarded.take()
 }

@@ -25,6 +25,8 @@ pub enum LoopStep {
     Finish,
     /// The kernel's half learns that the checkpoint is over.
     Finished,
+    /// A piece of the segment that nothing needs any more is truncated.
+    Clear,
 }
 
 /// May hold a loop up between its steps, as tests do.

@@ -7,16 +7,18 @@ ghost use Rattle.ipc_model.specs.encodings.Encodings.{reply_encoding};
 ghost use Rattle.kernel_keeper.specs.Tokens.{Did, KeepsRead};
 
 use crate::guarded::KernelGuarded;
-use crate::replies::{Replies, Side};
+use crate::replies::{Replies, Report};
 use crate::seat::{Peer, Seat, Worker};
 use crate::turn::{News, Turn};
 use disk::Disk;
 use ipc_model::{Call, Reply};
-use kernel_keeper::{Admission, Destructions, EntryBlock, Founding, KernelKeeper, Past, Session};
+use kernel_keeper::{
+    Admission, Destructions, EntryBlock, Founding, KernelKeeper, Latest, Past, Session,
+};
 use mio::Waker;
 use std::alloc::{AllocError, Global};
 use std::sync::ledger::Book;
-use std::sync::{Arc, Condvar, Mutex, Wait};
+use std::sync::{Arc, Condvar, Mutex, MutexGuard, Wait};
 use std::thread;
 use std::time::{Clock, Duration};
 use store_fault::StoreFault;
@@ -35,6 +37,9 @@ pub struct Shared<L: Founding, D: Disk, G> {
     pub(crate) gate: G,
     pub(crate) guarded: Mutex<KernelGuarded<L>>,
     pub(crate) store_keeper: Mutex<StoreKeeper<L, D>>,
+
+    // Held while a thread waits for the store's lock, so that its two users take turns.
+    pub(crate) store_turn: Mutex<()>,
     pub(crate) replies: Mutex<Replies<L>>,
 
     // How many records are stored, by what the store's half counted.
@@ -50,9 +55,8 @@ pub struct Shared<L: Founding, D: Disk, G> {
     // Waited on under the store's lock: that it changed.
     pub(crate) store_changed: Condvar,
 
-    // Waited on under the lock of the replies, each by the callers of every other batch.
-    pub(crate) even: Condvar,
-    pub(crate) odd: Condvar,
+    // Waited on under the lock of the replies: that more is stored.
+    pub(crate) more_stored: Condvar,
 }
 
 impl<L: Founding, D: Disk, G: Drop> Shared<L, D, G> {
@@ -105,6 +109,7 @@ impl<L: Founding, D: Disk, G: Drop> Shared<L, D, G> {
             gate,
             guarded: Mutex::new(KernelGuarded::new(alloc, keeper)),
             store_keeper: Mutex::new(store_keeper),
+            store_turn: Mutex::new(()),
             replies: Mutex::new(Replies::none(alloc, known)),
             mark,
             records: Condvar::new(),
@@ -112,8 +117,7 @@ impl<L: Founding, D: Disk, G: Drop> Shared<L, D, G> {
             images_due: Condvar::new(),
             epochs: Condvar::new(),
             store_changed: Condvar::new(),
-            even: Condvar::new(),
-            odd: Condvar::new(),
+            more_stored: Condvar::new(),
         })
     }
 
@@ -198,9 +202,10 @@ impl<L: Founding, D: Disk, G: Drop> Shared<L, D, G> {
         Ok(worker)
     }
 
-    /// Whether a reply that saw `seen` records can be had without a wait.
-    pub fn is_due(&self, rt: &impl Wait, seen: u64) -> bool {
-        !self.replies.lock(rt).is_awaited(seen)
+    /// Tells a worker what is stored and, if an epoch ended since it asked last, the history up to the epoch in use. It
+    /// takes the lock of the replies once.
+    pub fn report(&self, rt: &impl Wait, worker: &Worker) -> (Report<L>, Option<Latest<L>>) {
+        self.replies.lock(rt).report(worker.number(), &self.mark)
     }
 
     /// Has a worker woken once `seen` records are stored, or nothing is stored any more. Returns whether that is still
@@ -231,6 +236,29 @@ impl<L: Founding, D: Disk, G: Drop> Shared<L, D, G> {
         }
     }
 
+    /// Begins an epoch, with the history up to it, and wakes the workers, which bring their sessions up to date. The
+    /// lock is free when one is woken.
+    pub(crate) fn begin_epoch(&self, rt: &impl Wait, latest: Latest<L>) {
+        let mut replies = self.replies.lock(rt);
+        replies.begin_epoch(latest);
+        let count = replies.workers();
+        drop(replies);
+        for number in 0..count {
+            let worker = self.replies.lock(rt).worker_behind(number);
+            if let Some(worker) = worker {
+                worker.wake();
+            }
+        }
+    }
+
+    /// Takes the store's lock, in turn with the other thread that uses it.
+    pub(crate) fn lock_store<R: Wait>(&self, rt: &R) -> MutexGuard<'_, StoreKeeper<L, D>> {
+        let turn = self.store_turn.lock(rt);
+        let store_keeper = self.store_keeper.lock(rt);
+        drop(turn);
+        store_keeper
+    }
+
     /// A session's call waits no longer, and isn't made again.
     pub fn leave_line(&self, rt: &impl Wait, session: u32) {
         self.guarded.lock(rt).leave_line(session);
@@ -259,11 +287,7 @@ impl<L: Founding, D: Disk, G: Drop> Shared<L, D, G> {
     {
         let mut session = session;
         let stored = self.stored_for(rt, &mut session, ticket.seen());
-        let (session, acknowledged) = session.redeem(ticket, stored);
-        match acknowledged {
-            Ok(reply) => (session, Ok(reply)),
-            Err(_) => (session, Err(self.fault(rt).unwrap_or(StoreFault::Failed))),
-        }
+        self.redeem_by(rt, session, ticket, stored)
     }
 
     /// What is known to be stored, once `seen` records are, or nothing is stored any more. What the session knows is
@@ -276,27 +300,56 @@ impl<L: Founding, D: Disk, G: Drop> Shared<L, D, G> {
             return known;
         }
         drop(known);
-        self.await_reply(rt, seen)
+        self.await_stored_records(rt, seen)
     }
 
     /// Waits until `seen` records are stored, or nothing is stored any more. Returns what is known to be stored.
-    fn await_reply<R: Wait>(&self, rt: &R, seen: u64) -> Stored<L> {
-        let mut replies = self.replies.lock(rt);
-        for _ in rt.forever() {
-            if !replies.is_awaited(seen) {
-                break;
-            }
-            let due = self.replies_at(replies.side_of(seen));
-            replies = due.wait(rt, replies);
-        }
+    fn await_stored_records<R: Wait>(&self, rt: &R, seen: u64) -> Stored<L> {
+        let mut replies = self
+            .more_stored
+            .wait_while(rt, self.replies.lock(rt), |replies| replies.is_awaited(seen));
         replies.stored(&self.mark)
     }
 
-    /// Where the callers of a batch of this side wait.
-    pub(crate) fn replies_at(&self, side: Side) -> &Condvar {
-        match side {
-            Side::Even => &self.even,
-            Side::Odd => &self.odd,
+    /// The reply that a ticket of this session keeps, if this report covers all that its call saw. It takes no lock and
+    /// doesn't wait.
+    ///
+    /// A fault is one that a loop met, or `Failed`: the report doesn't cover it, or the ticket isn't of this session.
+    pub fn redeem_reported<R: Wait>(
+        &self,
+        rt: &R,
+        session: Session<L>,
+        ticket: Ticket,
+        report: &mut Report<L>,
+    ) -> (Session<L>, Result<Reply, StoreFault>)
+        ensures redeemed { IfOk result.1
+            (λ reply. (reply ≡ ticket.answer) × Did L.base session (redemption session.task ticket.seen) result.0) }
+        ensures fits { IfOk result.1 (λ reply. length (reply_encoding reply) ≤ MAX_FRAME_CONTENT) }
+        ensures err { OnErr result.1 (result.0 ≡ session) }
+        ensures reads { KeepsRead session.past result.0.past }
+    {
+        let stored = report.stored(&self.mark);
+        self.redeem_by(rt, session, ticket, stored)
+    }
+
+    /// The reply that a ticket keeps, if this token covers it.
+    fn redeem_by<R: Wait>(
+        &self,
+        rt: &R,
+        session: Session<L>,
+        ticket: Ticket,
+        stored: Stored<L>,
+    ) -> (Session<L>, Result<Reply, StoreFault>)
+        ensures redeemed { IfOk result.1
+            (λ reply. (reply ≡ ticket.answer) × Did L.base session (redemption session.task ticket.seen) result.0) }
+        ensures fits { IfOk result.1 (λ reply. length (reply_encoding reply) ≤ MAX_FRAME_CONTENT) }
+        ensures err { OnErr result.1 (result.0 ≡ session) }
+        ensures reads { KeepsRead session.past result.0.past }
+    {
+        let (session, acknowledged) = session.redeem(ticket, stored);
+        match acknowledged {
+            Ok(reply) => (session, Ok(reply)),
+            Err(_) => (session, Err(self.fault(rt).unwrap_or(StoreFault::Failed))),
         }
     }
 
@@ -324,8 +377,7 @@ impl<L: Founding, D: Disk, G: Drop> Shared<L, D, G> {
     fn end_replies(&self, rt: &impl Wait) {
         self.replies.lock(rt).end();
         self.wake_workers(rt);
-        self.even.notify_all();
-        self.odd.notify_all();
+        self.more_stored.notify_all();
     }
 
     /// A loop met a fault: all waiting threads are notified.

@@ -145,7 +145,8 @@ impl KernelHalf {
 
     /// Makes a call of a task of this space. Its record, if it has one, then waits to be taken.
     ///
-    /// It names the places at which the call may have given a waiting call something to do: no wake-up is lost.
+    /// It names the places at which the call may have given a waiting call something to do: no wake-up is lost. If
+    /// `places` names all places already, since no call waits, no place is looked up.
     pub fn submit(
         &mut self,
         space: u32,
@@ -179,7 +180,6 @@ impl KernelHalf {
         ensures full { IsErrOf result.1 SubmitFault.EpochFull → IsFullFor self.old space call.now }
         ensures err { OnErr result.1 ((self.new ≡ self.old) × (result.0 ≡ witness)) }
     {
-        places.clear();
         // No machine makes this many records.
         if self.log.made() == u64::MAX {
             return (witness, Err(SubmitFault::NoMemory));

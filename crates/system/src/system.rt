@@ -71,7 +71,7 @@ pub struct System<D: Disk> {
     pub(crate) finished_first: bool,
     pub(crate) tickets: Tickets,
 
-    // The places that the last call named. No call waits here, so nobody looks; the room is used again.
+    // Names all places: no call waits here, so none is looked up.
     pub(crate) places: Places,
 }
 
@@ -143,6 +143,8 @@ impl<D: Disk> System<D> {
             segment,
         } = opened;
         kernel.show_image();
+        let mut places = Places::none(alloc);
+        places.add_all();
         System {
             alloc,
             core: KernelHalf::new(alloc, kernel, segment.epoch, segment.records),
@@ -152,7 +154,7 @@ impl<D: Disk> System<D> {
             finished: None,
             finished_first: false,
             tickets: Tickets::new(alloc),
-            places: Places::none(alloc),
+            places,
         }
     }
 
