@@ -6,4 +6,4 @@ mod slots;
 mod steps;
 
 pub use slots::{CLOSED_GATE, IMAGE_HEADER, OPEN_GATE, SEGMENT_HEADER, image_slot, segment_slot};
-pub use steps::{close_slot, cut_after, sync_after, write_after, write_gate};
+pub use steps::{clear_slot, close_slot, cut_after, sync_after, write_after, write_gate};
