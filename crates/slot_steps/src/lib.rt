@@ -1,5 +1,5 @@
 //! What is done to one slot of a store: its gate is closed, what stands after the gate is written, and the gate is
-//! opened.
+//! opened; or the slot is cleared.
 #![tactic(auto)]
 
 mod slots;
