@@ -8,7 +8,7 @@ use Rattle.ipc_model.specs.calls.Step.{succeeded}
 use Rattle.ipc_model.specs.declared.call.Call.{Call}
 use Rattle.ipc_model.specs.declared.reply.Reply.{Reply}
 use Rattle.store_fault.specs.declared.fault.StoreFault.{StoreFault}
-use Rattle.frame_service.specs.Asking.{Act, Acted, AsksConfine, AsksOne, IsAcknowledged, IsGiven, IsTaken, IsTried, Proceeds, TakesRequest, Tries, acknowledged, took, tried}
+use Rattle.frame_service.specs.Asking.{Act, Acted, AsksConfine, AsksOne, IsAcknowledged, IsGiven, IsTaken, IsTried, Proceeds, TakesRequest, Tries, acknowledged, looked, took, tried}
 use Rattle.frame_service.specs.Serving.{Answers, AnswersMessage, AnswersRequest, Exchanges, IsAnswered}
 use Rattle.frame_service.specs.declared.asking.PendingFrame.{PendingFrame}
 use Rattle.frame_service.specs.declared.asking.PendingFrame.TheVariants.{Settled, Waits}
@@ -16,11 +16,13 @@ use Rattle.frame_service.specs.declared.asking.Ready.{Ready}
 use Rattle.frame_service.specs.declared.asking.Ready.TheVariants.{Known, Made}
 
 module _ {C T : Type 0} (answer : T → Reply) (makes : C → Request → T → C → Type 0) (lacks : C → Request → C → Type 0)
-    (acknowledges : C → T → C → Type 0) (fails : C → T → StoreFault → C → Type 0) (Keeps : C → C → Type 0)
+    (acknowledges : C → T → C → Type 0) (fails : C → T → StoreFault → C → Type 0) (looks : C → C → Type 0)
+    (Keeps : C → C → Type 0)
     (same : (c : C) → Keeps c c) (joins : (a b c : C) → Keeps a b → Keeps b c → Keeps a c)
     (by_making : (a : C) (asks : Request) (ticket : T) (b : C) → makes a asks ticket b → Keeps a b)
     (by_lacking : (a : C) (asks : Request) (b : C) → lacks a asks b → Keeps a b)
-    (by_acknowledging : (a : C) (ticket : T) (b : C) → acknowledges a ticket b → Keeps a b) where
+    (by_acknowledging : (a : C) (ticket : T) (b : C) → acknowledges a ticket b → Keeps a b)
+    (by_looking : (a b : C) → looks a b → Keeps a b) where
   unchanged : (old new : C) → new ≡ old → Keeps old new
   unchanged old new is = subst (Keeps old) (sym is) (same old)
 
@@ -82,7 +84,7 @@ module _ {C T : Type 0} (answer : T → Reply) (makes : C → Request → T → 
 
   -- frames that are taken in hand and answered
   pub acted_keeps : (old : C) (queue : List (PendingFrame T)) (acts : List (Act T)) (left : List (PendingFrame T))
-      (new : C) → Acted answer makes lacks acknowledges fails old queue acts left new → Keeps old new
+      (new : C) → Acted answer makes lacks acknowledges fails looks old queue acts left new → Keeps old new
   acted_keeps old queue [] left new acted = unchanged old new acted.1
   acted_keeps old queue (took content pending ∷ acts) left new (mid, first, rest) =
       joins old mid new (taken_keeps old content pending mid first)
@@ -94,6 +96,8 @@ module _ {C T : Type 0} (answer : T → Reply) (makes : C → Request → T → 
   acted_keeps old [] (acknowledged said ∷ acts) left new acted = absurd acted
   acted_keeps old (pending ∷ queue) (acknowledged said ∷ acts) left new (mid, first, rest) =
       joins old mid new (acknowledged_keeps old pending said mid first) (acted_keeps mid queue acts left new rest)
+  acted_keeps old queue (looked ∷ acts) left new (mid, first, rest) =
+      joins old mid new (by_looking old mid first) (acted_keeps mid queue acts left new rest)
 
 module _ {C : Type 0} (answers : C → Request → Reply → C → Type 0) (rests : C → C → Type 0) (Keeps : C → C → Type 0)
     (same : (c : C) → Keeps c c) (joins : (a b c : C) → Keeps a b → Keeps b c → Keeps a c)

@@ -7,7 +7,7 @@ use Rattle.calls.specs.declared.request.Request.{Request}
 use Rattle.ipc_model.specs.declared.reply.Reply.{Reply}
 use Rattle.ipc_model.specs.encodings.Encodings.{reply_encoding}
 use Rattle.store_fault.specs.declared.fault.StoreFault.{StoreFault}
-use Rattle.frame_service.proofs.Acting.{begun, one_acknowledged, one_tried, went_both}
+use Rattle.frame_service.proofs.Acting.{begun, one_acknowledged, one_looked, one_tried, went_both}
 use Rattle.frame_service.proofs.Going.{appends_is, keeps_is}
 use Rattle.frame_service.specs.Asking.{EndsAsked, GoesOn, IsGiven, IsLeft, StandsAt, TookFrames, Went}
 use Rattle.frame_service.proofs.Turns.{at_known}
@@ -33,13 +33,13 @@ known_left rest Device (Some unread) consumed = (unread, refl)
 known_left rest NoMemory left (long, limits, is) = (_, is)
 
 module _ {C T : Type 0} (answer : T → Reply) (makes : C → Request → T → C → Type 0) (lacks : C → Request → C → Type 0)
-    (acknowledges : C → T → C → Type 0) (fails : C → T → StoreFault → C → Type 0) where
+    (acknowledges : C → T → C → Type 0) (fails : C → T → StoreFault → C → Type 0) (looks : C → C → Type 0) where
   abbrev Goes : C → List ℕ → List ℕ → C → List (PendingFrame T) → Option (Result (Unit {0}) WireFault)
       → Option (List ℕ) → Option (List ℕ) → Type 0
-  Goes = GoesOn answer makes lacks acknowledges fails
+  Goes = GoesOn answer makes lacks acknowledges fails looks
 
   abbrev Ends : C → List ℕ → List ℕ → C → Option (List ℕ) → Option (List ℕ) → Result (Unit {0}) ServeFault → Type 0
-  Ends = EndsAsked answer makes lacks acknowledges fails
+  Ends = EndsAsked answer makes lacks acknowledges fails looks
 
   pub begins : (start : C) (input before : List ℕ) (all_pending : List (PendingFrame T))
       (left written : Option (List ℕ)) → all_pending ≡ [] → left ≡ Some input → written ≡ Some before
@@ -49,7 +49,7 @@ module _ {C T : Type 0} (answer : T → Reply) (makes : C → Request → T → 
         rest = input;
         unread = input;
         sent = before;
-        went = begun answer makes lacks acknowledges fails start [] input before;
+        went = begun answer makes lacks acknowledges fails looks start [] input before;
         stands = refl;
         left_is = read;
         written_is = out;
@@ -74,13 +74,14 @@ module _ {C T : Type 0} (answer : T → Reply) (makes : C → Request → T → 
   pub took : (start : C) (input before : List ℕ) (mid new : C) (none all_pending : List (PendingFrame T))
       (input_end now : Option (Result (Unit {0}) WireFault)) (left written after : Option (List ℕ))
       (result : Result Bool WireFault) → none ≡ [] → input_end ≡ None → now ≡ end_of result
-      → IfSome left (λ bytes. TookFrames answer makes lacks acknowledges fails mid new all_pending bytes after result)
+      → IfSome left (λ bytes. TookFrames answer makes lacks acknowledges fails looks mid new all_pending bytes after
+      result)
       → Goes start input before mid none input_end left written
       → Goes start input before new all_pending now after written
   took start input before mid new none all_pending input_end now left written after result no_frame more now_is taking
       before_it =
       subst (λ e. Goes start input before new all_pending e after written) (sym now_is) (by result (at_known left so_far.unread
-      (λ bytes. TookFrames answer makes lacks acknowledges fails mid new all_pending bytes after result) so_far.left_is
+      (λ bytes. TookFrames answer makes lacks acknowledges fails looks mid new all_pending bytes after result) so_far.left_is
       taking))
     where
       so_far : Goes start input before mid [] None left written
@@ -89,12 +90,13 @@ module _ {C T : Type 0} (answer : T → Reply) (makes : C → Request → T → 
           (subst (λ e. Goes start input before mid none e left written) more before_it)
 
       further : (r : Result Bool WireFault)
-          (taken : TookFrames answer makes lacks acknowledges fails mid new all_pending so_far.unread after r)
-          → Went answer makes lacks acknowledges fails start [] new input before taken.rest so_far.sent all_pending
+          (taken : TookFrames answer makes lacks acknowledges fails looks mid new all_pending so_far.unread after r)
+          → Went answer makes lacks acknowledges fails looks start [] new input before taken.rest so_far.sent
+          all_pending
       further r taken =
-          went_both answer makes lacks acknowledges fails start mid new [] [] all_pending input before so_far.unread
+          went_both answer makes lacks acknowledges fails looks start mid new [] [] all_pending input before so_far.unread
           so_far.sent taken.rest so_far.sent
-          (subst (λ l. Went answer makes lacks acknowledges fails start [] mid input before l so_far.sent [])
+          (subst (λ l. Went answer makes lacks acknowledges fails looks start [] mid input before l so_far.sent [])
           (sym so_far.stands) so_far.went)
           (record {
             acts = taken.acts;
@@ -104,7 +106,7 @@ module _ {C T : Type 0} (answer : T → Reply) (makes : C → Request → T → 
           })
 
       by : (r : Result Bool WireFault)
-          → TookFrames answer makes lacks acknowledges fails mid new all_pending so_far.unread after r
+          → TookFrames answer makes lacks acknowledges fails looks mid new all_pending so_far.unread after r
           → Goes start input before new all_pending (end_of r) after written
       by (Ok true) taken = record {
         rest = taken.rest;
@@ -159,14 +161,32 @@ module _ {C T : Type 0} (answer : T → Reply) (makes : C → Request → T → 
         unread = so_far.unread;
         sent = so_far.sent;
         went =
-            went_both answer makes lacks acknowledges fails start mid new [] (Waits message ∷ more) (pending ∷ more)
+            went_both answer makes lacks acknowledges fails looks start mid new [] (Waits message ∷ more) (pending ∷ more)
             input before so_far.rest so_far.sent so_far.rest so_far.sent so_far.went
-            (one_tried answer makes lacks acknowledges fails mid new (Waits message) pending more so_far.rest
+            (one_tried answer makes lacks acknowledges fails looks mid new (Waits message) pending more so_far.rest
             so_far.sent proceeds);
         stands = so_far.stands;
         left_is = so_far.left_is;
         written_is = so_far.written_is;
       }
+
+  -- the caller learned what others did
+  pub looks_on : (start : C) (input before : List ℕ) (mid new : C) (all_pending : List (PendingFrame T))
+      (input_end : Option (Result (Unit {0}) WireFault)) (left written : Option (List ℕ)) → looks mid new
+      → Goes start input before mid all_pending input_end left written
+      → Goes start input before new all_pending input_end left written
+  looks_on start input before mid new all_pending input_end left written is so_far = record {
+    rest = so_far.rest;
+    unread = so_far.unread;
+    sent = so_far.sent;
+    went =
+        went_both answer makes lacks acknowledges fails looks start mid new [] all_pending all_pending input before
+        so_far.rest so_far.sent so_far.rest so_far.sent so_far.went
+        (one_looked answer makes lacks acknowledges fails looks mid new all_pending so_far.rest so_far.sent is);
+    stands = so_far.stands;
+    left_is = so_far.left_is;
+    written_is = so_far.written_is;
+  }
 
   answers : (start : C) (input before : List ℕ) (mid new : C) (ready : Ready T) (more : List (PendingFrame T))
       (input_end : Option (Result (Unit {0}) WireFault)) (left written out : Option (List ℕ)) (reply : Reply)
@@ -179,9 +199,9 @@ module _ {C T : Type 0} (answer : T → Reply) (makes : C → Request → T → 
     unread = so_far.unread;
     sent = so_far.sent ++ frame_encoding (reply_encoding reply);
     went =
-        went_both answer makes lacks acknowledges fails start mid new [] (Settled ready ∷ more) more input before
+        went_both answer makes lacks acknowledges fails looks start mid new [] (Settled ready ∷ more) more input before
         so_far.rest so_far.sent so_far.rest (so_far.sent ++ frame_encoding (reply_encoding reply)) so_far.went
-        (one_acknowledged answer makes lacks acknowledges fails mid new (Settled ready) more reply so_far.rest
+        (one_acknowledged answer makes lacks acknowledges fails looks mid new (Settled ready) more reply so_far.rest
         so_far.sent (so_far.sent ++ frame_encoding (reply_encoding reply)) given refl);
     stands = so_far.stands;
     left_is = so_far.left_is;
@@ -202,7 +222,7 @@ module _ {C T : Type 0} (answer : T → Reply) (makes : C → Request → T → 
       (subst (λ q. Goes start input before mid q input_end left written) is before_it) given appends
 
   left_at : (input_end : Option (Result (Unit {0}) WireFault)) (rest unread : List ℕ) (left : Option (List ℕ))
-      → StandsAt answer makes lacks acknowledges fails input_end rest unread → left ≡ Some unread → IsLeft rest left
+      → StandsAt answer makes lacks acknowledges fails looks input_end rest unread → left ≡ Some unread → IsLeft rest left
   left_at None rest unread left is known = inl (known ∙ ap (λ l. Some l) is)
   left_at (Some (Ok done)) rest unread left is known = inl (known ∙ ap (λ l. Some l) (is.1 ∙ sym is.0))
   left_at (Some (Err fault)) rest unread left is known =
@@ -271,7 +291,7 @@ module _ {C T : Type 0} (answer : T → Reply) (makes : C → Request → T → 
   is_over start input before now (Ok done) left written so_far = record {
     sent = so_far.sent;
     went =
-        subst (λ l. Went answer makes lacks acknowledges fails start [] now input before l so_far.sent [])
+        subst (λ l. Went answer makes lacks acknowledges fails looks start [] now input before l so_far.sent [])
         so_far.stands.0 so_far.went;
     all = so_far.left_is ∙ ap (λ l. Some l) so_far.stands.1;
     written_is = so_far.written_is;

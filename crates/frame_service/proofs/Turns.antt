@@ -29,15 +29,15 @@ behind content rest bytes front =
     (omega (arith, length-append (word (length content)) content, length-word (length content)))
 
 module _ {C T : Type 0} (answer : T → Reply) (makes : C → Request → T → C → Type 0) (lacks : C → Request → C → Type 0)
-    (acknowledges : C → T → C → Type 0) (fails : C → T → StoreFault → C → Type 0) where
+    (acknowledges : C → T → C → Type 0) (fails : C → T → StoreFault → C → Type 0) (looks : C → C → Type 0) where
   abbrev Takes : C → C → List (PendingFrame T) → List ℕ → Option (List ℕ) → ℕ → Type 0
-  Takes = Taking answer makes lacks acknowledges fails
+  Takes = Taking answer makes lacks acknowledges fails looks
 
   abbrev Did : C → List (Act T) → List (PendingFrame T) → C → Type 0
-  Did old acts all_pending new = Acted answer makes lacks acknowledges fails old [] acts all_pending new
+  Did old acts all_pending new = Acted answer makes lacks acknowledges fails looks old [] acts all_pending new
 
   abbrev Took : C → C → List (PendingFrame T) → List ℕ → Option (List ℕ) → Result Bool WireFault → Type 0
-  Took = TookFrames answer makes lacks acknowledges fails
+  Took = TookFrames answer makes lacks acknowledges fails looks
 
   abbrev NextTaken : C → List ℕ → Result (Option (PendingFrame T)) WireFault → C → Option (List ℕ) → Type 0
   NextTaken = TookNext answer makes lacks
@@ -97,7 +97,7 @@ module _ {C T : Type 0} (answer : T → Reply) (makes : C → Request → T → 
   took_one old mid new all_pending more pending input left now count so_far next pushed =
       let taken =
       at_known left so_far.rest (λ rest. NextTaken mid rest (Ok (Some pending)) new now) so_far.left_is next in
-      one_taken answer makes lacks acknowledges fails old mid new all_pending more pending input taken.0 taken.1 left
+      one_taken answer makes lacks acknowledges fails looks old mid new all_pending more pending input taken.0 taken.1 left
       now count so_far taken.2 taken.3 taken.4 pushed
 
   pub took_some : (old mid : C) (all_pending : List (PendingFrame T)) (input : List ℕ) (left : Option (List ℕ))

@@ -1,5 +1,5 @@
 -- A caller that may be asked for more before it answers what it was asked first: what becomes of a connection's frames.
-use Rattle.std.specs.Prelude.{◌≡◌, ◌⊎◌, ℕ, ◌≤◌, Bool, true, false, zero, ⊤, ◌&&◌, ◌||◌, nat_le, nat_lt, List, [], ◌∷◌, ◌++◌, length, drop, cond, is_some, Option, None, Some, Result, Ok, Err}
+use Rattle.std.specs.Prelude.{◌≡◌, ◌⊎◌, ℕ, ◌≤◌, Bool, true, false, zero, ⊤, ◌+◌, ◌&&◌, ◌||◌, nat_le, nat_lt, List, [], ◌∷◌, ◌++◌, length, drop, cond, is_some, Option, None, Some, Result, Ok, Err}
 use Rattle.byteorder.specs.Endian.{little_number}
 use Rattle.calls.specs.Requests.{Asks}
 use Rattle.calls.specs.declared.request.MessageRequest.{MessageRequest}
@@ -61,11 +61,12 @@ left_of send receive send_timeout receive_timeout =
     record { send = send; receive = receive; send_timeout = send_timeout; receive_timeout = receive_timeout }
 
 -- What a connection did: a frame with this content was taken in hand; the first frame in hand, which waited, was tried
--- again, with this outcome; or the first frame in hand was answered.
+-- again, with this outcome; the first frame in hand was answered; or the caller learned what others did.
 pub data Act (T : Type 0) : Type 0 where
   took : List ℕ → PendingFrame T → Act T
   tried : PendingFrame T → Act T
   acknowledged : Reply → Act T
+  looked : Act T
 
 -- A caller that is asked, as it describes itself: the reply that a ticket keeps, that what was asked for was done for a
 -- ticket, and that it wasn't because of a shortage of memory or of room for a record. It is asked for one call at a
@@ -175,6 +176,9 @@ module _ {C T : Type 0} (answer : T → Reply) (makes : C → Request → T → 
   IsTried old (Settled ready) pending new = ⊥
   IsTried old (Waits rest) pending new = Proceeds answer makes lacks old rest rest.send rest.receive pending new
 
+-- and further: what the caller is after it learned what others did
+module _ {C T : Type 0} (answer : T → Reply) (makes : C → Request → T → C → Type 0) (lacks : C → Request → C → Type 0)
+    (acknowledges : C → T → C → Type 0) (fails : C → T → StoreFault → C → Type 0) (looks : C → C → Type 0) where
   -- Frames are answered in the order in which they were taken. `all_pending` were in hand at the beginning, and `left`
   -- are at the end.
   abbrev pub Acted : C → List (PendingFrame T) → List (Act T) → List (PendingFrame T) → C → Type 0
@@ -184,10 +188,13 @@ module _ {C T : Type 0} (answer : T → Reply) (makes : C → Request → T → 
       × Acted mid (all_pending ++ pending ∷ []) acts left new
   Acted old [] (tried pending ∷ acts) left new = ⊥
   Acted old (waiting ∷ all_pending) (tried pending ∷ acts) left new =
-      (mid : C) × IsTried old waiting pending mid × Acted mid (pending ∷ all_pending) acts left new
+      (mid : C) × IsTried answer makes lacks acknowledges fails old waiting pending mid
+      × Acted mid (pending ∷ all_pending) acts left new
   Acted old [] (acknowledged reply ∷ acts) left new = ⊥
   Acted old (pending ∷ all_pending) (acknowledged reply ∷ acts) left new =
-      (mid : C) × IsAcknowledged old pending reply mid × Acted mid all_pending acts left new
+      (mid : C) × IsAcknowledged answer makes lacks acknowledges fails old pending reply mid
+      × Acted mid all_pending acts left new
+  Acted old all_pending (looked ∷ acts) left new = (mid : C) × looks old mid × Acted mid all_pending acts left new
 
 -- the frames that were taken, as they were read, and the replies that were given, as they are written
 abbrev pub frames_of : {T : Type 0} → List (Act T) → List ℕ
@@ -195,24 +202,34 @@ frames_of [] = []
 frames_of (took content pending ∷ acts) = frame_encoding content ++ frames_of acts
 frames_of (tried pending ∷ acts) = frames_of acts
 frames_of (acknowledged reply ∷ acts) = frames_of acts
+frames_of (looked ∷ acts) = frames_of acts
 
 abbrev pub replies_of : {T : Type 0} → List (Act T) → List ℕ
 replies_of [] = []
 replies_of (took content pending ∷ acts) = replies_of acts
 replies_of (tried pending ∷ acts) = replies_of acts
 replies_of (acknowledged reply ∷ acts) = frame_encoding (reply_encoding reply) ++ replies_of acts
+replies_of (looked ∷ acts) = replies_of acts
+
+-- how many frames were taken
+abbrev pub frame_count : {T : Type 0} → List (Act T) → ℕ
+frame_count [] = 0
+frame_count (took content pending ∷ acts) = 1 + frame_count acts
+frame_count (tried pending ∷ acts) = frame_count acts
+frame_count (acknowledged reply ∷ acts) = frame_count acts
+frame_count (looked ∷ acts) = frame_count acts
 
 -- what is left of an input in which reading stopped: all of it, or what a frame that can't be read leaves
 abbrev pub IsLeft : List ℕ → Option (List ℕ) → Type 0
 IsLeft rest left = (left ≡ Some rest) ⊎ ((fault : WireFault) × IsReadOf rest (Err fault) left)
 
 module _ {C T : Type 0} (answer : T → Reply) (makes : C → Request → T → C → Type 0) (lacks : C → Request → C → Type 0)
-    (acknowledges : C → T → C → Type 0) (fails : C → T → StoreFault → C → Type 0) where
+    (acknowledges : C → T → C → Type 0) (fails : C → T → StoreFault → C → Type 0) (looks : C → C → Type 0) where
   -- So far: this rest of the input isn't taken, and what was sent is what was sent before and then the replies.
   pub record Went (old : C) (all_pending : List (PendingFrame T)) (now : C) (input before rest sent : List ℕ)
       (left : List (PendingFrame T)) : Type 0 where
     pub acts : List (Act T)
-    pub acted : Acted answer makes lacks acknowledges fails old all_pending acts left now
+    pub acted : Acted answer makes lacks acknowledges fails looks old all_pending acts left now
     pub read : input ≡ frames_of acts ++ rest
     pub acknowledged_is : sent ≡ before ++ replies_of acts
 
@@ -307,10 +324,10 @@ module _ {C T : Type 0} (answer : T → Reply) (makes : C → Request → T → 
       (result : Result Bool WireFault) : Type 0 where
     pub acts : List (Act T)
     pub rest : List ℕ
-    pub acted : Acted answer makes lacks acknowledges fails old [] acts all_pending new
+    pub acted : Acted answer makes lacks acknowledges fails looks old [] acts all_pending new
     pub read : input ≡ frames_of acts ++ rest
     pub silent : replies_of acts ≡ []
-    pub some : IsSome (length acts) result
+    pub some : IsSome (frame_count acts) result
     pub is_read : IsRead rest left result
 
 -- whether the bytes at the front are a whole frame, or a length that no frame has

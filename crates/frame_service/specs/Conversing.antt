@@ -78,28 +78,28 @@ module _ {C T : Type 0} (answer : T → Reply) (makes : C → Request → T → 
       (fault ≡ Device) × ((said : Reply) × IsGiven answer makes lacks acknowledges fails old ready said new
       × AppendsPart before written (frame_encoding (reply_encoding said)))
 
-module _ {S W C T Turn : Type 0} (remaining : S → Option (List ℕ)) (contents : W → Option (List ℕ)) (answer : T → Reply)
-    (makes : C → Request → T → C → Type 0) (lacks : C → Request → C → Type 0) (acknowledges : C → T → C → Type 0)
-    (fails : C → T → StoreFault → C → Type 0) where
+module _ {S W C T Turn Known Latest : Type 0} (remaining : S → Option (List ℕ)) (contents : W → Option (List ℕ))
+    (answer : T → Reply) (makes : C → Request → T → C → Type 0) (lacks : C → Request → C → Type 0)
+    (acknowledges : C → T → C → Type 0) (fails : C → T → StoreFault → C → Type 0) (looks : C → C → Type 0) where
   -- It began with this caller, before this input and after this output, and has come so far.
-  abbrev pub Goes : C → List ℕ → List ℕ → Conversation S W C T Turn → Type 0
+  abbrev pub Goes : C → List ℕ → List ℕ → Conversation S W C T Turn Known Latest → Type 0
   Goes start input before c =
-      GoesOn answer makes lacks acknowledges fails start input before c.asker c.pending.frames.items c.input_end
+      GoesOn answer makes lacks acknowledges fails looks start input before c.asker c.pending.frames.items c.input_end
       (inbox_remaining remaining c.inbox) (outbox_contents contents c.outbox)
 
   -- It begins with this caller, with whatever input comes and whatever was written before.
-  abbrev pub Begins : C → InboxValue S → OutboxValue W → Conversation S W C T Turn → Type 0
+  abbrev pub Begins : C → InboxValue S → OutboxValue W → Conversation S W C T Turn Known Latest → Type 0
   Begins start inbox outbox c =
       (input before : List ℕ) → inbox_remaining remaining inbox ≡ Some input
       → outbox_contents contents outbox ≡ Some before → Goes start input before c
 
   -- However it began and came so far, it has come so far afterwards.
-  abbrev pub Kept : (old new : Conversation S W C T Turn) → Type 0
+  abbrev pub Kept : (old new : Conversation S W C T Turn Known Latest) → Type 0
   Kept old new = (start : C) (input before : List ℕ) → Goes start input before old → Goes start input before new
 
   -- However it began and came so far, it ends like this.
-  abbrev pub Stops : (old new : Conversation S W C T Turn) → Result (Unit {0}) ServeFault → Type 0
+  abbrev pub Stops : (old new : Conversation S W C T Turn Known Latest) → Result (Unit {0}) ServeFault → Type 0
   Stops old new result =
       (start : C) (input before : List ℕ) → Goes start input before old
-      → EndsAsked answer makes lacks acknowledges fails start input before new.asker
+      → EndsAsked answer makes lacks acknowledges fails looks start input before new.asker
       (inbox_remaining remaining new.inbox) (outbox_contents contents new.outbox) result

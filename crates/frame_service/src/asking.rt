@@ -38,6 +38,12 @@ pub trait Asker {
     /// Several calls, of this caller or of others like it, with nothing else in between.
     type Turn: Drop;
 
+    /// A report of what is stored.
+    type Known: Drop;
+
+    /// What others did, which it catches up with.
+    type Latest: Drop;
+
     /// The reply that a ticket keeps.
     ghost answer: { Self.Ticket → Reply };
 
@@ -53,6 +59,9 @@ pub trait Asker {
 
     /// How the store may fail before a ticket's reply is given, and what it is afterwards.
     ghost fails: { Self → Self.Ticket → StoreFault → Self → Type 0 };
+
+    /// What it is after it learned what others did.
+    ghost looks: { Self → Self → Type 0 };
 
     /// Its calls are made in this turn, until it leaves it.
     fn join_turn(&mut self, turn: Self::Turn)
@@ -82,13 +91,17 @@ pub trait Asker {
     fn is_timed_out(&self, ticket: &Self::Ticket) -> bool
         ensures { result ≡ timed_out (answer ticket.now) };
 
-    /// Whether a ticket's reply can be had without a wait.
-    fn is_due(&self, ticket: &Self::Ticket) -> bool;
+    /// Returns true if a ticket's reply can be had without a wait, by this report.
+    fn is_due(&self, ticket: &Self::Ticket, known: &Self::Known) -> bool;
 
-    /// The reply that a ticket keeps, once all that its call saw is stored.
-    fn redeem(&mut self, ticket: Self::Ticket) -> Result<Reply, StoreFault>
+    /// Returns the reply that a ticket keeps, if the report covers all that its call saw.
+    fn redeem(&mut self, ticket: Self::Ticket, known: &mut Self::Known) -> Result<Reply, StoreFault>
         ensures reply { IfOk result (λ reply. reply ≡ answer ticket) }
         ensures acknowledges { IfOk result (λ reply. acknowledges self.old ticket self.new) }
         ensures fits { IfOk result (λ reply. length (reply_encoding reply) ≤ MAX_FRAME_CONTENT) }
         ensures fails { IfErr result (λ fault. fails self.old ticket fault self.new) };
+
+    /// Learns what others did meanwhile. It makes no call.
+    fn look(&mut self, latest: &mut Self::Latest)
+        ensures { looks self.old self.new };
 }

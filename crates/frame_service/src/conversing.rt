@@ -48,7 +48,9 @@ impl<S: Read, W: Write, A: Asker> Conversation<S, W, A> {
         W: Drop,
         A: Drop,
         ensures asker { IfOk result (λ c. c.asker ≡ asker) }
-        ensures begins { IfOk result (λ c. Begins S.remaining W.contents A.answer A.makes A.lacks A.acknowledges A.fails asker inbox outbox c) }
+        ensures begins { IfOk result (λ c.
+            Begins S.remaining W.contents A.answer A.makes A.lacks A.acknowledges A.fails A.looks asker inbox outbox
+            c) }
     {
         let Ok(frames) = VecDeque::with_capacity(alloc, MOST_PENDING_FRAMES) else {
             return Err(AllocError);
@@ -64,7 +66,8 @@ impl<S: Read, W: Write, A: Asker> Conversation<S, W, A> {
 
     /// Asks once for more of the input.
     pub fn read(&mut self) -> Filled
-        ensures keeps { Kept S.remaining W.contents A.answer A.makes A.lacks A.acknowledges A.fails self.old self.new }
+        ensures keeps { Kept S.remaining W.contents A.answer A.makes A.lacks A.acknowledges A.fails A.looks self.old
+            self.new }
         ensures asker { self.new.asker ≡ self.old.asker }
     {
         self.inbox.fill()
@@ -73,7 +76,8 @@ impl<S: Read, W: Write, A: Asker> Conversation<S, W, A> {
     /// Takes the frames that are there in hand, unless some are in hand already, and makes their calls as far as they
     /// can be made now: in this turn of the caller's, which it gives back if it is still held.
     pub fn take(&mut self, alloc: Global, turn: A::Turn) -> Option<A::Turn>
-        ensures keeps { Kept S.remaining W.contents A.answer A.makes A.lacks A.acknowledges A.fails self.old self.new }
+        ensures keeps { Kept S.remaining W.contents A.answer A.makes A.lacks A.acknowledges A.fails A.looks self.old
+            self.new }
     {
         self.asker.join_turn(turn);
         if self.pending.frames.is_empty() && self.input_end.is_none() {
@@ -86,7 +90,8 @@ impl<S: Read, W: Write, A: Asker> Conversation<S, W, A> {
     fn take_all(&mut self, alloc: Global)
         requires none { (self.old.pending.frames.items ≡ []) × (deque_len self.old.pending.frames ≡ 0) }
         requires more { self.old.input_end ≡ None }
-        ensures keeps { Kept S.remaining W.contents A.answer A.makes A.lacks A.acknowledges A.fails self.old self.new }
+        ensures keeps { Kept S.remaining W.contents A.answer A.makes A.lacks A.acknowledges A.fails A.looks self.old
+            self.new }
     {
         let taken = take_frames(
             alloc,
@@ -105,7 +110,8 @@ impl<S: Read, W: Write, A: Asker> Conversation<S, W, A> {
         turn: A::Turn,
         may_wait: bool,
     ) -> (Option<A::Turn>, Tried)
-        ensures keeps { Kept S.remaining W.contents A.answer A.makes A.lacks A.acknowledges A.fails self.old self.new }
+        ensures keeps { Kept S.remaining W.contents A.answer A.makes A.lacks A.acknowledges A.fails A.looks self.old
+            self.new }
     {
         self.asker.join_turn(turn);
         let tried = self.try_first(alloc, may_wait);
@@ -113,7 +119,8 @@ impl<S: Read, W: Write, A: Asker> Conversation<S, W, A> {
     }
 
     fn try_first(&mut self, alloc: Global, may_wait: bool) -> Tried
-        ensures keeps { Kept S.remaining W.contents A.answer A.makes A.lacks A.acknowledges A.fails self.old self.new }
+        ensures keeps { Kept S.remaining W.contents A.answer A.makes A.lacks A.acknowledges A.fails A.looks self.old
+            self.new }
     {
         let Some(pending) = self.pending.frames.pop_front() else {
             return Tried::Settled;
@@ -123,18 +130,28 @@ impl<S: Read, W: Write, A: Asker> Conversation<S, W, A> {
         tried
     }
 
-    /// Answers the frames in hand whose replies can be had without a wait, in order. `reply` is where replies are
-    /// encoded.
-    pub fn answer(&mut self, reply: &mut Frame) -> Result<(), ServeFault>
+    /// Brings the caller up to date with what others did. No frame is taken or answered.
+    pub fn look(&mut self, latest: &mut A::Latest)
+        ensures keeps { Kept S.remaining W.contents A.answer A.makes A.lacks A.acknowledges A.fails A.looks self.old
+            self.new }
+        ensures looks { A.looks self.old.asker self.new.asker }
+    {
+        self.asker.look(latest);
+    }
+
+    /// Answers the frames in hand whose replies can be had without a wait by this report, in order. `reply` is where
+    /// replies are encoded.
+    pub fn answer(&mut self, reply: &mut Frame, known: &mut A::Known) -> Result<(), ServeFault>
         requires { MAX_FRAME_CONTENT ≤ reply.old.room }
         ensures room { reply.old.room ≤ reply.new.room }
         ensures keeps { OnOk result
-            (Kept S.remaining W.contents A.answer A.makes A.lacks A.acknowledges A.fails self.old self.new) }
+            (Kept S.remaining W.contents A.answer A.makes A.lacks A.acknowledges A.fails A.looks self.old self.new) }
         ensures ends { IfErr result (λ fault.
-            Stops S.remaining W.contents A.answer A.makes A.lacks A.acknowledges A.fails self.old self.new (Err fault)) }
+            Stops S.remaining W.contents A.answer A.makes A.lacks A.acknowledges A.fails A.looks self.old self.new
+            (Err fault)) }
     {
         for _ in 0..MOST_PENDING_FRAMES {
-            match self.answer_first(reply) {
+            match self.answer_first(reply, known) {
                 Ok(true) => {}
                 Ok(false) => return Ok(()),
                 Err(fault) => return Err(fault),
@@ -143,21 +160,22 @@ impl<S: Read, W: Write, A: Asker> Conversation<S, W, A> {
         Ok(())
     }
 
-    /// Answers the first frame in hand, if its reply can be had without a wait. Returns whether it did.
-    fn answer_first(&mut self, reply: &mut Frame) -> Result<bool, ServeFault>
+    /// Answers the first frame in hand, if its reply can be had without a wait. Returns true if it did.
+    fn answer_first(&mut self, reply: &mut Frame, known: &mut A::Known) -> Result<bool, ServeFault>
         requires { MAX_FRAME_CONTENT ≤ reply.old.room }
         ensures room { reply.old.room ≤ reply.new.room }
         ensures keeps { OnOk result
-            (Kept S.remaining W.contents A.answer A.makes A.lacks A.acknowledges A.fails self.old self.new) }
+            (Kept S.remaining W.contents A.answer A.makes A.lacks A.acknowledges A.fails A.looks self.old self.new) }
         ensures ends { IfErr result (λ fault.
-            Stops S.remaining W.contents A.answer A.makes A.lacks A.acknowledges A.fails self.old self.new (Err fault)) }
+            Stops S.remaining W.contents A.answer A.makes A.lacks A.acknowledges A.fails A.looks self.old self.new
+            (Err fault)) }
     {
-        if !self.is_due() {
+        if !self.is_due(known) {
             return Ok(false);
         }
         match self.pending.frames.pop_front() {
             Some(PendingFrame::Settled(ready)) => {
-                match tell(&mut self.asker, &mut self.outbox, ready, reply) {
+                match tell(&mut self.asker, &mut self.outbox, ready, reply, known) {
                     Ok(()) => Ok(true),
                     Err(fault) => Err(fault),
                 }
@@ -170,11 +188,11 @@ impl<S: Read, W: Write, A: Asker> Conversation<S, W, A> {
         }
     }
 
-    /// Whether the reply to the first frame in hand can be had without a wait.
-    fn is_due(&self) -> bool {
+    /// Returns true if the reply to the first frame in hand can be had without a wait.
+    fn is_due(&self, known: &A::Known) -> bool {
         match self.pending.frames.front() {
             Some(PendingFrame::Settled(Ready::Known(_))) => true,
-            Some(PendingFrame::Settled(Ready::Made(ticket))) => self.asker.is_due(ticket),
+            Some(PendingFrame::Settled(Ready::Made(ticket))) => self.asker.is_due(ticket, known),
             _ => false,
         }
     }
@@ -182,9 +200,10 @@ impl<S: Read, W: Write, A: Asker> Conversation<S, W, A> {
     /// Gives what was written to whom it is for, as much as is taken now.
     pub fn flush(&mut self) -> Result<(), ServeFault>
         ensures keeps { OnOk result
-            (Kept S.remaining W.contents A.answer A.makes A.lacks A.acknowledges A.fails self.old self.new) }
+            (Kept S.remaining W.contents A.answer A.makes A.lacks A.acknowledges A.fails A.looks self.old self.new) }
         ensures ends { IfErr result (λ fault.
-            Stops S.remaining W.contents A.answer A.makes A.lacks A.acknowledges A.fails self.old self.new (Err fault)) }
+            Stops S.remaining W.contents A.answer A.makes A.lacks A.acknowledges A.fails A.looks self.old self.new
+            (Err fault)) }
         ensures asker { self.new.asker ≡ self.old.asker }
     {
         if self.outbox.flush().is_err() {
@@ -197,7 +216,8 @@ impl<S: Read, W: Write, A: Asker> Conversation<S, W, A> {
     pub fn ended(&self) -> Option<Result<(), ServeFault>>
         ensures value { result ≡ over_of self.now.pending.frames.items self.now.input_end }
         ensures ends { IfSome result (λ how.
-            Stops S.remaining W.contents A.answer A.makes A.lacks A.acknowledges A.fails self.now self.now how) }
+            Stops S.remaining W.contents A.answer A.makes A.lacks A.acknowledges A.fails A.looks self.now self.now
+            how) }
     {
         if !self.pending.frames.is_empty() {
             return None;
@@ -304,13 +324,14 @@ fn tell<W: Write, A: Asker>(
     outbox: &mut Outbox<W>,
     ready: Ready<A::Ticket>,
     reply: &mut Frame,
+    known: &mut A::Known,
 ) -> Result<(), ServeFault>
     requires { MAX_FRAME_CONTENT ≤ reply.old.room }
     ensures room { reply.old.room ≤ reply.new.room }
     ensures tells { Tells A.answer A.makes A.lacks A.acknowledges A.fails asker.old ready asker.new
         (outbox_contents W.contents outbox.old) (outbox_contents W.contents outbox.new) result }
 {
-    let answer = give(asker, ready)?;
+    let answer = give(asker, ready, known)?;
     reply_frame(&answer, reply);
     drop(answer);
     write_frame(outbox, reply)?;
@@ -318,7 +339,11 @@ fn tell<W: Write, A: Asker>(
 }
 
 /// The reply to a frame that waits for nothing.
-fn give<A: Asker>(asker: &mut A, ready: Ready<A::Ticket>) -> Result<Reply, StoreFault>
+fn give<A: Asker>(
+    asker: &mut A,
+    ready: Ready<A::Ticket>,
+    known: &mut A::Known,
+) -> Result<Reply, StoreFault>
     ensures given { IfOk result
         (λ reply. IsGiven A.answer A.makes A.lacks A.acknowledges A.fails asker.old ready reply asker.new) }
     ensures ungiven { IfErr result
@@ -327,7 +352,7 @@ fn give<A: Asker>(asker: &mut A, ready: Ready<A::Ticket>) -> Result<Reply, Store
 {
     match ready {
         Ready::Known(short_reply) => Ok(short_reply.into_reply()),
-        Ready::Made(ticket) => asker.redeem(ticket),
+        Ready::Made(ticket) => asker.redeem(ticket, known),
     }
 }
 

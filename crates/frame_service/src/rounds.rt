@@ -31,8 +31,8 @@ pub(crate) fn take_frames<S: Read, A: Asker>(
     requires capacity { MOST_PENDING_FRAMES ≤ deque_capacity all_pending.old }
     ensures capacity { MOST_PENDING_FRAMES ≤ deque_capacity all_pending.new }
     ensures took { IfSome (inbox_remaining S.remaining inbox.old) (λ input.
-        TookFrames A.answer A.makes A.lacks A.acknowledges A.fails asker.old asker.new all_pending.new.items input
-        (inbox_remaining S.remaining inbox.new) result) }
+        TookFrames A.answer A.makes A.lacks A.acknowledges A.fails A.looks asker.old asker.new all_pending.new.items
+        input (inbox_remaining S.remaining inbox.new) result) }
 {
     for _ in 0..MOST_PENDING_FRAMES {
         let Some(pending) = take_next(alloc, inbox, asker)? else {

@@ -3,9 +3,13 @@
 
 mod bound;
 mod client;
+mod context;
+mod door;
 mod host;
+mod lists;
 mod program;
 mod replies;
+mod standing;
 mod threads;
 mod timers;
 mod worker;

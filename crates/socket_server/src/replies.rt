@@ -22,11 +22,12 @@ impl ReplyFrame {
         Ok(ReplyFrame { frame })
     }
 
-    /// Answers what can be answered of a conversation.
+    /// Answers what can be answered of a conversation by this report.
     pub(crate) fn answer<S: Read, W: Write, A: Asker>(
         &mut self,
         talk: &mut Conversation<S, W, A>,
+        known: &mut A::Known,
     ) -> Result<(), ServeFault> {
-        talk.answer(&mut self.frame)
+        talk.answer(&mut self.frame, known)
     }
 }

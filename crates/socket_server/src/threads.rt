@@ -1,7 +1,8 @@
 //! The threads: one that stores, one that makes images, some that serve connections.
 
+use crate::door::{Arrival, Door};
 use crate::host::Host;
-use crate::worker::{Arrival, Door, Tools, open_door, run};
+use crate::worker::{Tools, open_door, run};
 use codes::CHECKPOINT_RECORDS;
 use disk::Disk;
 use sessions::{Admissions, Founding, OpenGate, Shared};

@@ -5,17 +5,17 @@ use Rattle.frame_service.specs.declared.conversation.Conversation.{Conversation}
 use Rattle.ipc_model.specs.state.State.{State}
 use Rattle.kernel_keeper.specs.Tokens.{SessionValue}
 use Rattle.socket_buffers.specs.Boxes.{InboxValue, OutboxValue}
-use Rattle.socket_session.specs.Connecting.{AcknowledgesOne, AskedValue, ConnectedValue, LacksOne, MakesOne, answer_of}
+use Rattle.socket_session.specs.Connecting.{AcknowledgesOne, AskedValue, ConnectedValue, LacksOne, LooksOne, MakesOne, answer_of}
 use Rattle.socket_session.specs.Serving.{BeginsNew, IsNewSession, from_stream, to_stream, unconfined}
 
-module _ {S W Turn : Type 0} (remaining : S → Option (List ℕ)) (contents : W → Option (List ℕ)) (base : State) where
+module _ {S W Turn Known Latest : Type 0} (remaining : S → Option (List ℕ)) (contents : W → Option (List ℕ)) (base : State) where
   abbrev FirstBegins : ConnectedValue → InboxValue S → OutboxValue W
-      → Conversation S W ConnectedValue AskedValue Turn → Type 0
+      → Conversation S W ConnectedValue AskedValue Turn Known Latest → Type 0
   FirstBegins =
       Begins remaining contents answer_of (MakesOne base) (LacksOne base) (AcknowledgesOne base)
-      (λ old asked fault new. new ≡ old)
+      (λ old asked fault new. new ≡ old) (LooksOne base)
 
-  pub begins_new : (reader : S) (writer : W) (talk : Conversation S W ConnectedValue AskedValue Turn)
+  pub begins_new : (reader : S) (writer : W) (talk : Conversation S W ConnectedValue AskedValue Turn Known Latest)
       (session : SessionValue) (first : ConnectedValue) (inbox : InboxValue S) (outbox : OutboxValue W)
       → first ≡ unconfined session → inbox ≡ from_stream reader → outbox ≡ to_stream writer → IsNewSession session
       → FirstBegins first inbox outbox talk → BeginsNew remaining contents base reader writer talk

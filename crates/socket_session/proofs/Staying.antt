@@ -19,7 +19,7 @@ use Rattle.kernel_keeper.specs.Destroying.{LackedSince, MadeSince, SettlesBy}
 use Rattle.kernel_keeper.specs.Tokens.{SessionValue, Did}
 use Rattle.socket_session.proofs.Showing.{confine_is_done}
 use Rattle.socket_session.specs.Confining.{AnswerSaysConfined, ConfinedConnectionsStay, StaysIn, space_of}
-use Rattle.socket_session.specs.Connecting.{AcknowledgesOne, AskedValue, Becomes, ConnectedValue, LacksOne, MakesOne, answer_of, is_confined, seen_by}
+use Rattle.socket_session.specs.Connecting.{AcknowledgesOne, AskedValue, Becomes, ConnectedValue, LacksOne, LooksOne, MakesOne, answer_of, is_confined, seen_by}
 use Rattle.system.specs.Halves.{TicketValue}
 
 -- the space of a session: the same, or none
@@ -183,11 +183,16 @@ module _ (base : State) where
       (λ one other did. inl (redeemed_in (history.has_ticket one.task asked.ticket.seen) asked.ticket.seen one other
       did)) acknowledged.0
 
+  looking_keeps : (old new : ConnectedValue) → LooksOne base old new → Keeps old new
+  looking_keeps old new looks confined =
+      becomes_in old new _ old.session new.session refl refl (λ _. same_since old new looks.1 confined)
+      (λ one other did. inl (looked_in one other did)) looks.0
+
 pub confined_stay : ConfinedConnectionsStay
 confined_stay base old queue acts left new confined acted =
     acted_keeps answer_of (MakesOne base) (LacksOne base) (AcknowledgesOne base) (λ old asked fault after. after ≡ old)
-    (Keeps base) (same_keeps base) (joins_keep base) (making_keeps base) (lacking_keeps base) (acknowledging_keeps base)
-    old queue acts left new acted confined
+    (LooksOne base) (Keeps base) (same_keeps base) (joins_keep base) (making_keeps base) (lacking_keeps base)
+    (acknowledging_keeps base) (looking_keeps base) old queue acts left new acted confined
 
 -- what an answer says, by whether it is code 0
 abbrev Says : ConnectedValue → ConnectedValue → Bool → Type 0

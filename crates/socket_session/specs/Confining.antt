@@ -7,7 +7,7 @@ use Rattle.frame_service.specs.declared.asking.PendingFrame.{PendingFrame}
 use Rattle.ipc_model.specs.calls.Step.{succeeded}
 use Rattle.ipc_model.specs.state.State.{State}
 use Rattle.kernel_keeper.specs.Tokens.{SessionValue}
-use Rattle.socket_session.specs.Connecting.{AcknowledgesOne, AskedValue, ConnectedValue, LacksOne, MakesOne, answer_of, is_confined, seen_by}
+use Rattle.socket_session.specs.Connecting.{AcknowledgesOne, AskedValue, ConnectedValue, LacksOne, LooksOne, MakesOne, answer_of, is_confined, seen_by}
 
 -- the space that its session's task is attached to
 abbrev pub space_of : ConnectedValue → Option ℕ
@@ -18,15 +18,15 @@ pub record StaysIn (space : Option ℕ) (new : ConnectedValue) : Type 0 where
   pub confined : is_confined new ≡ true
   pub space_is : (space_of new ≡ space) ⊎ (space_of new ≡ Some NO_SPACE)
 
--- Whatever frames are taken in hand and answered: a connection that is confined stays confined, and its session is in
--- the space in which it was before, or in none. Each call that it makes is one of its session in that very space, or in
--- none (`MakesOne`).
+-- Whatever frames are taken in hand and answered, and whenever it learns what others did: a connection that is confined
+-- stays confined, and its session is in the space in which it was before, or in none. Each call that it makes is one of
+-- its session in that very space, or in none (`MakesOne`).
 abbrev pub ConfinedConnectionsStay : Type 0
 ConfinedConnectionsStay =
     (base : State) (old : ConnectedValue) (queue : List (PendingFrame AskedValue)) (acts : List (Act AskedValue))
     (left : List (PendingFrame AskedValue)) (new : ConnectedValue) → is_confined old ≡ true
-    → Acted answer_of (MakesOne base) (LacksOne base) (AcknowledgesOne base) (λ old asked fault after. after ≡ old) old
-    queue acts left new
+    → Acted answer_of (MakesOne base) (LacksOne base) (AcknowledgesOne base) (λ old asked fault after. after ≡ old)
+    (LooksOne base) old queue acts left new
     → StaysIn (space_of old) new
 
 -- Number 23 that is answered 0 confines its connection, to the space that it was attached to, since all that its session

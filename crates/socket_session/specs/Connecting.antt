@@ -9,7 +9,7 @@ use Rattle.frame_service.specs.declared.confining.Shown.{Shown}
 use Rattle.frame_service.specs.declared.confining.Shown.TheVariants.{ToConfine}
 use Rattle.ipc_model.specs.calls.Step.{succeeded}
 use Rattle.ipc_model.specs.declared.reply.Reply.{Reply}
-use Rattle.ipc_model.specs.history.History.{redemption}
+use Rattle.ipc_model.specs.history.History.{looked, redemption}
 use Rattle.ipc_model.specs.state.State.{State}
 use Rattle.kernel_keeper.specs.Destroying.{LackedSince, MadeSince}
 use Rattle.kernel_keeper.specs.Tokens.{SessionValue, Did, session_code}
@@ -72,8 +72,13 @@ MakesOne base old asks asked new = ⊥
 abbrev pub LacksOne : State → ConnectedValue → Request → ConnectedValue → Type 0
 LacksOne base old asks new = Becomes (LackedSince base old.since) old.session new.session × (new.since ≡ old.since)
 
--- and where its ticket was redeemed.
+-- where its ticket was redeemed;
 abbrev pub AcknowledgesOne : State → ConnectedValue → AskedValue → ConnectedValue → Type 0
 AcknowledgesOne base old asked new =
     Becomes (λ one other. Did base one (redemption one.task asked.ticket.seen) other) old.session new.session
     × (new.since ≡ old.since)
+
+-- and where its session learned what others did.
+abbrev pub LooksOne : State → ConnectedValue → ConnectedValue → Type 0
+LooksOne base old new =
+    Becomes (λ one other. Did base one looked other) old.session new.session × (new.since ≡ old.since)

@@ -7,7 +7,7 @@ use Rattle.ipc_model.specs.state.State.{State}
 use Rattle.kernel_keeper.specs.Tokens.{SessionValue}
 use Rattle.socket_buffers.specs.Boxes.{InboxValue, OutboxValue}
 use Rattle.socket_buffers.specs.declared.inbox.Source.TheVariants.{Open}
-use Rattle.socket_session.specs.Connecting.{AcknowledgesOne, AskedValue, ConnectedValue, LacksOne, MakesOne, answer_of}
+use Rattle.socket_session.specs.Connecting.{AcknowledgesOne, AskedValue, ConnectedValue, LacksOne, LooksOne, MakesOne, answer_of}
 
 -- a session that has made no call
 pub record IsNewSession (session : SessionValue) : Type 0 where
@@ -27,10 +27,10 @@ from_stream stream = record { stream = stream; bytes = []; source = Open }
 abbrev pub to_stream : {W : Type 0} → W → OutboxValue W
 to_stream stream = record { stream = stream; bytes = [] }
 
-module _ {S W Turn : Type 0} (remaining : S → Option (List ℕ)) (contents : W → Option (List ℕ)) (base : State) where
+module _ {S W Turn Known Latest : Type 0} (remaining : S → Option (List ℕ)) (contents : W → Option (List ℕ)) (base : State) where
   -- A conversation that begins with one new session of a store with this founding state, over these streams.
-  abbrev pub BeginsNew : S → W → Conversation S W ConnectedValue AskedValue Turn → Type 0
+  abbrev pub BeginsNew : S → W → Conversation S W ConnectedValue AskedValue Turn Known Latest → Type 0
   BeginsNew reader writer talk =
       (session : SessionValue) × IsNewSession session
       × Begins remaining contents answer_of (MakesOne base) (LacksOne base) (AcknowledgesOne base)
-      (λ old asked fault new. new ≡ old) (unconfined session) (from_stream reader) (to_stream writer) talk
+      (λ old asked fault new. new ≡ old) (LooksOne base) (unconfined session) (from_stream reader) (to_stream writer) talk

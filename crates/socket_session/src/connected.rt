@@ -1,7 +1,7 @@
 ghost use Rattle.std.specs.Prelude.{◌≡◌, ◌≤◌, Some, length, IfOk, IfErr, IfSome, IfNone};
 ghost use Rattle.calls.specs.declared.request.Request.{Request};
 ghost use Rattle.codes.specs.declared.limits.TheConstants.{MAX_FRAME_CONTENT};
-ghost use Rattle.socket_session.specs.Connecting.{AcknowledgesOne, LacksOne, MakesOne, answer_of};
+ghost use Rattle.socket_session.specs.Connecting.{AcknowledgesOne, LacksOne, LooksOne, MakesOne, answer_of};
 ghost use Rattle.socket_session.specs.Serving.{unconfined};
 ghost use Rattle.ipc_model.specs.calls.Step.{succeeded};
 ghost use Rattle.ipc_model.specs.encodings.Encodings.{reply_encoding};
@@ -14,7 +14,7 @@ use calls::Request;
 use disk::Disk;
 use frame_service::Asker;
 use ipc_model::{Call, Reply};
-use sessions::{Founding, Peer, Seat, Session, Shared, Turn};
+use sessions::{Founding, Latest, Peer, Report, Seat, Session, Shared, Turn};
 use std::alloc::Global;
 use std::marker::Model;
 use std::sync::Wait;
@@ -95,6 +95,10 @@ impl<'a, L: Founding, D: Disk, G: Drop, R: Wait, P: Peer> Asker for Connected<'a
 
     type Turn = Held<'a, L, D, G, R>;
 
+    type Known = Report<L>;
+
+    type Latest = Latest<L>;
+
     ghost answer = { answer_of };
 
     ghost makes = { MakesOne L.base };
@@ -104,6 +108,8 @@ impl<'a, L: Founding, D: Disk, G: Drop, R: Wait, P: Peer> Asker for Connected<'a
     ghost acknowledges = { AcknowledgesOne L.base };
 
     ghost fails = { λ old asked fault new. new ≡ old };
+
+    ghost looks = { LooksOne L.base };
 
     /// Makes a call of its session. Where it is confined, a session whose space was destroyed is detached first, and an
     /// attach isn't made: it only asks whether its own space is there.
@@ -191,12 +197,13 @@ impl<'a, L: Founding, D: Disk, G: Drop, R: Wait, P: Peer> Asker for Connected<'a
         asked.is_timed_out()
     }
 
-    fn is_due(&self, asked: &Asked) -> bool {
-        self.shared.is_due(self.rt, asked.seen())
+    fn is_due(&self, asked: &Asked, report: &Report<L>) -> bool {
+        report.covers(asked.seen())
     }
 
-    /// Waits until all that the ticket's call saw is stored, where that isn't known (`is_due`).
-    fn redeem(&mut self, asked: Asked) -> Result<Reply, StoreFault>
+    /// Returns the reply that the ticket keeps. It doesn't wait: a ticket that the report doesn't cover (`is_due`) gives
+    /// a fault.
+    fn redeem(&mut self, asked: Asked, report: &mut Report<L>) -> Result<Reply, StoreFault>
         ensures reply { IfOk result (λ reply. reply ≡ answer_of asked) }
         ensures acknowledges { IfOk result (λ reply. AcknowledgesOne L.base self.old asked self.new) }
         ensures fits { IfOk result (λ reply. length (reply_encoding reply) ≤ MAX_FRAME_CONTENT) }
@@ -206,11 +213,24 @@ impl<'a, L: Founding, D: Disk, G: Drop, R: Wait, P: Peer> Asker for Connected<'a
             unreachable!()
         };
         let (ticket, shown) = asked.into_parts();
-        let (session, acknowledged) = self.shared.redeem(self.rt, session, ticket);
+        let (session, acknowledged) = self
+            .shared
+            .redeem_reported(self.rt, session, ticket, report);
         self.session = Some(session);
         match acknowledged {
             Ok(reply) => Ok(shown.reply(self.alloc, reply)),
             Err(fault) => Err(fault),
         }
+    }
+
+    /// Moves its session on to the entry block of `latest`. A session that has seen more stays as it was.
+    fn look(&mut self, latest: &mut Latest<L>)
+        ensures { LooksOne L.base self.old self.new }
+    {
+        let Some(session) = &mut self.session else {
+            unreachable!()
+        };
+        // A fault leaves the session as it was: it learns this with its next call.
+        let _ = session.catch_up(latest);
     }
 }

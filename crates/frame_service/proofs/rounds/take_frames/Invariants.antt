@@ -11,6 +11,6 @@ invariant-loop g l = record {
   room : MOST_PENDING_FRAMES ≤ deque_capacity l.all_pending;
   counted : deque_len l.all_pending ≡ l.counter;
   taking : (input : List ℕ) → inbox_remaining g.S.Read.remaining l.fn.inbox ≡ Some input
-      → Taking g.A.Asker.answer g.A.Asker.makes g.A.Asker.lacks g.A.Asker.acknowledges g.A.Asker.fails l.fn.asker
-      l.asker l.all_pending.items input (inbox_remaining g.S.Read.remaining l.inbox) l.counter;
+      → Taking g.A.Asker.answer g.A.Asker.makes g.A.Asker.lacks g.A.Asker.acknowledges g.A.Asker.fails
+      g.A.Asker.looks l.fn.asker l.asker l.all_pending.items input (inbox_remaining g.S.Read.remaining l.inbox) l.counter;
 }

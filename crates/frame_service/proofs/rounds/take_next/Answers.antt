@@ -11,7 +11,7 @@ returns-in-Some g c =
     (λ input. TookNext g.A.Asker.answer g.A.Asker.makes g.A.Asker.lacks c.args.asker.now input
     (Ok (Some c.take_frame-pending.result)) c.take_frame-pending.new.asker (inbox_remaining g.S.Read.remaining b)))
     (sym c.advance.ensures)
-    (took_in_place g.A.Asker.answer g.A.Asker.makes g.A.Asker.lacks g.A.Asker.acknowledges g.A.Asker.fails
+    (took_in_place g.A.Asker.answer g.A.Asker.makes g.A.Asker.lacks g.A.Asker.acknowledges g.A.Asker.fails g.A.Asker.looks
     c.args.asker.now c.take_frame-pending.new.asker
     c.in-Some.content.now c.in-Some.field-0-1.now inbox.bytes (g.S.Read.remaining inbox.stream)
     c.take_frame-pending.result (sym c.unread.ensures ∙ c.in-Some.ensures.found) c.take_frame-pending.ensures)

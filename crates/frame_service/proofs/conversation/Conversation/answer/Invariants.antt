@@ -7,5 +7,6 @@ abbrev pub invariant-loop : goal.invariant-loop
 invariant-loop g l = record {
   limit : MAX_FRAME_CONTENT ≤ l.reply.room;
   room : l.fn.reply.room ≤ l.reply.room;
-  keeps : Kept g.S.Read.remaining g.W.Write.contents g.A.Asker.answer g.A.Asker.makes g.A.Asker.lacks g.A.Asker.acknowledges g.A.Asker.fails l.fn.self l.self;
+  keeps : Kept g.S.Read.remaining g.W.Write.contents g.A.Asker.answer g.A.Asker.makes g.A.Asker.lacks
+      g.A.Asker.acknowledges g.A.Asker.fails g.A.Asker.looks l.fn.self l.self;
 }

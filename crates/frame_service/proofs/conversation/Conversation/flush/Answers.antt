@@ -5,8 +5,8 @@ use Rattle.frame_service.proofs.conversation.Conversation.flush.Goals as goal
 
 pub returns-then-is_err-clause-ends : goal.returns-then-is_err-clause-ends
 returns-then-is_err-clause-ends g c = λ start input before so_far.
-    is_unflushed g.A.Asker.answer g.A.Asker.makes g.A.Asker.lacks g.A.Asker.acknowledges g.A.Asker.fails
+    is_unflushed g.A.Asker.answer g.A.Asker.makes g.A.Asker.lacks g.A.Asker.acknowledges g.A.Asker.fails g.A.Asker.looks
     start input before c.args.self.now.asker c.args.self.now.pending.frames.items c.args.self.now.input_end _ _ _
-    (stays g.A.Asker.answer g.A.Asker.makes g.A.Asker.lacks g.A.Asker.acknowledges g.A.Asker.fails
+    (stays g.A.Asker.answer g.A.Asker.makes g.A.Asker.lacks g.A.Asker.acknowledges g.A.Asker.fails g.A.Asker.looks
     start input before c.args.self.now.asker c.args.self.now.pending.frames.items c.args.self.now.input_end _ _ _ _
     (keeps_same _) c.flush.ensures.bytes so_far) refl
