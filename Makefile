@@ -40,10 +40,11 @@ load:
 	@[ -n "$(REDIS)" ] || demo/waiting
 
 # Calls at random, to servers that are killed amid them, compared with the machine written down a second time; and clients that
-# wait. It proves the programs first.
+# wait; and what idle connections cost in memory. It proves the programs first.
 stress: bin
 	@stress/run
 	@stress/waiting
+	@stress/idle
 
 # Each allocation of a server, alone and on a socket, and of the lister refused in turn, with the same machine. It proves the
 # programs first, and wants a C compiler.

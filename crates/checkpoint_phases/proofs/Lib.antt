@@ -1,5 +1,6 @@
 pub mod Appends
 mod Alongside
+pub mod Clearing
 mod Imaging
 pub mod Images
 mod Rolling

@@ -1,4 +1,4 @@
-ghost use Rattle.std.specs.Prelude.{◌≡◌, ◌≢◌, ◌↔◌, IfOk, IfErr, IsErrOf, MatchBool, OnErr, OnOk};
+ghost use Rattle.std.specs.Prelude.{◌≡◌, ◌≢◌, ◌↔◌, false, IfOk, IfErr, IsErrOf, MatchBool, OnErr, OnOk};
 ghost use Rattle.kernel_keeper.specs.Tokens.{IsAfter, Meets};
 
 use crate::session::Session;
@@ -91,7 +91,8 @@ impl<L: Founding> Session<L> {
 /// Returns true if a prefix ends no further than another: in an earlier entry block, or in the same one with no more
 /// entries.
 pub(crate) fn is_after<L: Founding>(past: &Past<L>, other: &Past<L>) -> bool
-    ensures { MatchBool result (IsAfter past.now other.now) (IsAfter other.now past.now) }
+    ensures is { MatchBool result (IsAfter past.now other.now) (IsAfter other.now past.now) }
+    ensures beyond { result ≡ false → IsAfter past.now other.now → ⊥ }
 {
     let own = past.blocks();
     let theirs = other.blocks();

@@ -4,11 +4,7 @@
 #[cfg(test)]
 mod asking;
 #[cfg(test)]
-mod client;
-#[cfg(test)]
 mod closed;
-#[cfg(test)]
-mod confined;
 #[cfg(test)]
 mod entries;
 #[cfg(test)]
@@ -35,7 +31,5 @@ mod slow_sync;
 mod stop;
 #[cfg(test)]
 mod totals;
-#[cfg(test)]
-mod two_connections;
 #[cfg(test)]
 mod unstored;

@@ -1,3 +1,4 @@
+pub mod Clearing
 pub mod Following
 pub mod Gates
 pub mod Lengths

@@ -1,12 +1,12 @@
 -- What is done to one slot of a store: its gate is closed, what stands after the gate is written, and the gate is
 -- opened.
-use Rattle.std.specs.Prelude.{◌≡◌, ◌⊎◌, ℕ, ◌≤◌, ◌%◌, ◌==◌, max, List, length, drop, if◌then◌else◌}
+use Rattle.std.specs.Prelude.{◌≡◌, ◌⊎◌, ℕ, ◌≤◌, ◌<◌, ◌%◌, ◌-◌, ◌==◌, max, List, ◌∷◌, length, take, drop, if◌then◌else◌}
 use Rattle.disk.specs.declared.slot.Slot.{Slot}
 use Rattle.disk.specs.declared.slot.Slot.TheVariants.{Image0, Image1, Segment0, Segment1}
-use Rattle.disk.specs.Moments.{View, MayLeave}
-use Rattle.disk.specs.Slots.{Slots, slot_of}
-use Rattle.ipc_model.specs.store.Recovery.{IsNotOpen}
-use Rattle.ipc_model.specs.store.Store.{IsClosed}
+use Rattle.disk.specs.Moments.{View, MayLeave, IsSynced, ReadsOnly}
+use Rattle.disk.specs.Slots.{Slots, slot_of, with_slot}
+use Rattle.ipc_model.specs.store.Recovery.{IsNotOpen, IsOpen}
+use Rattle.ipc_model.specs.store.Store.{IsClosed, closed_gate}
 
 -- the slots that an epoch uses
 abbrev pub image_slot : ℕ → Slot
@@ -37,3 +37,27 @@ IsClosing header before after = (after ≡ before) ⊎ IsNotOpen header after
 -- a slot that gets new content is as it was, or it isn't open, or it holds all of that content
 abbrev pub IsRemade : ℕ → List ℕ → List ℕ → List ℕ → Type 0
 IsRemade header content before after = IsClosing header before after ⊎ (after ≡ content)
+
+-- the length of a slot after a truncation by at most `most` bytes that leaves its header
+abbrev pub shortened : ℕ → ℕ → ℕ → ℕ
+shortened header most length = max header (length - most)
+
+-- An open gate is closed, or a slot that isn't open is truncated.
+abbrev pub IsClearing : ℕ → ℕ → List ℕ → List ℕ → Type 0
+IsClearing header most before after =
+    (IsOpen header before × (after ≡ closed_gate ∷ drop 1 before))
+    ⊎ (IsNotOpen header before × (header < length before)
+    × (after ≡ take (shortened header most (length before)) before))
+
+-- A step that clears a slot. No other slot changes.
+pub record ClearsSlot (header most : ℕ) (old new : View) (slot : Slot) : Type 0 where
+  pub step : IsClearing header most (slot_of old.seen slot) (slot_of new.seen slot)
+  pub closed : IsClosed (slot_of new.seen slot)
+  pub others : new.seen ≡ with_slot old.seen slot (slot_of new.seen slot)
+  pub synced : IsSynced new slot
+
+-- No such step is left: the slot isn't open, and no byte follows its header. Nothing is written.
+pub record FindsSlotClear (header : ℕ) (old new : View) (slot : Slot) : Type 0 where
+  pub shut : IsNotOpen header (slot_of old.seen slot)
+  pub short : length (slot_of old.seen slot) ≤ header
+  pub reads : ReadsOnly old new

@@ -8,7 +8,8 @@ use Rattle.ipc_model.specs.world.World.{pieces_of}
 use Rattle.journal.specs.Batch.{BatchValue, content_of}
 use Rattle.store_fault.specs.declared.fault.StoreFault.{StoreFault}
 use Rattle.store_fault.specs.declared.fault.StoreFault.TheVariants.{Device, Failed, NoMemory}
-use Rattle.slot_steps.specs.Steps.{HasSomeGate, IsClosing, IsShut, IsStillClosed, image_slot, segment_slot}
+use Rattle.slot_steps.specs.Steps.{ClearsSlot, FindsSlotClear, HasSomeGate, IsClosing, IsShut, IsStillClosed, image_slot, segment_slot}
+use Rattle.store_half.specs.declared.clearing.TheConstants.{CLEARED_BYTES}
 use Rattle.store_half.specs.Values.{CheckpointValue, StoreValue}
 
 -- the post-crash contents while a batch is appended to an epoch's segment
@@ -43,6 +44,10 @@ HasPieceLeft (Some checkpoint) = (0 < checkpoint.imaged) × (checkpoint.imaged <
 abbrev pub CanFinish : Option CheckpointValue → Type 0
 CanFinish None = ⊥
 CanFinish (Some checkpoint) = (checkpoint.imaged ≡ pieces_of checkpoint.encoding + 1) × (checkpoint.rolled ≡ 3)
+
+-- the slot of the next epoch's segment may be cleared
+abbrev pub CanClear : {D : Type 0} → StoreValue D → Type 0
+CanClear store = (store.checkpoint ≡ None) × (store.segment.epoch + 1 < 2 ^ 64)
 
 -- what a step of a checkpoint returns
 
@@ -167,7 +172,33 @@ module _ {D : Type 0} (honest : Type 0) (view : D → View) where
         → Passes (view old.disk) (view new.disk)
         (Follows (view old.disk) (image_slot checkpoint.epoch) (IsFinishing checkpoint.epoch checkpoint.encoding))
 
+  -- The next step clears the slot of the next epoch's segment, outside a checkpoint.
+  pub record Clears (old new : StoreValue D) : Type 0 where
+    pub possible : CanClear old
+    pub unfailed : old.failed ≡ false
+    pub rest : new ≡ record old { disk = new.disk }
+    pub clears : honest
+        → ClearsSlot 16 CLEARED_BYTES (view old.disk) (view new.disk) (segment_slot (old.segment.epoch + 1))
+    pub passes : honest → IsSynced (view old.disk) (segment_slot (old.segment.epoch + 1))
+        → Passes (view old.disk) (view new.disk)
+        (Follows (view old.disk) (segment_slot (old.segment.epoch + 1)) (IsClosing 16))
+
+  -- No such step is left, and nothing is written.
+  pub record FindsClear (old new : StoreValue D) : Type 0 where
+    pub possible : CanClear old
+    pub unfailed : old.failed ≡ false
+    pub rest : new ≡ record old { disk = new.disk }
+    pub finds : honest → FindsSlotClear 16 (view old.disk) (view new.disk) (segment_slot (old.segment.epoch + 1))
+
   -- The device failed within such a step, which was possible.
+
+  pub record FailsToClear (old new : StoreValue D) : Type 0 where
+    pub possible : CanClear old
+    pub unfailed : old.failed ≡ false
+    pub rest : new ≡ record old { disk = new.disk; failed = true }
+    pub passes : honest → IsSynced (view old.disk) (segment_slot (old.segment.epoch + 1))
+        → Passes (view old.disk) (view new.disk)
+        (Follows (view old.disk) (segment_slot (old.segment.epoch + 1)) (IsClosing 16))
 
   pub record FailsToRollClose (old new : StoreValue D) : Type 0 where
     pub checkpoint : CheckpointValue
@@ -229,6 +260,10 @@ module _ {D : Type 0} (honest : Type 0) (view : D → View) where
 
   -- What each step returns where the device doesn't fail: whether it was done.
 
+  abbrev pub ClearDone : StoreValue D → StoreValue D → Result Bool StoreFault → Type 0
+  ClearDone old new result =
+      IfOk result (λ is_step. MatchBool is_step (Clears old new) (IsNotNow old (CanClear old) new ⊎ FindsClear old new))
+
   abbrev pub RollCloseDone : StoreValue D → StoreValue D → Result Bool StoreFault → Type 0
   RollCloseDone old new result = IsDoneIf old (IsRolled old.checkpoint 0) (RollsClose old new) new result
 
@@ -250,6 +285,9 @@ module _ {D : Type 0} (honest : Type 0) (view : D → View) where
       IfOk result (λ receipt. IfSome receipt (λ finished. (finished ≡ old.segment.epoch) × Finishes old new))
 
   -- What each step's fault says: the device failed, in this step or an earlier one.
+
+  abbrev pub ClearFaults : {T : Type 0} → StoreValue D → StoreValue D → Result T StoreFault → Type 0
+  ClearFaults old new result = IfErr result (λ fault. IsFault old fault (FailsToClear old new) new)
 
   abbrev pub RollCloseFaults : {T : Type 0} → StoreValue D → StoreValue D → Result T StoreFault → Type 0
   RollCloseFaults old new result = IfErr result (λ fault. IsFault old fault (FailsToRollClose old new) new)

@@ -2,6 +2,7 @@
 //! segment and the next image.
 #![tactic(auto)]
 
+mod clearing;
 mod receipt;
 mod store_half;
 mod under_way;

@@ -1,12 +1,13 @@
-ghost use Rattle.std.specs.Prelude.{◌≡◌, ◌↔◌, ◌⊎◌, ◌+◌, ◌<◌, ◌≤◌, true, false, length, None, Some, IfOk, IfErr, MatchResult, OnOk, is_some};
+ghost use Rattle.std.specs.Prelude.{◌≡◌, ◌↔◌, ◌⊎◌, ◌+◌, ◌<◌, ◌≤◌, true, false, length, None, Some, IfOk, IfErr, MatchBool, MatchResult, OnOk, is_some};
 ghost use Rattle.codes.specs.declared.limits.TheConstants.{MAX_RECORDS};
 ghost use Rattle.disk.specs.Moments.{IsSynced, one_more};
 ghost use Rattle.disk.specs.Slots.{slot_of};
 ghost use Rattle.slot_steps.specs.Steps.{segment_slot};
-ghost use Rattle.store_half.specs.Changes.{CloseImageDone, CloseImageFaults, FinishDone, FinishFaults, FinishNotNow, IsAppended, PassesAppend, RollCloseDone, RollCloseFaults, RollHeadDone, RollHeadFaults, RollOpenDone, RollOpenFaults, WritePieceDone, WritePieceFaults};
+ghost use Rattle.store_half.specs.Changes.{CanClear, ClearDone, ClearFaults, CloseImageDone, CloseImageFaults, FinishDone, FinishFaults, FinishNotNow, IsAppended, PassesAppend, RollCloseDone, RollCloseFaults, RollHeadDone, RollHeadFaults, RollOpenDone, RollOpenFaults, WritePieceDone, WritePieceFaults};
 ghost use Rattle.store_half.specs.Counting.{counted, counted_fault};
 ghost use Rattle.store_half.specs.Values.{begun};
 
+use crate::clearing::clear_segment;
 use crate::receipt::{Finished, Receipt};
 use crate::under_way::{Checkpoint, Cut, Making};
 use checkpoint::Image;
@@ -153,6 +154,36 @@ impl<D: Disk> StoreHalf<D> {
                 Err((StoreFault::Device, taken))
             }
         }
+    }
+
+    /// Takes the next step to clear the slot of the next epoch's segment. Returns whether there was one: none is left
+    /// once the slot isn't open and is as short as its header, and none is taken while a checkpoint is under way.
+    ///
+    /// `Failed`: the device failed in an earlier call, and nothing changed. `Device`: the device failed.
+    pub fn clear(&mut self) -> Result<bool, StoreFault>
+        ensures done { ClearDone D.honest D.view self.old self.new result }
+        ensures faults { ClearFaults D.honest D.view self.old self.new result }
+        ensures failures { D.failed_calls self.new.disk ≡ counted result (D.failed_calls self.old.disk) }
+        ensures calls { D.calls self.new.disk ≤ D.calls self.old.disk + 4 }
+    {
+        if self.failed {
+            return Err(StoreFault::Failed);
+        }
+        if !self.can_clear() {
+            return Ok(false);
+        }
+        let Ok(is_step) = clear_segment(&mut self.disk, self.segment.epoch + 1) else {
+            self.failed = true;
+            return Err(StoreFault::Device);
+        };
+        Ok(is_step)
+    }
+
+    /// Returns true if no checkpoint is under way and there is a next epoch.
+    fn can_clear(&self) -> bool
+        ensures { MatchBool result (CanClear self.now) (CanClear self.now → ⊥) }
+    {
+        !self.is_checkpointing() && self.segment.epoch < u64::MAX
     }
 
     /// Begins a checkpoint with the state at the end of the epoch in use. It takes no memory.

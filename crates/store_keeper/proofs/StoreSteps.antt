@@ -7,11 +7,12 @@ use Rattle.ipc_model.specs.calls.Step.{Run}
 use Rattle.ipc_model.specs.state.State.{State}
 use Rattle.history.specs.Entries.{records_of}
 use Rattle.store_fault.specs.declared.fault.StoreFault.{StoreFault}
+use Rattle.checkpoint_phases.proofs.Clearing.{clear_keeps, clear_passes, clear_fails, find_keeps, find_passes}
 use Rattle.checkpoint_phases.proofs.Images.{image_close_keeps, image_close_passes, image_close_fails, piece_keeps, piece_passes, piece_fails, finish_keeps, finish_passes, finish_fails}
 use Rattle.checkpoint_phases.proofs.Rolls.{roll_close_keeps, roll_close_passes, roll_close_fails, roll_head_keeps, roll_head_passes, roll_head_fails, roll_open_keeps, roll_open_passes, roll_open_fails}
 use Rattle.store_keeper.specs.Storing.{IsStoreKeeper, KeptAt, StoreKeeperValue}
 use Rattle.store_keeper.proofs.Storers.{Breaks, Goes, Stepped, stepped}
-use Rattle.store_half.specs.Changes.{CanFinish, CanOpen, ClosesImage, FailsToCloseImage, FailsToFinish, FailsToRollClose, FailsToRollHead, FailsToRollOpen, FailsToWritePiece, Finishes, HasImaged, HasPieceLeft, IsFault, IsFaultOrShortage, IsNotNow, IsRolled, RollsClose, RollsHead, RollsOpen, WritesPiece}
+use Rattle.store_half.specs.Changes.{CanClear, CanFinish, CanOpen, ClearDone, ClearFaults, Clears, ClosesImage, FailsToClear, FailsToCloseImage, FailsToFinish, FailsToRollClose, FailsToRollHead, FailsToRollOpen, FailsToWritePiece, FindsClear, Finishes, HasImaged, HasPieceLeft, IsFault, IsFaultOrShortage, IsNotNow, IsRolled, RollsClose, RollsHead, RollsOpen, WritesPiece}
 use Rattle.store_half.specs.Values.{StoreValue}
 use Rattle.system.proofs.Logs.{fit_take}
 
@@ -58,6 +59,44 @@ module _ {D : Type 0} (honest : Type 0) (view : D → View) (base : State) (old 
   does_once Done Fails Possible goes breaks (Ok (Some receipt)) done not_now fault = inl (inl (goes receipt done))
   does_once Done Fails Possible goes breaks (Ok None) done not_now fault = inr not_now.2
   does_once Done Fails Possible goes breaks (Err e) done not_now fault = fault_does Fails breaks e fault
+
+  clear_goes : Clears honest view old.store new → Goes honest view base old new
+  clear_goes clears = (
+    clears.unfailed,
+    ap (λ (s : StoreValue D). s.failed) clears.rest ∙ clears.unfailed,
+    λ is_honest kept. (
+      clear_keeps honest view is_honest old.store new kept.mid kept.state kept.kept clears,
+      clear_passes honest view is_honest old.store new kept.mid kept.state kept.kept clears,
+    ),
+  )
+
+  find_goes : FindsClear honest view old.store new → Goes honest view base old new
+  find_goes finds = (
+    finds.unfailed,
+    ap (λ (s : StoreValue D). s.failed) finds.rest ∙ finds.unfailed,
+    λ is_honest kept. (
+      find_keeps honest view is_honest old.store new kept.mid kept.state kept.kept finds,
+      find_passes honest view is_honest old.store new kept.mid kept.state kept.kept finds,
+    ),
+  )
+
+  clear_breaks : FailsToClear honest view old.store new → Breaks honest view base old new
+  clear_breaks fails = (
+    fails.unfailed,
+    ap (λ (s : StoreValue D). s.failed) fails.rest,
+    λ is_honest kept. clear_fails honest view is_honest old.store new kept.mid kept.state kept.kept fails,
+  )
+
+  clear_answers : (b : Bool) → MatchBool b (Clears honest view old.store new)
+      (IsNotNow old.store (CanClear old.store) new ⊎ FindsClear honest view old.store new) → Does
+  clear_answers true clears = inl (inl (clear_goes clears))
+  clear_answers false (inl not_now) = inr not_now.2
+  clear_answers false (inr finds) = inl (inl (find_goes finds))
+
+  clear_does : (r : Result Bool StoreFault) → ClearDone honest view old.store new r
+      → ClearFaults honest view old.store new r → Does
+  clear_does (Ok is_step) done fault = clear_answers is_step done
+  clear_does (Err e) done fault = fault_does (FailsToClear honest view old.store new) clear_breaks e fault
 
   closes_goes : RollsClose honest view old.store new → Goes honest view base old new
   closes_goes rolls = (
@@ -178,6 +217,10 @@ module _ {D : Type 0} (honest : Type 0) (view : D → View) (base : State) (old 
   -- the steps, by what they answered
 
   module _ (is : IsStoreKeeper honest view base old) where
+    pub clear_steps : (r : Result Bool StoreFault) → ClearDone honest view old.store new r
+        → ClearFaults honest view old.store new r → Stepped honest view base old new
+    clear_steps r done fault = stepped honest view base old new is (clear_does r done fault)
+
     pub close_steps : (r : Result Bool StoreFault)
         → IfOk r (λ is_done. MatchBool is_done (RollsClose honest view old.store new)
         (IsNotNow old.store (IsRolled old.store.checkpoint 0) new))

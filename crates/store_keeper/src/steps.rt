@@ -1,7 +1,8 @@
-//! The steps of a checkpoint. A crash at any moment of each of them leaves what is stored.
+//! The steps of a checkpoint, and those that clear the next segment's slot before it. A crash at any moment of each of
+//! them leaves what is stored.
 ghost use Rattle.std.specs.Prelude.{◌+◌, ◌≡◌, ◌≤◌};
 ghost use Rattle.store_keeper.specs.Storing.{LosesNothing};
-ghost use Rattle.store_half.specs.Changes.{CanOpen, CloseImageDone, CloseImageFaults, FinishDone, FinishFaults, FinishNotNow, IsDoneIf, RollCloseDone, RollCloseFaults, RollHeadDone, RollHeadFaults, RollOpenDone, RollOpenFaults, RollsOpen, WritePieceDone, WritePieceFaults};
+ghost use Rattle.store_half.specs.Changes.{CanOpen, ClearDone, ClearFaults, CloseImageDone, CloseImageFaults, FinishDone, FinishFaults, FinishNotNow, IsDoneIf, RollCloseDone, RollCloseFaults, RollHeadDone, RollHeadFaults, RollOpenDone, RollOpenFaults, RollsOpen, WritePieceDone, WritePieceFaults};
 ghost use Rattle.store_half.specs.Counting.{counted};
 
 use crate::StoreKeeper;
@@ -12,6 +13,21 @@ use store_fault::StoreFault;
 use store_half::Finished;
 
 impl<L: Founding, D: Disk> StoreKeeper<L, D> {
+    /// Takes the next step to clear the slot of the next epoch's segment. Returns whether there was one: none is left
+    /// once the slot isn't open and is as short as its header, and none is taken while a checkpoint is under way.
+    ///
+    /// `Failed`: the device failed in an earlier step, and nothing changed. `Device`: the device failed.
+    pub fn clear(&mut self) -> Result<bool, StoreFault>
+        ensures done { ClearDone D.honest D.view self.old.store self.new.store result }
+        ensures faults { ClearFaults D.honest D.view self.old.store self.new.store result }
+        ensures failures { D.failed_calls self.new.store.disk ≡ counted result (D.failed_calls self.old.store.disk) }
+        ensures calls { D.calls self.new.store.disk ≤ D.calls self.old.store.disk + 4 }
+        ensures rest { self.new ≡ record self.old { store = self.new.store } }
+        ensures any_moment { D.honest → LosesNothing D.view L.base self.old self.new }
+    {
+        self.store.clear()
+    }
+
     /// Closes the slot of the next segment. Returns whether that was the next step.
     ///
     /// `Failed`: the device failed in an earlier step, and nothing changed. `Device`: the device failed.
