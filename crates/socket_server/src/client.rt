@@ -5,11 +5,10 @@ use disk::Disk;
 use frame_service::{Asker, Conversation};
 use mio::unix::SourceFd;
 use mio::{Interest, Registry, Token};
-use sessions::{Founding, OpenGate, Peer, Report};
-use socket_session::Stream;
+use sessions::{Founding, OpenGate, Peer};
+use socket_session::{Asked, Connected, Stream};
 use std::alloc::Global;
 use std::collections::BTreeMap;
-use std::io::{Read, Write};
 use std::os::fd::AsRawFd;
 use std::sync::Wait;
 
@@ -19,20 +18,48 @@ const MOST_READS: usize = 16;
 /// The kernel's lock, held by a worker.
 pub(crate) type Held<'a, L, D, R> = socket_session::Held<'a, L, D, OpenGate, R>;
 
-/// The conversation of a session over a socket.
-pub(crate) type Talk<'a, L, D, R> = socket_session::Talk<
-    'a,
-    L,
-    D,
-    OpenGate,
-    R,
-    Stream,
-    Stream,
-    Stream,
->;
+/// The caller of a connection to a server.
+pub(crate) type Caller<'a, L, D, R> = Connected<'a, L, D, OpenGate, R, Stream>;
+
+/// The conversation of a caller over a socket.
+pub(crate) type Talk<A> = Conversation<Stream, Stream, A>;
 
 /// Connections by the numbers of their sessions.
 pub(crate) type Clients<T> = BTreeMap<u32, Client<T>>;
+
+/// What a worker asks of a connection's caller besides its calls. What is generic in it is proved without the types of
+/// the store.
+pub(crate) trait Served: Asker {
+    /// Returns the number of its session.
+    fn session_number(&self) -> u32;
+
+    /// Returns its socket.
+    fn stream(&self) -> &Stream;
+
+    /// Returns how many records a ticket's reply saw.
+    fn seen(ticket: &Self::Ticket) -> u64;
+
+    /// Returns true if a session's call waits in line, or its turn has come.
+    fn is_waiting(turn: &Self::Turn, session: u32) -> bool;
+}
+
+impl<'a, L: Founding, D: Disk, R: Wait> Served for Caller<'a, L, D, R> {
+    fn session_number(&self) -> u32 {
+        self.number()
+    }
+
+    fn stream(&self) -> &Stream {
+        self.peer()
+    }
+
+    fn seen(ticket: &Asked) -> u64 {
+        ticket.seen()
+    }
+
+    fn is_waiting(turn: &Held<'a, L, D, R>, session: u32) -> bool {
+        turn.is_waiting(session)
+    }
+}
 
 /// A connection, with what its worker knows of it: with a `Talk`.
 #[derive(Drop)]
@@ -41,61 +68,9 @@ pub(crate) struct Client<T> {
     pub(crate) standing: Standing,
 }
 
-impl<S: Read, W: Write, A: Asker> Client<Conversation<S, W, A>> {
-    /// Returns true if a call of it waits.
-    pub(crate) fn waits(&self) -> bool {
-        self.talk.waits().is_some()
-    }
-
-    /// Reads what there is.
-    fn read_all(&mut self) {
-        for _ in 0..MOST_READS {
-            if !self.standing.may_read(self.talk.ahead()) {
-                return;
-            }
-            self.standing.note_filled(self.talk.read());
-        }
-    }
-
-    /// Makes the calls that can be made now, in this turn, which it gives back if it is still held.
-    fn make_calls(&mut self, alloc: Global, turn: A::Turn) -> Option<A::Turn> {
-        if !self.waits() {
-            return self.talk.take(alloc, turn);
-        }
-        let may_wait = self.standing.begin_try();
-        let (turn, tried) = self.talk.try_again(alloc, turn, may_wait);
-        self.standing.note_tried(tried, may_wait);
-        turn
-    }
-
-    /// Answers what can be answered by this report, and gives the peer what it accepts. Returns true if output is left.
-    fn send(&mut self, reply: &mut ReplyFrame, known: &mut A::Known) -> bool {
-        let earlier = self.talk.unsent();
-        let answered = reply.answer(&mut self.talk, known);
-        self.standing.note_outcome(answered.is_ok());
-        let before = self.talk.unsent();
-        let flushed = self.talk.flush();
-        self.standing.note_outcome(flushed.is_ok());
-        let left = self.talk.unsent();
-        self.standing
-            .note_sent(earlier == 0 || left != before, left != 0);
-        left != 0
-    }
-}
-
-/// Brings the sessions of all connections up to date with the history. It makes no call.
-pub(crate) fn look_all<S: Read, W: Write, A: Asker>(
-    clients: &mut Clients<Conversation<S, W, A>>,
-    latest: &mut A::Latest,
-) {
-    for client in clients.values_mut() {
-        client.talk.look(latest);
-    }
-}
-
-impl<'a, L: Founding, D: Disk, R: Wait> Client<Talk<'a, L, D, R>> {
+impl<A: Served> Client<Talk<A>> {
     /// Creates a connection and registers it with `registry`.
-    pub(crate) fn new(talk: Talk<'a, L, D, R>, registry: &Registry) -> Self {
+    pub(crate) fn new(talk: Talk<A>, registry: &Registry) -> Self {
         let mut client = Client {
             talk,
             standing: Standing::new(),
@@ -106,12 +81,12 @@ impl<'a, L: Founding, D: Disk, R: Wait> Client<Talk<'a, L, D, R>> {
 
     /// Returns the number of its session.
     pub(crate) fn number(&self) -> u32 {
-        self.talk.asker().number()
+        self.talk.asker().session_number()
     }
 
     /// Returns its socket.
     fn stream(&self) -> &Stream {
-        self.talk.asker().peer()
+        self.talk.asker().stream()
     }
 
     fn register(&mut self, registry: &Registry) {
@@ -140,7 +115,12 @@ impl<'a, L: Founding, D: Disk, R: Wait> Client<Talk<'a, L, D, R>> {
     /// Reads what there is.
     pub(crate) fn read(&mut self) {
         self.note_gone();
-        self.read_all();
+        for _ in 0..MOST_READS {
+            if !self.standing.may_read(self.talk.ahead()) {
+                return;
+            }
+            self.standing.note_filled(self.talk.read());
+        }
     }
 
     /// After an event, notes whether the peer has gone while a call of it waits.
@@ -151,10 +131,15 @@ impl<'a, L: Founding, D: Disk, R: Wait> Client<Talk<'a, L, D, R>> {
         }
     }
 
+    /// Returns true if a call of it waits.
+    pub(crate) fn waits(&self) -> bool {
+        self.talk.waits().is_some()
+    }
+
     /// Returns how far its conversation has come.
     fn progress(&self) -> Progress {
         let awaited = match self.talk.awaited() {
-            Some(asked) => Some(asked.seen()),
+            Some(ticket) => Some(A::seen(ticket)),
             None => None,
         };
         Progress {
@@ -171,34 +156,53 @@ impl<'a, L: Founding, D: Disk, R: Wait> Client<Talk<'a, L, D, R>> {
         self.standing.has_work(self.progress())
     }
 
-    /// Makes the calls that can be made now, with this lock held.
-    pub(crate) fn work(
-        &mut self,
-        alloc: Global,
-        held: Held<'a, L, D, R>,
-    ) -> Option<Held<'a, L, D, R>> {
-        let held = self.make_calls(alloc, held);
-        let is_in_line = match &held {
-            Some(held) => held.is_waiting(self.number()),
+    /// Makes the calls that can be made now, in this turn, which it gives back if it is still held.
+    pub(crate) fn work(&mut self, alloc: Global, turn: A::Turn) -> Option<A::Turn> {
+        let turn = self.make_calls(alloc, turn);
+        let is_in_line = match &turn {
+            Some(turn) => A::is_waiting(turn, self.number()),
             None => false,
         };
         let waits = self.waits();
         self.standing.note_line(waits, is_in_line);
-        held
+        turn
+    }
+
+    fn make_calls(&mut self, alloc: Global, turn: A::Turn) -> Option<A::Turn> {
+        if !self.waits() {
+            return self.talk.take(alloc, turn);
+        }
+        let may_wait = self.standing.begin_try();
+        let (turn, tried) = self.talk.try_again(alloc, turn, may_wait);
+        self.standing.note_tried(tried, may_wait);
+        turn
     }
 
     /// Answers what can be answered by this report, and gives the peer what it accepts.
     pub(crate) fn answer(
         &mut self,
         reply: &mut ReplyFrame,
-        report: &mut Report<L>,
+        known: &mut A::Known,
         registry: &Registry,
     ) {
         if self.standing.has_failed() {
             return;
         }
-        let is_left = self.send(reply, report);
-        self.report_room(registry, is_left);
+        let earlier = self.talk.unsent();
+        let answered = reply.answer(&mut self.talk, known);
+        self.standing.note_outcome(answered.is_ok());
+        let before = self.talk.unsent();
+        let flushed = self.talk.flush();
+        self.standing.note_outcome(flushed.is_ok());
+        let left = self.talk.unsent();
+        self.standing
+            .note_sent(earlier == 0 || left != before, left != 0);
+        self.report_room(registry, left != 0);
+    }
+
+    /// Brings its session up to date with the history. It makes no call.
+    pub(crate) fn look(&mut self, latest: &mut A::Latest) {
+        self.talk.look(latest);
     }
 
     /// Returns what it waits for now.
@@ -207,8 +211,7 @@ impl<'a, L: Founding, D: Disk, R: Wait> Client<Talk<'a, L, D, R>> {
     }
 
     /// Closes its socket.
-    pub(crate) fn end(self) {
-        let Client { talk, .. } = self;
-        talk.asker().peer().close();
+    pub(crate) fn close(&self) {
+        self.stream().close();
     }
 }

@@ -1,6 +1,6 @@
 //! What a worker uses of its server.
 
-use crate::client::{Held, Talk};
+use crate::client::{Caller, Held, Talk};
 use crate::door::{Arrival, Door};
 use disk::Disk;
 use sessions::{Founding, Latest, OpenGate, Report, Shared};
@@ -32,7 +32,7 @@ impl<'a, L: Founding, D: Disk, R: Wait + AllocGlobal> Context<'a, L, D, R> {
     }
 
     /// Begins to serve a connection. If there is no session or memory for it, it is closed.
-    pub(crate) fn begin(&self, arrival: Arrival<L>) -> Option<Talk<'a, L, D, R>> {
+    pub(crate) fn begin(&self, arrival: Arrival<L>) -> Option<Talk<Caller<'a, L, D, R>>> {
         let Arrival { socket, admission } = arrival;
         let stream = Stream::new(self.rt.alloc(), socket).ok()?;
         let worker = Arc::try_clone(self.door.worker()).ok()?;

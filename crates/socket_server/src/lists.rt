@@ -14,12 +14,13 @@ pub(crate) const RETRY_MILLISECONDS: u64 = 10;
 /// what is done doesn't carry it.
 #[derive(Drop)]
 pub(crate) struct Lists {
-    // Sessions that are runnable; that ran in this round; that await records; and for which an allocation failed that is
-    // tried again. There is room for all of them.
+    // Sessions that are runnable; that ran in this round; that await records; for which an allocation failed that is
+    // tried again; and that ended. There is room for all of them.
     ready: VecDeque<u32>,
     worked: Vec<u32>,
     awaiting: Vec<u32>,
     failed: Vec<u32>,
+    ended: Vec<u32>,
 
     // The sessions whose call's turn has come, and whether they are to be asked for.
     due: Vec<u32>,
@@ -37,6 +38,7 @@ impl Lists {
             worked: Vec::new(alloc),
             awaiting: Vec::new(alloc),
             failed: Vec::new(alloc),
+            ended: Vec::new(alloc),
             due: Vec::new(alloc),
             lacks_due: false,
             least_awaited: None,
@@ -48,7 +50,8 @@ impl Lists {
         self.ready.reserve(count)?;
         self.worked.reserve(count)?;
         self.awaiting.reserve(count)?;
-        self.failed.reserve(count)
+        self.failed.reserve(count)?;
+        self.ended.reserve(count)
     }
 
     /// Returns how long a worker may wait for events whose next timer expires after `left`.
@@ -97,7 +100,8 @@ impl Lists {
         self.worked.pop()
     }
 
-    /// Notes what a session that ran awaits, and sets its timer to that, unless it awaits the same still.
+    /// Notes what a session that ran awaits, and sets its timer to that, unless it awaits the same still; or that it
+    /// ended.
     pub(crate) fn note_awaits(
         &mut self,
         clock: &impl Clock,
@@ -110,12 +114,26 @@ impl Lists {
         match awaits {
             Awaits::Nothing => self.make_ready(standing, session),
             Awaits::Records(seen) => self.await_records(session, seen),
+            Awaits::End => {
+                let _ = self.ended.push(session);
+                return;
+            }
             _ => {}
         }
         let is_set = set_timer(clock, timers, standing, session, awaits);
         if !is_set || standing.has_no_line() {
             let _ = self.failed.push(session);
         }
+    }
+
+    /// Returns the number of sessions that ended and weren't taken.
+    pub(crate) fn ended(&self) -> usize {
+        self.ended.len()
+    }
+
+    /// Takes a session that ended.
+    pub(crate) fn take_ended(&mut self) -> Option<u32> {
+        self.ended.pop()
     }
 
     fn await_records(&mut self, session: u32, seen: u64) {

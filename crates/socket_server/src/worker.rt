@@ -1,16 +1,15 @@
 //! A thread that serves many connections, each as far as it goes without waiting.
 
-use crate::client::{Client, Clients, Held, Talk, look_all};
+use crate::client::{Caller, Client, Clients, Held, Served, Talk};
 use crate::context::Context;
 use crate::door::Door;
 use crate::lists::{Lists, RETRY_MILLISECONDS};
 use crate::replies::ReplyFrame;
-use crate::standing::Awaits;
 use crate::timers::Timers;
 use disk::Disk;
 use mio::event::Events;
 use mio::{Poll, Token, Waker};
-use sessions::{Founding, OpenGate, Report, Shared};
+use sessions::{Founding, OpenGate, Shared};
 use std::alloc::{AllocGlobal, Global};
 use std::collections::BTreeMap;
 use std::net::Net;
@@ -75,8 +74,8 @@ pub(crate) fn run<L: Founding, D: Disk, R: Wait + Clock + AllocGlobal>(
     unreachable!()
 }
 
-/// A worker with its connections: with a `Talk` for each. What needs no conversation is a function that is generic in
-/// `T`, whose proof doesn't carry the type of one.
+/// A worker with its connections: with the `Talk` of a `Caller` for each. What doesn't need the store is a function over
+/// the lists and the connections, whose proof doesn't carry the store's types.
 #[derive(Drop)]
 struct Work<'a, L: Founding, D: Disk, R, T> {
     context: Context<'a, L, D, R>,
@@ -85,7 +84,13 @@ struct Work<'a, L: Founding, D: Disk, R, T> {
     lists: Lists,
 }
 
-impl<'a, L: Founding, D: Disk, R: Wait + Clock + AllocGlobal> Work<'a, L, D, R, Talk<'a, L, D, R>> {
+impl<'a, L: Founding, D: Disk, R: Wait + Clock + AllocGlobal> Work<
+    'a,
+    L,
+    D,
+    R,
+    Talk<Caller<'a, L, D, R>>,
+> {
     /// With no connection.
     fn new(rt: &'a R, shared: &'a Shared<L, D, OpenGate>, door: &'a Door<L>, tools: Tools) -> Self {
         Work {
@@ -98,12 +103,8 @@ impl<'a, L: Founding, D: Disk, R: Wait + Clock + AllocGlobal> Work<'a, L, D, R, 
 
     /// Waits until there is something to do, and does it.
     fn round(&mut self) {
-        let is_woken = wait(
-            self.context.rt,
-            &mut self.tools,
-            &mut self.lists,
-            &mut self.clients,
-        );
+        let rt = self.context.rt;
+        let is_woken = wait(rt, &mut self.tools, &mut self.lists, &mut self.clients);
         if is_woken {
             self.admit();
         }
@@ -114,9 +115,10 @@ impl<'a, L: Founding, D: Disk, R: Wait + Clock + AllocGlobal> Work<'a, L, D, R, 
             &mut self.clients,
             is_woken,
         );
-        self.read();
+        read_ready(&self.lists, &mut self.clients);
         self.make_calls();
         self.answer();
+        self.remove_ended();
     }
 
     /// Takes in the connections that were accepted.
@@ -132,22 +134,13 @@ impl<'a, L: Founding, D: Disk, R: Wait + Clock + AllocGlobal> Work<'a, L, D, R, 
     }
 
     /// Adds a connection.
-    fn add(&mut self, talk: Talk<'a, L, D, R>) {
+    fn add(&mut self, talk: Talk<Caller<'a, L, D, R>>) {
         let client = Client::new(talk, self.tools.poll.registry());
         let number = client.number();
         if let Ok(former) = self.clients.insert(number, client) {
             end(former);
         }
         self.lists.note_event(&mut self.clients, number);
-    }
-
-    /// Reads what there is for all that are ready.
-    fn read(&mut self) {
-        for session in self.lists.ready().iter() {
-            if let Some(client) = self.clients.get_mut(session) {
-                client.read();
-            }
-        }
     }
 
     /// Makes the calls of those that are ready, under one hold of the kernel's lock.
@@ -160,7 +153,9 @@ impl<'a, L: Founding, D: Disk, R: Wait + Clock + AllocGlobal> Work<'a, L, D, R, 
             let Some(session) = self.lists.take_ready() else {
                 break;
             };
-            held = self.work(session, held);
+            if begin_work(&mut self.lists, &mut self.clients, session) {
+                held = self.work(session, held);
+            }
             note_turns(&self.context, &mut self.lists, &mut self.clients, &mut held);
         }
         if let Some(held) = held {
@@ -168,77 +163,121 @@ impl<'a, L: Founding, D: Disk, R: Wait + Clock + AllocGlobal> Work<'a, L, D, R, 
         }
     }
 
-    /// Makes the calls of one session, which is ready.
+    /// Makes the calls of one session, with the kernel's lock held.
     fn work(&mut self, session: u32, held: Option<Held<'a, L, D, R>>) -> Option<Held<'a, L, D, R>> {
-        let Some(client) = self.clients.get_mut(&session) else {
-            return held;
-        };
-        self.lists.note_work(&mut client.standing, session);
-        if !client.has_work() {
-            return held;
-        }
         let held = match held {
             Some(held) => held,
             None => self.context.hold(),
         };
-        client.work(self.context.alloc(), held)
+        work_in(self.context.alloc(), &mut self.clients, session, held)
     }
 
     /// Answers those for which something was done, as far as their replies can be had. If an epoch ended, brings all
     /// sessions up to date, so that none keeps the history block of that epoch.
     fn answer(&mut self) {
         let (mut report, latest) = self.context.report();
-        for _ in 0..self.lists.worked() {
-            let Some(session) = self.lists.take_worked() else {
-                break;
-            };
-            self.answer_one(session, &mut report);
-        }
+        answer_worked(
+            self.context.rt,
+            &mut self.tools,
+            &mut self.lists,
+            &mut self.clients,
+            &mut report,
+        );
         await_records(&self.context, &mut self.lists, &mut self.clients);
         if let Some(mut latest) = latest {
             look_all(&mut self.clients, &mut latest);
         }
     }
 
-    /// Answers one session.
-    fn answer_one(&mut self, session: u32, report: &mut Report<L>) {
-        let Some(client) = self.clients.get_mut(&session) else {
-            return;
-        };
-        client.answer(&mut self.tools.reply, report, self.tools.poll.registry());
-        let awaits = client.awaits();
-        if let Awaits::End = awaits {
-            self.remove(session);
-            return;
-        }
-        self.lists.note_awaits(
-            self.context.rt,
-            &mut self.tools.timers,
-            &mut client.standing,
-            session,
-            awaits,
-        );
-    }
-
-    /// Ends a connection.
-    fn remove(&mut self, session: u32) {
-        if let Some(client) = self.clients.get(&session) {
-            if let Some(end) = client.standing.timer() {
-                self.tools.timers.clear(end, session);
-            }
-            if client.waits() {
+    /// Removes the connections that ended.
+    fn remove_ended(&mut self) {
+        for _ in 0..self.lists.ended() {
+            let Some(session) = self.lists.take_ended() else {
+                break;
+            };
+            if clear(&mut self.tools.timers, &self.clients, session) {
                 self.context.leave_line(session);
             }
+            end(self.clients.remove(&session));
         }
-        end(self.clients.remove(&session));
     }
 }
 
 /// Closes a connection's socket, if there is one.
-fn end<'a, L: Founding, D: Disk, R: Wait>(client: Option<Client<Talk<'a, L, D, R>>>) {
+fn end<'a, L: Founding, D: Disk, R: Wait>(client: Option<Client<Talk<Caller<'a, L, D, R>>>>) {
     if let Some(client) = client {
-        client.end();
+        client.close();
     }
+}
+
+/// Reads what there is for all that are ready.
+fn read_ready<A: Served>(lists: &Lists, clients: &mut Clients<Talk<A>>) {
+    for session in lists.ready().iter() {
+        if let Some(client) = clients.get_mut(session) {
+            client.read();
+        }
+    }
+}
+
+/// Takes up a session that was ready. Returns true if there is a call to be made.
+fn begin_work<A: Served>(lists: &mut Lists, clients: &mut Clients<Talk<A>>, session: u32) -> bool {
+    let Some(client) = clients.get_mut(&session) else {
+        return false;
+    };
+    lists.note_work(&mut client.standing, session);
+    client.has_work()
+}
+
+/// Makes the calls of one session in this turn, which it gives back if it is still held.
+fn work_in<A: Served>(
+    alloc: Global,
+    clients: &mut Clients<Talk<A>>,
+    session: u32,
+    turn: A::Turn,
+) -> Option<A::Turn> {
+    let Some(client) = clients.get_mut(&session) else {
+        return Some(turn);
+    };
+    client.work(alloc, turn)
+}
+
+/// Answers those for which something was done, as far as their replies can be had by this report.
+fn answer_worked<C: Clock, A: Served>(
+    clock: &C,
+    tools: &mut Tools,
+    lists: &mut Lists,
+    clients: &mut Clients<Talk<A>>,
+    known: &mut A::Known,
+) {
+    for _ in 0..lists.worked() {
+        let Some(session) = lists.take_worked() else {
+            break;
+        };
+        if let Some(client) = clients.get_mut(&session) {
+            client.answer(&mut tools.reply, known, tools.poll.registry());
+            let awaits = client.awaits();
+            let standing = &mut client.standing;
+            lists.note_awaits(clock, &mut tools.timers, standing, session, awaits);
+        }
+    }
+}
+
+/// Brings all sessions up to date with the history. It takes no lock.
+fn look_all<A: Served>(clients: &mut Clients<Talk<A>>, latest: &mut A::Latest) {
+    for client in clients.values_mut() {
+        client.look(latest);
+    }
+}
+
+/// Clears the timer of a session. Returns true if a call of it waits.
+fn clear<A: Served>(timers: &mut Timers, clients: &Clients<Talk<A>>, session: u32) -> bool {
+    let Some(client) = clients.get(&session) else {
+        return false;
+    };
+    if let Some(end) = client.standing.timer() {
+        timers.clear(end, session);
+    }
+    client.waits()
 }
 
 /// Returns true if many records were made with the lock held.
