@@ -2,12 +2,14 @@
 use crate::replies::ReplyFrame;
 use crate::standing::{Awaits, Progress, Standing};
 use disk::Disk;
+use frame_service::{Asker, Conversation};
 use mio::unix::SourceFd;
 use mio::{Interest, Registry, Token};
-use sessions::{Founding, Latest, OpenGate, Peer, Report};
+use sessions::{Founding, OpenGate, Peer, Report};
 use socket_session::Stream;
 use std::alloc::Global;
 use std::collections::BTreeMap;
+use std::io::{Read, Write};
 use std::os::fd::AsRawFd;
 use std::sync::Wait;
 
@@ -37,6 +39,58 @@ pub(crate) type Clients<T> = BTreeMap<u32, Client<T>>;
 pub(crate) struct Client<T> {
     talk: T,
     pub(crate) standing: Standing,
+}
+
+impl<S: Read, W: Write, A: Asker> Client<Conversation<S, W, A>> {
+    /// Returns true if a call of it waits.
+    pub(crate) fn waits(&self) -> bool {
+        self.talk.waits().is_some()
+    }
+
+    /// Reads what there is.
+    fn read_all(&mut self) {
+        for _ in 0..MOST_READS {
+            if !self.standing.may_read(self.talk.ahead()) {
+                return;
+            }
+            self.standing.note_filled(self.talk.read());
+        }
+    }
+
+    /// Makes the calls that can be made now, in this turn, which it gives back if it is still held.
+    fn make_calls(&mut self, alloc: Global, turn: A::Turn) -> Option<A::Turn> {
+        if !self.waits() {
+            return self.talk.take(alloc, turn);
+        }
+        let may_wait = self.standing.begin_try();
+        let (turn, tried) = self.talk.try_again(alloc, turn, may_wait);
+        self.standing.note_tried(tried, may_wait);
+        turn
+    }
+
+    /// Answers what can be answered by this report, and gives the peer what it accepts. Returns true if output is left.
+    fn send(&mut self, reply: &mut ReplyFrame, known: &mut A::Known) -> bool {
+        let earlier = self.talk.unsent();
+        let answered = reply.answer(&mut self.talk, known);
+        self.standing.note_outcome(answered.is_ok());
+        let before = self.talk.unsent();
+        let flushed = self.talk.flush();
+        self.standing.note_outcome(flushed.is_ok());
+        let left = self.talk.unsent();
+        self.standing
+            .note_sent(earlier == 0 || left != before, left != 0);
+        left != 0
+    }
+}
+
+/// Brings the sessions of all connections up to date with the history. It makes no call.
+pub(crate) fn look_all<S: Read, W: Write, A: Asker>(
+    clients: &mut Clients<Conversation<S, W, A>>,
+    latest: &mut A::Latest,
+) {
+    for client in clients.values_mut() {
+        client.talk.look(latest);
+    }
 }
 
 impl<'a, L: Founding, D: Disk, R: Wait> Client<Talk<'a, L, D, R>> {
@@ -86,12 +140,7 @@ impl<'a, L: Founding, D: Disk, R: Wait> Client<Talk<'a, L, D, R>> {
     /// Reads what there is.
     pub(crate) fn read(&mut self) {
         self.note_gone();
-        for _ in 0..MOST_READS {
-            if !self.standing.may_read(self.talk.ahead()) {
-                return;
-            }
-            self.standing.note_filled(self.talk.read());
-        }
+        self.read_all();
     }
 
     /// After an event, notes whether the peer has gone while a call of it waits.
@@ -133,17 +182,8 @@ impl<'a, L: Founding, D: Disk, R: Wait> Client<Talk<'a, L, D, R>> {
             Some(held) => held.is_waiting(self.number()),
             None => false,
         };
-        self.standing.note_line(self.waits(), is_in_line);
-        held
-    }
-
-    fn make_calls(&mut self, alloc: Global, held: Held<'a, L, D, R>) -> Option<Held<'a, L, D, R>> {
-        if !self.waits() {
-            return self.talk.take(alloc, held);
-        }
-        let may_wait = self.standing.begin_try();
-        let (held, tried) = self.talk.try_again(alloc, held, may_wait);
-        self.standing.note_tried(tried, may_wait);
+        let waits = self.waits();
+        self.standing.note_line(waits, is_in_line);
         held
     }
 
@@ -157,31 +197,13 @@ impl<'a, L: Founding, D: Disk, R: Wait> Client<Talk<'a, L, D, R>> {
         if self.standing.has_failed() {
             return;
         }
-        let earlier = self.talk.unsent();
-        let answered = reply.answer(&mut self.talk, report);
-        self.standing.note_outcome(answered.is_ok());
-        let before = self.talk.unsent();
-        let flushed = self.talk.flush();
-        self.standing.note_outcome(flushed.is_ok());
-        let left = self.talk.unsent();
-        self.standing
-            .note_sent(earlier == 0 || left != before, left != 0);
-        self.report_room(registry, left != 0);
-    }
-
-    /// Brings its session up to date with the history. It makes no call.
-    pub(crate) fn look(&mut self, latest: &mut Latest<L>) {
-        self.talk.look(latest);
+        let is_left = self.send(reply, report);
+        self.report_room(registry, is_left);
     }
 
     /// Returns what it waits for now.
     pub(crate) fn awaits(&self) -> Awaits {
         self.standing.awaits(self.progress())
-    }
-
-    /// Returns true if a call of it waits.
-    pub(crate) fn waits(&self) -> bool {
-        self.talk.waits().is_some()
     }
 
     /// Closes its socket.

@@ -14,7 +14,7 @@ const UNREAD_MILLISECONDS: u32 = 5_000;
 const RETRY_MILLISECONDS: u32 = 10;
 
 /// What a connection waits for, once all was done for it that could be.
-#[derive(Clone, Copy, Debug, PartialEq, Eq)]
+#[derive(Clone, Copy)]
 pub(crate) enum Awaits {
     /// More input.
     Input,
@@ -33,7 +33,7 @@ pub(crate) enum Awaits {
 }
 
 /// What a connection's timer is set for.
-#[derive(Clone, Copy, Debug, PartialEq, Eq)]
+#[derive(Clone, Copy, PartialEq, Eq)]
 pub(crate) enum Timed {
     Turn,
     Room,

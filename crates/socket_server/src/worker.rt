@@ -1,6 +1,6 @@
 //! A thread that serves many connections, each as far as it goes without waiting.
 
-use crate::client::{Client, Clients, Held, Talk};
+use crate::client::{Client, Clients, Held, Talk, look_all};
 use crate::context::Context;
 use crate::door::Door;
 use crate::lists::{Lists, RETRY_MILLISECONDS};
@@ -10,7 +10,7 @@ use crate::timers::Timers;
 use disk::Disk;
 use mio::event::Events;
 use mio::{Poll, Token, Waker};
-use sessions::{Founding, Latest, OpenGate, Report, Shared};
+use sessions::{Founding, OpenGate, Report, Shared};
 use std::alloc::{AllocGlobal, Global};
 use std::collections::BTreeMap;
 use std::net::Net;
@@ -185,7 +185,7 @@ impl<'a, L: Founding, D: Disk, R: Wait + Clock + AllocGlobal> Work<'a, L, D, R, 
     }
 
     /// Answers those for which something was done, as far as their replies can be had. If an epoch ended, brings all
-    /// sessions up to date.
+    /// sessions up to date, so that none keeps the history block of that epoch.
     fn answer(&mut self) {
         let (mut report, latest) = self.context.report();
         for _ in 0..self.lists.worked() {
@@ -195,8 +195,8 @@ impl<'a, L: Founding, D: Disk, R: Wait + Clock + AllocGlobal> Work<'a, L, D, R, 
             self.answer_one(session, &mut report);
         }
         await_records(&self.context, &mut self.lists, &mut self.clients);
-        if let Some(latest) = latest {
-            self.look(latest);
+        if let Some(mut latest) = latest {
+            look_all(&mut self.clients, &mut latest);
         }
     }
 
@@ -207,7 +207,7 @@ impl<'a, L: Founding, D: Disk, R: Wait + Clock + AllocGlobal> Work<'a, L, D, R, 
         };
         client.answer(&mut self.tools.reply, report, self.tools.poll.registry());
         let awaits = client.awaits();
-        if awaits == Awaits::End {
+        if let Awaits::End = awaits {
             self.remove(session);
             return;
         }
@@ -231,14 +231,6 @@ impl<'a, L: Founding, D: Disk, R: Wait + Clock + AllocGlobal> Work<'a, L, D, R, 
             }
         }
         end(self.clients.remove(&session));
-    }
-
-    /// Brings all sessions up to date, so that none keeps the history block of an epoch that ended. It takes no lock.
-    fn look(&mut self, latest: Latest<L>) {
-        let mut latest = latest;
-        for client in self.clients.values_mut() {
-            client.look(&mut latest);
-        }
     }
 }
 
