@@ -5,7 +5,7 @@ ghost use Rattle.slot_steps.specs.Steps.{ClearsSlot, FindsSlotClear, IsClosing, 
 use disk::{Disk, DiskFault};
 use slot_steps::{SEGMENT_HEADER, clear_slot, segment_slot};
 
-/// How many bytes a step truncates at most. Such a truncation takes about 2 ms on ext4, and batches wait for it.
+/// The most bytes that one step truncates. Such a truncation takes about 2 ms on ext4, and batches wait for it.
 const CLEARED_BYTES: u64 = 1_048_576;
 
 /// Takes the next step to clear the slot of an epoch's segment. Returns whether there was one.
