@@ -6,6 +6,7 @@ use disk::Disk;
 use sessions::{Founding, Latest, OpenGate, Report, Shared};
 use socket_session::{Stream, begin};
 use std::alloc::{AllocGlobal, Global};
+use std::os::unix::net::UnixStream;
 use std::sync::{Arc, Wait};
 
 /// What a worker uses of its server: the runtime, the shared store, and the door at which it gets its connections.
@@ -31,13 +32,13 @@ impl<'a, L: Founding, D: Disk, R: Wait + AllocGlobal> Context<'a, L, D, R> {
         self.door.take_arrivals(self.rt, self.rt.alloc())
     }
 
-    /// Begins to serve a connection. If there is no session or memory for it, it is closed.
+    /// Begins the conversation of a connection. If there is no session or memory for it, the connection is closed.
     pub(crate) fn begin(&self, arrival: Arrival<L>) -> Option<Talk<Caller<'a, L, D, R>>> {
         let Arrival { socket, admission } = arrival;
-        let stream = Stream::new(self.rt.alloc(), socket).ok()?;
-        let worker = Arc::try_clone(self.door.worker()).ok()?;
-        let reader = stream.again().ok()?;
-        let writer = stream.again().ok()?;
+        let (stream, reader, writer) = three_handles(self.rt.alloc(), socket)?;
+        let Ok(worker) = Arc::try_clone(self.door.worker()) else {
+            return None;
+        };
         begin(
             self.rt,
             self.shared,
@@ -80,4 +81,12 @@ impl<'a, L: Founding, D: Disk, R: Wait + AllocGlobal> Context<'a, L, D, R> {
     pub(crate) fn leave_line(&self, session: u32) {
         self.shared.leave_line(self.rt, session);
     }
+}
+
+/// Makes three handles of a socket. `None`: an allocation failed, or it can't be had not to wait.
+fn three_handles(alloc: Global, socket: UnixStream) -> Option<(Stream, Stream, Stream)> {
+    let first = Stream::new(alloc, socket).ok()?;
+    let second = first.again().ok()?;
+    let third = first.again().ok()?;
+    Some((first, second, third))
 }

@@ -63,7 +63,10 @@ impl Lists {
             return left;
         }
         let retry = Duration::from_millis(RETRY_MILLISECONDS);
-        Some(left.map_or(retry, |left| left.min(retry)))
+        match left {
+            Some(left) => Some(left.min(retry)),
+            None => Some(retry),
+        }
     }
 
     /// Marks a session as runnable.
@@ -137,7 +140,10 @@ impl Lists {
     }
 
     fn await_records(&mut self, session: u32, seen: u64) {
-        let least = self.least_awaited.map_or(seen, |other| seen.min(other));
+        let least = match self.least_awaited {
+            Some(other) => seen.min(other),
+            None => seen,
+        };
         self.least_awaited = Some(least);
         let _ = self.awaiting.push(session);
     }
@@ -239,7 +245,7 @@ fn set_timer(
     awaits: Awaits,
 ) -> bool {
     let timed = awaits.timed();
-    if let Some(end) = standing.take_other_timer(timed.map(|(timed, _)| timed)) {
+    if let Some(end) = standing.take_other_timer(timed) {
         timers.clear(end, session);
     }
     let Some((timed, most)) = timed else {

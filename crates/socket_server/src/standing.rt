@@ -228,10 +228,10 @@ impl Standing {
     }
 
     /// Cancels the timer if it belongs to another wait, and returns its deadline.
-    pub(crate) fn take_other_timer(&mut self, awaited: Option<Timed>) -> Option<u64> {
+    pub(crate) fn take_other_timer(&mut self, awaited: Option<(Timed, u32)>) -> Option<u64> {
         let begins = mem::replace(&mut self.begins, false);
         let (end, timed) = self.timer?;
-        if !begins && awaited == Some(timed) {
+        if !begins && is_for(timed, awaited) {
             return None;
         }
         self.timer = None;
@@ -282,5 +282,13 @@ impl Standing {
         } else {
             Awaits::Input
         }
+    }
+}
+
+/// Returns true if this is what a timer is to be set for.
+fn is_for(timed: Timed, awaited: Option<(Timed, u32)>) -> bool {
+    match awaited {
+        Some((awaited, _)) => awaited == timed,
+        None => false,
     }
 }

@@ -2,13 +2,13 @@
 
 use crate::client::{Caller, Client, Clients, Held, Served, Talk};
 use crate::context::Context;
-use crate::door::Door;
+use crate::door::{Arrival, Door};
 use crate::lists::{Lists, RETRY_MILLISECONDS};
 use crate::replies::ReplyFrame;
 use crate::timers::Timers;
 use disk::Disk;
 use mio::event::Events;
-use mio::{Poll, Token, Waker};
+use mio::{Poll, Registry, Token, Waker};
 use sessions::{Founding, OpenGate, Shared};
 use std::alloc::{AllocGlobal, Global};
 use std::collections::BTreeMap;
@@ -124,23 +124,20 @@ impl<'a, L: Founding, D: Disk, R: Wait + Clock + AllocGlobal> Work<
     /// Takes in the connections that were accepted.
     fn admit(&mut self) {
         for arrival in self.context.take_arrivals() {
-            let count = self.clients.len().saturating_add(1);
-            if self.lists.make_room(count).is_ok() {
-                if let Some(talk) = self.context.begin(arrival) {
-                    self.add(talk);
-                }
-            }
+            self.begin(arrival);
         }
     }
 
-    /// Adds a connection.
-    fn add(&mut self, talk: Talk<Caller<'a, L, D, R>>) {
-        let client = Client::new(talk, self.tools.poll.registry());
-        let number = client.number();
-        if let Ok(former) = self.clients.insert(number, client) {
-            end(former);
+    /// Begins to serve a connection. If there is no session or memory for it, it is closed.
+    fn begin(&mut self, arrival: Arrival<L>) {
+        let count = self.clients.len().saturating_add(1);
+        if self.lists.make_room(count).is_err() {
+            return;
         }
-        self.lists.note_event(&mut self.clients, number);
+        if let Some(talk) = self.context.begin(arrival) {
+            let registry = self.tools.poll.registry();
+            add(registry, &mut self.lists, &mut self.clients, talk);
+        }
     }
 
     /// Makes the calls of those that are ready, under one hold of the kernel's lock.
@@ -195,16 +192,41 @@ impl<'a, L: Founding, D: Disk, R: Wait + Clock + AllocGlobal> Work<
             let Some(session) = self.lists.take_ended() else {
                 break;
             };
-            if clear(&mut self.tools.timers, &self.clients, session) {
+            if remove(&mut self.tools.timers, &mut self.clients, session) {
                 self.context.leave_line(session);
             }
-            end(self.clients.remove(&session));
         }
     }
 }
 
+/// Adds a connection and registers it with `registry`.
+fn add<A: Served + Drop>(
+    registry: &Registry,
+    lists: &mut Lists,
+    clients: &mut Clients<Talk<A>>,
+    talk: Talk<A>,
+) {
+    let client = Client::new(talk, registry);
+    let number = client.number();
+    if let Ok(former) = clients.insert(number, client) {
+        end(former);
+    }
+    lists.note_event(clients, number);
+}
+
+/// Removes a connection, and clears its timer. Returns true if a call of it waits.
+fn remove<A: Served + Drop>(
+    timers: &mut Timers,
+    clients: &mut Clients<Talk<A>>,
+    session: u32,
+) -> bool {
+    let waits = clear(timers, clients, session);
+    end(clients.remove(&session));
+    waits
+}
+
 /// Closes a connection's socket, if there is one.
-fn end<'a, L: Founding, D: Disk, R: Wait>(client: Option<Client<Talk<Caller<'a, L, D, R>>>>) {
+fn end<A: Served + Drop>(client: Option<Client<Talk<A>>>) {
     if let Some(client) = client {
         client.close();
     }
