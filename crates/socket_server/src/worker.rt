@@ -1,14 +1,14 @@
 //! A thread that serves many connections, each as far as it goes without waiting.
 
-use crate::client::{Caller, Client, Clients, Held, Served, Talk};
-use crate::context::Context;
-use crate::door::{Arrival, Door};
+use crate::client::{Client, Clients, Served, Talk};
+use crate::context::{Context, Serves};
+use crate::door::Door;
 use crate::lists::{Lists, RETRY_MILLISECONDS};
 use crate::replies::ReplyFrame;
 use crate::timers::Timers;
 use disk::Disk;
 use mio::event::Events;
-use mio::{Poll, Registry, Token, Waker};
+use mio::{Poll, Token, Waker};
 use sessions::{Founding, OpenGate, Shared};
 use std::alloc::{AllocGlobal, Global};
 use std::collections::BTreeMap;
@@ -22,9 +22,6 @@ const MOST_EVENTS: usize = 256;
 
 /// How many connections' calls are made under one hold of the kernel's lock, at most.
 const MOST_AT_ONCE: usize = 64;
-
-/// After how many records no other connection's calls are made under the same hold: the flusher waits for the lock.
-const MANY_RECORDS: u64 = 64;
 
 /// The token of what wakes a worker. The others are the numbers of sessions.
 const WAKER: Token = Token(usize::MAX);
@@ -67,34 +64,29 @@ pub(crate) fn run<L: Founding, D: Disk, R: Wait + Clock + AllocGlobal>(
     door: &Door<L>,
     tools: Tools,
 ) {
-    let mut work = Work::new(rt, shared, door, tools);
+    let mut work = Work::new(rt, Context::new(rt, shared, door), tools);
     for _ in rt.forever() {
         work.round();
     }
     unreachable!()
 }
 
-/// A worker with its connections: with the `Talk` of a `Caller` for each. What doesn't need the store is a function over
-/// the lists and the connections, whose proof doesn't carry the store's types.
+/// A worker with its connections: with a `Context`, and a `Talk` for each connection.
 #[derive(Drop)]
-struct Work<'a, L: Founding, D: Disk, R, T> {
-    context: Context<'a, L, D, R>,
+struct Work<'a, R, C, T> {
+    rt: &'a R,
+    context: C,
     tools: Tools,
     clients: Clients<T>,
     lists: Lists,
 }
 
-impl<'a, L: Founding, D: Disk, R: Wait + Clock + AllocGlobal> Work<
-    'a,
-    L,
-    D,
-    R,
-    Talk<Caller<'a, L, D, R>>,
-> {
+impl<'a, R: Wait + Clock + AllocGlobal, C: Serves<A>, A: Served + Drop> Work<'a, R, C, Talk<A>> {
     /// With no connection.
-    fn new(rt: &'a R, shared: &'a Shared<L, D, OpenGate>, door: &'a Door<L>, tools: Tools) -> Self {
+    fn new(rt: &'a R, context: C, tools: Tools) -> Self {
         Work {
-            context: Context::new(rt, shared, door),
+            rt,
+            context,
             tools,
             clients: BTreeMap::new(rt.alloc()),
             lists: Lists::new(rt.alloc()),
@@ -103,19 +95,14 @@ impl<'a, L: Founding, D: Disk, R: Wait + Clock + AllocGlobal> Work<
 
     /// Waits until there is something to do, and does it.
     fn round(&mut self) {
-        let rt = self.context.rt;
-        let is_woken = wait(rt, &mut self.tools, &mut self.lists, &mut self.clients);
+        let is_woken = wait(self.rt, &mut self.tools, &mut self.lists, &mut self.clients);
         if is_woken {
             self.admit();
+            self.lists.note_wake();
+            self.lists.rouse_awaiting(&mut self.clients);
         }
-        rouse(
-            &self.context,
-            &mut self.tools.timers,
-            &mut self.lists,
-            &mut self.clients,
-            is_woken,
-        );
-        read_ready(&self.lists, &mut self.clients);
+        self.rouse();
+        self.read();
         self.make_calls();
         self.answer();
         self.remove_ended();
@@ -129,60 +116,139 @@ impl<'a, L: Founding, D: Disk, R: Wait + Clock + AllocGlobal> Work<
     }
 
     /// Begins to serve a connection. If there is no session or memory for it, it is closed.
-    fn begin(&mut self, arrival: Arrival<L>) {
+    fn begin(&mut self, arrival: C::Arrival) {
         let count = self.clients.len().saturating_add(1);
         if self.lists.make_room(count).is_err() {
             return;
         }
         if let Some(talk) = self.context.begin(arrival) {
-            let registry = self.tools.poll.registry();
-            add(registry, &mut self.lists, &mut self.clients, talk);
+            self.add(talk);
+        }
+    }
+
+    /// Adds a connection.
+    fn add(&mut self, talk: Talk<A>) {
+        let client = Client::new(talk, self.tools.poll.registry());
+        let number = client.number();
+        if let Ok(former) = self.clients.insert(number, client) {
+            end(former);
+        }
+        self.lists.note_event(&mut self.clients, number);
+    }
+
+    /// Marks as runnable, besides those for which something came, all sessions for which there is something to do.
+    fn rouse(&mut self) {
+        if self.lists.lacks_due() {
+            let are_all = self.context.take_due(self.lists.due());
+            self.lists.note_turns(&mut self.clients, are_all);
+        }
+        self.lists
+            .note_times(self.rt, &mut self.tools.timers, &mut self.clients);
+        self.lists.retry_failed(&mut self.clients);
+    }
+
+    /// Reads what there is for all that are ready.
+    fn read(&mut self) {
+        for session in self.lists.ready().iter() {
+            if let Some(client) = self.clients.get_mut(session) {
+                client.read();
+            }
         }
     }
 
     /// Makes the calls of those that are ready, under one hold of the kernel's lock.
     fn make_calls(&mut self) {
-        let mut held: Option<Held<'a, L, D, R>> = None;
+        let mut held: Option<A::Turn> = None;
         for _ in 0..MOST_AT_ONCE {
-            if has_many(&held) {
+            if self.has_many(&held) {
                 break;
             }
             let Some(session) = self.lists.take_ready() else {
                 break;
             };
-            if begin_work(&mut self.lists, &mut self.clients, session) {
-                held = self.work(session, held);
-            }
-            note_turns(&self.context, &mut self.lists, &mut self.clients, &mut held);
+            held = self.work(session, held);
+            self.note_turns(&mut held);
         }
         if let Some(held) = held {
-            held.end();
+            self.context.end_hold(held);
         }
     }
 
-    /// Makes the calls of one session, with the kernel's lock held.
-    fn work(&mut self, session: u32, held: Option<Held<'a, L, D, R>>) -> Option<Held<'a, L, D, R>> {
+    /// Returns true if many records were made with the lock held.
+    fn has_many(&self, held: &Option<A::Turn>) -> bool {
+        match held {
+            Some(held) => self.context.has_many(held),
+            None => false,
+        }
+    }
+
+    /// Makes the calls of one session, which is ready.
+    fn work(&mut self, session: u32, held: Option<A::Turn>) -> Option<A::Turn> {
+        let Some(client) = self.clients.get_mut(&session) else {
+            return held;
+        };
+        self.lists.note_work(&mut client.standing, session);
+        if !client.has_work() {
+            return held;
+        }
         let held = match held {
             Some(held) => held,
             None => self.context.hold(),
         };
-        work_in(self.context.alloc(), &mut self.clients, session, held)
+        client.work(self.rt.alloc(), held)
+    }
+
+    /// Marks the sessions as runnable whose call's turn has come, if no other session is: a call that waits in this
+    /// thread goes on before the thread waits for what the others made.
+    fn note_turns(&mut self, held: &mut Option<A::Turn>) {
+        if !self.lists.ready().is_empty() {
+            return;
+        }
+        if let Some(held) = held {
+            let are_all = self.context.take_due_in(held, self.lists.due());
+            self.lists.note_turns(&mut self.clients, are_all);
+        }
     }
 
     /// Answers those for which something was done, as far as their replies can be had. If an epoch ended, brings all
     /// sessions up to date, so that none keeps the history block of that epoch.
     fn answer(&mut self) {
-        let (mut report, latest) = self.context.report();
-        answer_worked(
-            self.context.rt,
-            &mut self.tools,
-            &mut self.lists,
-            &mut self.clients,
-            &mut report,
-        );
-        await_records(&self.context, &mut self.lists, &mut self.clients);
+        let (mut known, latest) = self.context.report();
+        for _ in 0..self.lists.worked() {
+            let Some(session) = self.lists.take_worked() else {
+                break;
+            };
+            self.answer_one(session, &mut known);
+        }
+        self.await_records();
         if let Some(mut latest) = latest {
             look_all(&mut self.clients, &mut latest);
+        }
+    }
+
+    /// Answers one session, as far as its replies can be had by this report.
+    fn answer_one(&mut self, session: u32, known: &mut A::Known) {
+        let Some(client) = self.clients.get_mut(&session) else {
+            return;
+        };
+        client.answer(&mut self.tools.reply, known, self.tools.poll.registry());
+        let awaits = client.awaits();
+        self.lists.note_awaits(
+            self.rt,
+            &mut self.tools.timers,
+            &mut client.standing,
+            session,
+            awaits,
+        );
+    }
+
+    /// Has the worker woken once as many records are stored as one of its sessions awaits, or marks those as runnable
+    /// that await some, if they are stored already.
+    fn await_records(&mut self) {
+        if let Some(seen) = self.lists.take_least_awaited() {
+            if !self.context.have_woken(seen) {
+                self.lists.rouse_awaiting(&mut self.clients);
+            }
         }
     }
 
@@ -192,37 +258,22 @@ impl<'a, L: Founding, D: Disk, R: Wait + Clock + AllocGlobal> Work<
             let Some(session) = self.lists.take_ended() else {
                 break;
             };
-            if remove(&mut self.tools.timers, &mut self.clients, session) {
+            self.remove(session);
+        }
+    }
+
+    /// Removes a connection.
+    fn remove(&mut self, session: u32) {
+        if let Some(client) = self.clients.get(&session) {
+            if let Some(end) = client.standing.timer() {
+                self.tools.timers.clear(end, session);
+            }
+            if client.waits() {
                 self.context.leave_line(session);
             }
         }
+        end(self.clients.remove(&session));
     }
-}
-
-/// Adds a connection and registers it with `registry`.
-fn add<A: Served + Drop>(
-    registry: &Registry,
-    lists: &mut Lists,
-    clients: &mut Clients<Talk<A>>,
-    talk: Talk<A>,
-) {
-    let client = Client::new(talk, registry);
-    let number = client.number();
-    if let Ok(former) = clients.insert(number, client) {
-        end(former);
-    }
-    lists.note_event(clients, number);
-}
-
-/// Removes a connection, and clears its timer. Returns true if a call of it waits.
-fn remove<A: Served + Drop>(
-    timers: &mut Timers,
-    clients: &mut Clients<Talk<A>>,
-    session: u32,
-) -> bool {
-    let waits = clear(timers, clients, session);
-    end(clients.remove(&session));
-    waits
 }
 
 /// Closes a connection's socket, if there is one.
@@ -232,81 +283,10 @@ fn end<A: Served + Drop>(client: Option<Client<Talk<A>>>) {
     }
 }
 
-/// Reads what there is for all that are ready.
-fn read_ready<A: Served>(lists: &Lists, clients: &mut Clients<Talk<A>>) {
-    for session in lists.ready().iter() {
-        if let Some(client) = clients.get_mut(session) {
-            client.read();
-        }
-    }
-}
-
-/// Takes up a session that was ready. Returns true if there is a call to be made.
-fn begin_work<A: Served>(lists: &mut Lists, clients: &mut Clients<Talk<A>>, session: u32) -> bool {
-    let Some(client) = clients.get_mut(&session) else {
-        return false;
-    };
-    lists.note_work(&mut client.standing, session);
-    client.has_work()
-}
-
-/// Makes the calls of one session in this turn, which it gives back if it is still held.
-fn work_in<A: Served>(
-    alloc: Global,
-    clients: &mut Clients<Talk<A>>,
-    session: u32,
-    turn: A::Turn,
-) -> Option<A::Turn> {
-    let Some(client) = clients.get_mut(&session) else {
-        return Some(turn);
-    };
-    client.work(alloc, turn)
-}
-
-/// Answers those for which something was done, as far as their replies can be had by this report.
-fn answer_worked<C: Clock, A: Served>(
-    clock: &C,
-    tools: &mut Tools,
-    lists: &mut Lists,
-    clients: &mut Clients<Talk<A>>,
-    known: &mut A::Known,
-) {
-    for _ in 0..lists.worked() {
-        let Some(session) = lists.take_worked() else {
-            break;
-        };
-        if let Some(client) = clients.get_mut(&session) {
-            client.answer(&mut tools.reply, known, tools.poll.registry());
-            let awaits = client.awaits();
-            let standing = &mut client.standing;
-            lists.note_awaits(clock, &mut tools.timers, standing, session, awaits);
-        }
-    }
-}
-
 /// Brings all sessions up to date with the history. It takes no lock.
 fn look_all<A: Served>(clients: &mut Clients<Talk<A>>, latest: &mut A::Latest) {
     for client in clients.values_mut() {
         client.look(latest);
-    }
-}
-
-/// Clears the timer of a session. Returns true if a call of it waits.
-fn clear<A: Served>(timers: &mut Timers, clients: &Clients<Talk<A>>, session: u32) -> bool {
-    let Some(client) = clients.get(&session) else {
-        return false;
-    };
-    if let Some(end) = client.standing.timer() {
-        timers.clear(end, session);
-    }
-    client.waits()
-}
-
-/// Returns true if many records were made with the lock held.
-fn has_many<'a, L: Founding, D: Disk, R: Wait>(held: &Option<Held<'a, L, D, R>>) -> bool {
-    match held {
-        Some(held) => MANY_RECORDS <= held.made(),
-        None => false,
     }
 }
 
@@ -329,55 +309,4 @@ fn wait<R: Wait + Clock, T>(
         }
     }
     is_woken
-}
-
-/// Marks as runnable, besides those for which something came, all sessions for which there is something to do.
-fn rouse<'a, L: Founding, D: Disk, R: Wait + Clock + AllocGlobal, T>(
-    context: &Context<'a, L, D, R>,
-    timers: &mut Timers,
-    lists: &mut Lists,
-    clients: &mut Clients<T>,
-    is_woken: bool,
-) {
-    if is_woken {
-        lists.note_wake();
-        lists.rouse_awaiting(clients);
-    }
-    if lists.lacks_due() {
-        let are_all = context.take_due(lists.due());
-        lists.note_turns(clients, are_all);
-    }
-    lists.note_times(context.rt, timers, clients);
-    lists.retry_failed(clients);
-}
-
-/// Marks the sessions as runnable whose call's turn has come, if no other session is: a call that waits in this thread
-/// goes on before the thread waits for what the others made.
-fn note_turns<'a, L: Founding, D: Disk, R: Wait + AllocGlobal, T>(
-    context: &Context<'a, L, D, R>,
-    lists: &mut Lists,
-    clients: &mut Clients<T>,
-    held: &mut Option<Held<'a, L, D, R>>,
-) {
-    if !lists.ready().is_empty() {
-        return;
-    }
-    if let Some(held) = held {
-        let are_all = context.take_due_in(held, lists.due());
-        lists.note_turns(clients, are_all);
-    }
-}
-
-/// Has the worker woken once as many records are stored as one of its sessions awaits, or marks those as runnable that
-/// await some, if they are stored already.
-fn await_records<'a, L: Founding, D: Disk, R: Wait + AllocGlobal, T>(
-    context: &Context<'a, L, D, R>,
-    lists: &mut Lists,
-    clients: &mut Clients<T>,
-) {
-    if let Some(seen) = lists.take_least_awaited() {
-        if !context.have_woken(seen) {
-            lists.rouse_awaiting(clients);
-        }
-    }
 }
