@@ -123,7 +123,11 @@ impl<L: Founding> Replies<L> {
     }
 
     /// Tells a worker what is stored and, if an epoch ended since it asked last, the history up to the epoch in use.
-    pub(crate) fn report(&mut self, number: usize, mark: &Mark<L>) -> (Report<L>, Option<Latest<L>>) {
+    pub(crate) fn report(
+        &mut self,
+        number: usize,
+        mark: &Mark<L>,
+    ) -> (Report<L>, Option<Latest<L>>) {
         let report = Report {
             stored: self.stored.again(mark),
             is_over: self.is_over,

@@ -305,9 +305,11 @@ impl<L: Founding, D: Disk, G: Drop> Shared<L, D, G> {
 
     /// Waits until `seen` records are stored, or nothing is stored any more. Returns what is known to be stored.
     fn await_stored_records<R: Wait>(&self, rt: &R, seen: u64) -> Stored<L> {
-        let mut replies = self
-            .more_stored
-            .wait_while(rt, self.replies.lock(rt), |replies| replies.is_awaited(seen));
+        let mut replies = self.more_stored.wait_while(
+            rt,
+            self.replies.lock(rt),
+            |replies| replies.is_awaited(seen),
+        );
         replies.stored(&self.mark)
     }
 

@@ -22,6 +22,8 @@ mod numbered;
 #[cfg(test)]
 mod pieces;
 #[cfg(test)]
+mod places;
+#[cfg(test)]
 mod service;
 #[cfg(test)]
 mod shares;
