@@ -1,8 +1,9 @@
 mod Acting
 pub mod Answered
-mod Steps
+mod Boxes
 mod Ended
 mod Going
 pub mod Keeping
 mod Sent
+mod Steps
 mod Turns

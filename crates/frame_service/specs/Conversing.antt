@@ -6,9 +6,9 @@ use Rattle.calls.specs.declared.request.Request.{Request}
 use Rattle.ipc_model.specs.declared.reply.Reply.{Reply}
 use Rattle.ipc_model.specs.encodings.Encodings.{reply_encoding}
 use Rattle.store_fault.specs.declared.fault.StoreFault.{StoreFault}
-use Rattle.socket_buffers.specs.Boxes.{InboxValue, OutboxValue, inbox_remaining, outbox_contents}
-use Rattle.socket_buffers.specs.declared.inbox.Source.{Source}
-use Rattle.socket_buffers.specs.declared.inbox.Source.TheVariants.{Open}
+use Rattle.frame_service.specs.Boxes.{InboxValue, OutboxValue, inbox_remaining, outbox_contents}
+use Rattle.frame_service.specs.declared.inbox.Source.{Source}
+use Rattle.frame_service.specs.declared.inbox.Source.TheVariants.{Open}
 use Rattle.frame_service.specs.Asking.{EndsAsked, GoesOn, IsGiven, IsUngiven, Proceeds, bound_of, holds_frame}
 use Rattle.frame_service.specs.declared.asking.PendingFrame.{PendingFrame}
 use Rattle.frame_service.specs.declared.asking.PendingFrame.TheVariants.{Settled, Waits}

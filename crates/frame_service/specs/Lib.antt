@@ -1,4 +1,5 @@
 pub mod Asking
+pub mod Boxes
 pub mod Confining
 pub mod Conversing
 pub mod Serving

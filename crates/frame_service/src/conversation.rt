@@ -1,6 +1,6 @@
 use crate::asking::Asker;
 use crate::pending::PendingFrames;
-use socket_buffers::{Inbox, Outbox};
+use crate::{Inbox, Outbox};
 use std::io::{Read, Write};
 use wire::WireFault;
 

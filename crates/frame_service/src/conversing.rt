@@ -3,7 +3,7 @@ ghost use Rattle.std.specs.Prelude.{◌≡◌, ◌≤◌, [], None, Err, IfErr, 
 ghost use Rattle.std.specs.VecDeque.{deque_len};
 ghost use Rattle.codes.specs.declared.limits.TheConstants.{MAX_FRAME_CONTENT};
 ghost use Rattle.ipc_model.specs.encodings.Encodings.{reply_encoding};
-ghost use Rattle.socket_buffers.specs.Boxes.{inbox_remaining, outbox_contents};
+ghost use Rattle.frame_service.specs.Boxes.{inbox_remaining, outbox_contents};
 ghost use Rattle.frame_service.specs.Asking.{IsGiven, IsUngiven, bound_of};
 ghost use Rattle.frame_service.specs.Conversing.{Begins, IsRetried, Kept, Stops, Tells, awaited_of, end_of, has_next, over_of, waits_of};
 
@@ -14,10 +14,10 @@ use crate::pending::PendingFrames;
 use crate::rounds::{MOST_PENDING_FRAMES, take_frames};
 use crate::service::ServeFault;
 use crate::taking::proceed;
+use crate::{Filled, Inbox, Outbox, Source};
 use calls::{MessageRequest, reply_frame};
 use codes::MAX_FRAME_CONTENT;
 use ipc_model::Reply;
-use socket_buffers::{Filled, Inbox, Outbox, Source};
 use std::alloc::{AllocError, Global};
 use std::collections::VecDeque;
 use std::io::{Read, Write};

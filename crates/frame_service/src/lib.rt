@@ -1,4 +1,5 @@
-//! Frames in, each call made, replies out, generic in what makes the calls.
+//! Frames in, each call made, replies out, generic in what makes the calls; and what lies between frames and a stream
+//! that doesn't wait: bytes that came, and bytes that are to go out.
 #![tactic(auto)]
 
 mod ahead;
@@ -7,6 +8,8 @@ mod caller;
 mod confining;
 mod conversation;
 mod conversing;
+mod inbox;
+mod outbox;
 mod pending;
 mod rounds;
 mod service;
@@ -18,6 +21,8 @@ pub use caller::{Caller, shortage};
 pub use confining::{Shown, attach_to, is_kept};
 pub use conversation::Conversation;
 pub use conversing::Tried;
+pub use inbox::{Filled, Inbox, Source};
+pub use outbox::Outbox;
 pub use rounds::MOST_PENDING_FRAMES;
 pub use service::{ServeFault, serve};
 pub use short_reply::ShortReply;

@@ -1,13 +1,13 @@
 ghost use Rattle.std.specs.Prelude.{◌≡◌, ◌≤◌, [], IfSome};
 ghost use Rattle.std.specs.VecDeque.{deque_capacity, deque_len};
-ghost use Rattle.socket_buffers.specs.Boxes.{inbox_remaining};
+ghost use Rattle.frame_service.specs.Boxes.{inbox_remaining};
 ghost use Rattle.frame_service.specs.Asking.{TookFrames, TookNext};
 ghost use Rattle.frame_service.specs.declared.rounds.TheConstants.{MOST_PENDING_FRAMES};
 
+use crate::Inbox;
 use crate::ahead::{holds_frame, whole_frame};
 use crate::asking::{Asker, PendingFrame};
 use crate::taking::take_frame;
-use socket_buffers::Inbox;
 use std::alloc::Global;
 use std::collections::VecDeque;
 use std::io::Read;

@@ -1,6 +1,7 @@
+pub mod Beginnings
+pub mod Knowing
+pub mod Leading
+pub mod Links
+pub mod Moves
 pub mod Placed
 pub mod Places
-pub mod Links
-pub mod Leading
-pub mod Knowing
-pub mod Beginnings

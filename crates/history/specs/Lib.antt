@@ -1,3 +1,4 @@
-pub mod Entries
 pub mod Blocks
+pub mod Entries
+pub mod Marks
 pub mod Pasts

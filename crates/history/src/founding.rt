@@ -1,7 +1,6 @@
-use crate::FirstBlock;
+use crate::{FirstBlock, Marking};
 use std::marker::Brand;
 use std::sync::ledger::Ledger;
-use stored_mark::Marking;
 
 /// Which history it is: the names of its first entry block's cells, the ledger that counts its records, the mark of how
 /// many of them are stored, and the state that it begins with. A program picks it at a call.

@@ -1,4 +1,5 @@
-//! One history of all sessions, in blocks of cells that are set once and read with no lock.
+//! One history of all sessions, in blocks of cells that are set once and read with no lock; and how many of its records
+//! are stored, as tokens: whoever has one knows that so many are, for good.
 #![tactic(auto)]
 
 mod block;
@@ -9,15 +10,19 @@ mod fault;
 mod founding;
 mod held;
 mod link;
+mod mark;
 mod meeting;
 mod notes;
 mod past;
 mod place;
 mod reading;
+mod tokens;
 
 pub use block::EntryBlock;
 pub use entry::Entry;
 pub use fault::{AddFault, CatchUpFault};
 pub use founding::Founding;
+pub use mark::{Mark, Marking, NewMark};
 pub use past::Past;
 pub use place::FirstBlock;
+pub use tokens::{Stored, Storing};

@@ -11,13 +11,13 @@ use Rattle.ipc_model.specs.calls.Step.{Run}
 use Rattle.ipc_model.specs.declared.record.Record.{Record}
 use Rattle.ipc_model.specs.history.History.{Session, Sessions, AllLegal, AreAll, AreApart, Legal, places_of}
 use Rattle.ipc_model.specs.state.State.{State}
-use Rattle.kernel_keeper.proofs.Apart.{AreForeign, apart_alongside, foreign_both, foreign_to, none_apart, none_foreign}
-use Rattle.kernel_keeper.proofs.Calling.{counted}
-use Rattle.kernel_keeper.proofs.Histories.{own_further}
-use Rattle.kernel_keeper.specs.Belonging.{AllBelong, Belongs, tasks_of}
-use Rattle.kernel_keeper.specs.Tokens.{SessionValue, IsHistory}
+use Rattle.keepers.proofs.Apart.{AreForeign, apart_alongside, foreign_both, foreign_to, none_apart, none_foreign}
+use Rattle.keepers.proofs.Calling.{counted}
+use Rattle.keepers.proofs.Histories.{own_further}
+use Rattle.keepers.specs.Belonging.{AllBelong, Belongs, tasks_of}
+use Rattle.keepers.specs.Tokens.{SessionValue, IsHistory}
 use Rattle.sessions.specs.Closing.{AreLegal}
-use Rattle.store_keeper.specs.Storing.{StandsFor}
+use Rattle.keepers.specs.Storing.{StandsFor}
 
 module _ (base : State) (entries : List Entry) (stored : ℕ) where
   -- what holds of each that belongs

@@ -8,9 +8,9 @@ use Rattle.ipc_model.specs.calls.Step.{Run}
 use Rattle.ipc_model.specs.history.History.{Sessions, IsLegalHistory}
 use Rattle.ipc_model.specs.history.Once.{Once}
 use Rattle.ipc_model.specs.state.State.{State}
-use Rattle.kernel_keeper.specs.Belonging.{tasks_of}
-use Rattle.kernel_keeper.specs.Tokens.{SessionValue, IsHistory}
-use Rattle.store_keeper.specs.Storing.{StandsFor}
+use Rattle.keepers.specs.Belonging.{tasks_of}
+use Rattle.keepers.specs.Tokens.{SessionValue, IsHistory}
+use Rattle.keepers.specs.Storing.{StandsFor}
 
 -- Operations led to each of these sessions, in one legal history.
 pub record AreLegal (base : State) (entries : List Entry) (sessions : List SessionValue) : Type 0 where

@@ -5,13 +5,12 @@ use crate::guarded::KernelGuarded;
 use crate::shared::Shared;
 use codes::MAX_RECORDS;
 use disk::Disk;
-use kernel_keeper::{End, EntryBlock, Founding, Latest};
+use keepers::{End, EntryBlock, Founding, Latest, NotBegun};
 use std::alloc::Global;
 use std::sync::{Arc, MutexGuard, Wait};
 use std::time::Clock;
 use store_fault::StoreFault;
 use store_half::Finished;
-use store_keeper::NotBegun;
 
 /// How many pieces of an image are written before a batch that waits is stored. They take about 2 ms.
 const PIECES_IN_A_ROW: u64 = 256;

@@ -3,17 +3,16 @@ ghost use Rattle.disk.specs.Moments.{MayLeave};
 ghost use Rattle.disk.specs.Slots.{Slots};
 ghost use Rattle.history.specs.Entries.{Begins, records_of};
 ghost use Rattle.ipc_model.specs.history.History.{AreAll, AreApart};
-ghost use Rattle.kernel_keeper.specs.Belonging.{tasks_of};
-ghost use Rattle.kernel_keeper.specs.Tokens.{IsHistory};
+ghost use Rattle.keepers.specs.Belonging.{tasks_of};
+ghost use Rattle.keepers.specs.Tokens.{IsHistory};
 ghost use Rattle.ipc_model.specs.state.LawfulState.{LawfulState};
 ghost use Rattle.sessions.specs.Closing.{AreLegal, IsLeft, IsMadeOnce};
-ghost use Rattle.store_keeper.specs.Storing.{StandsFor};
+ghost use Rattle.keepers.specs.Storing.{StandsFor};
 
 use crate::guarded::KernelGuarded;
 use crate::shared::Shared;
 use disk::Disk;
-use kernel_keeper::{Admissions, Founding, KernelKeeper, Past, Session};
-use store_keeper::StoreKeeper;
+use keepers::{Admissions, Founding, KernelKeeper, Past, Session, StoreKeeper};
 
 /// What is left once both halves are closed: the disk, how many records of the history are stored there, and the
 /// history itself, with the entry blocks that are left of it.

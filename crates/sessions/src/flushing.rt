@@ -4,11 +4,10 @@ use crate::gate::{Gate, LoopStep};
 use crate::guarded::KernelGuarded;
 use crate::shared::{RETRY_MILLISECONDS, Shared};
 use disk::Disk;
-use kernel_keeper::{Founding, Load};
+use keepers::{Founding, Load, NotStored};
 use std::sync::{MutexGuard, Wait};
 use std::time::{Clock, Duration};
 use store_half::Receipt;
-use store_keeper::NotStored;
 
 /// For how many microseconds a few records wait for calls that were just given their turn, so that these calls' records
 /// are in the same batch.

@@ -1,13 +1,14 @@
 ghost use Rattle.std.specs.Prelude.{◌≡◌, IfOk, OnErr};
-ghost use Rattle.kernel_keeper.specs.Destroying.{LackedSince, MadeSince};
-ghost use Rattle.kernel_keeper.specs.Tokens.{KeepsRead};
+ghost use Rattle.ipc_model.specs.history.History.{looked};
+ghost use Rattle.keepers.specs.Destroying.{MadeSince};
+ghost use Rattle.keepers.specs.Tokens.{Did, KeepsRead};
 
 use crate::seat::Worker;
 use crate::waiters::{Waiter, Waiters};
 use codes::{KernReturn, MAX_RECORDS};
 use history::Founding;
 use ipc_model::{Call, PlainCall};
-use kernel_keeper::{KernelKeeper, Load, Session};
+use keepers::{KernelKeeper, Load, Session, SessionFault};
 use std::alloc::{AllocError, Global};
 use std::sync::Arc;
 use store_fault::StoreFault;
@@ -65,7 +66,7 @@ impl<L: Founding> KernelGuarded<L> {
         worker: Option<&Arc<Worker, Global>>,
     ) -> (Session<L>, Result<Ticket, SubmitFault>)
         ensures made { IfOk result.1 (λ ticket. MadeSince L.base since session call.now ticket result.0) }
-        ensures lacked { OnErr result.1 (LackedSince L.base since session result.0) }
+        ensures err { OnErr result.1 (Did L.base session looked result.0) }
         ensures reads { KeepsRead session.past result.0.past }
     {
         let waiter = self.waiters.take(session.number());
@@ -88,7 +89,10 @@ impl<L: Founding> KernelGuarded<L> {
         } else {
             self.waiters.pass_on(waiter);
         }
-        (session, made)
+        match made {
+            Ok(ticket) => (session, Ok(ticket)),
+            Err(fault) => (session, Err(fault.submit_fault())),
+        }
     }
 
     /// Puts a session's call in line for its turn: where it stood before, if it did. If an allocation fails, it is in
@@ -225,7 +229,7 @@ impl<L: Founding> KernelGuarded<L> {
 }
 
 /// Whether a call was answered that it found nothing to do.
-fn finds_nothing(made: &Result<Ticket, SubmitFault>) -> bool {
+fn finds_nothing(made: &Result<Ticket, SessionFault>) -> bool {
     match made {
         Ok(ticket) => match ticket.message_code() {
             Some(KernReturn::SendTimedOut | KernReturn::RcvTimedOut) => true,

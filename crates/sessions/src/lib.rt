@@ -17,12 +17,12 @@ mod waiters;
 
 pub use closing::{Book, Unmatched, close};
 pub use gate::{Gate, LoopStep, OpenGate};
-pub use kernel_keeper::{
+pub use history::NewMark;
+pub use keepers::{
     Admission, Admissions, CatchUpFault, EntryBlock, Founding, Latest, MOST_SESSIONS, MeetFault,
     Session, Unmet, meet,
 };
 pub use replies::Report;
 pub use seat::{Peer, Seat, Worker};
 pub use shared::Shared;
-pub use stored_mark::NewMark;
 pub use turn::{NotMade, Turn};

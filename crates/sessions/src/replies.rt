@@ -1,10 +1,10 @@
 //! What workers and calls that wait for their replies know of the store.
 
 use crate::seat::{Worker, again};
-use kernel_keeper::{Founding, Latest};
+use history::{Mark, Stored};
+use keepers::{Founding, Latest};
 use std::alloc::{AllocError, Global};
 use std::sync::Arc;
-use stored_mark::{Mark, Stored};
 
 /// A worker, how many records have to be stored before it is woken, and whether an epoch ended since it asked last.
 #[derive(Drop)]

@@ -4,16 +4,17 @@ ghost use Rattle.codes.specs.declared.limits.TheConstants.{MAX_FRAME_CONTENT};
 ghost use Rattle.codes.specs.declared.name.TheConstants.{FIRST_SPACE};
 ghost use Rattle.ipc_model.specs.history.History.{called, looked, redemption};
 ghost use Rattle.ipc_model.specs.encodings.Encodings.{reply_encoding};
-ghost use Rattle.kernel_keeper.specs.Tokens.{Did, KeepsRead};
+ghost use Rattle.keepers.specs.Tokens.{Did, KeepsRead};
 
 use crate::guarded::KernelGuarded;
 use crate::replies::{Replies, Report};
 use crate::seat::{Peer, Seat, Worker};
 use crate::turn::{News, Turn};
 use disk::Disk;
+use history::{Mark, Stored, Storing};
 use ipc_model::{Call, Reply};
-use kernel_keeper::{
-    Admission, Destructions, EntryBlock, Founding, KernelKeeper, Latest, Past, Session,
+use keepers::{
+    Admission, Destructions, EntryBlock, Founding, KernelKeeper, Latest, Past, Session, StoreKeeper,
 };
 use mio::Waker;
 use std::alloc::{AllocError, Global};
@@ -22,8 +23,6 @@ use std::sync::{Arc, Condvar, Mutex, MutexGuard, Wait};
 use std::thread;
 use std::time::{Clock, Duration};
 use store_fault::StoreFault;
-use store_keeper::StoreKeeper;
-use stored_mark::{Mark, Stored, Storing};
 use system::{Opened, SubmitFault, Ticket};
 
 /// How many milliseconds a thread waits before it tries again after it ran out of memory.

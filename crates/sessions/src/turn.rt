@@ -1,13 +1,14 @@
 //! Several calls under one hold of the kernel's lock.
 ghost use Rattle.std.specs.Prelude.{IfOk, OnErr};
-ghost use Rattle.kernel_keeper.specs.Destroying.{LackedSince, MadeSince};
-ghost use Rattle.kernel_keeper.specs.Tokens.{KeepsRead};
+ghost use Rattle.ipc_model.specs.history.History.{looked};
+ghost use Rattle.keepers.specs.Destroying.{MadeSince};
+ghost use Rattle.keepers.specs.Tokens.{Did, KeepsRead};
 
 use crate::guarded::KernelGuarded;
 use crate::seat::{Peer, Seat, Worker};
 use history::Founding;
 use ipc_model::{Call, PlainCall};
-use kernel_keeper::Session;
+use keepers::Session;
 use std::alloc::{AllocError, Global};
 use std::sync::{Arc, MutexGuard};
 use system::{SubmitFault, Ticket};
@@ -89,7 +90,6 @@ impl<'a, L: Founding> Turn<'a, L> {
     /// If it may wait, a send that finds no room, or a receive that finds no message, is in line from then on, until a
     /// call of the session is made again, or isn't made because its task has gone. A call whose turn comes is woken; a
     /// turn that ends without a record is passed on.
-    #[tactic(auto, using(crate::proofs::Unconfined::lacked_still))]
     pub fn submit<P: Peer>(
         &mut self,
         session: Session<L>,
@@ -99,7 +99,7 @@ impl<'a, L: Founding> Turn<'a, L> {
         may_wait: bool,
     ) -> (Session<L>, Result<Ticket, NotMade>)
         ensures made { IfOk result.1 (λ ticket. MadeSince L.base since session call.now ticket result.0) }
-        ensures lacked { OnErr result.1 (LackedSince L.base since session result.0) }
+        ensures err { OnErr result.1 (Did L.base session looked result.0) }
         ensures reads { KeepsRead session.past result.0.past }
     {
         // With the lock held, since whatever is sent now is sent after this check.

@@ -1,7 +1,7 @@
 //! New stores that are shared.
 ghost use Rattle.std.specs.Prelude.{◌≡◌};
 ghost use Rattle.std.specs.Arc.{arc_value};
-ghost use Rattle.kernel_keeper.specs.declared.admissions.TheConstants.{MOST_SESSIONS};
+ghost use Rattle.keepers.specs.declared.admissions.TheConstants.{MOST_SESSIONS};
 
 use crate::service::Admitting;
 use codes::MAX_RECORDS;

@@ -1,1 +1,5 @@
+mod Begun
 pub mod Reporting
+mod Showing
+mod Staying
+mod Unconfined

@@ -1,1 +1,4 @@
+pub mod Confining
+pub mod Connecting
 pub mod Reporting
+pub mod Serving

@@ -1,12 +1,12 @@
 //! One connection, as a worker sees it.
 use crate::replies::ReplyFrame;
 use crate::standing::{Awaits, Progress, Standing};
+use crate::{Asked, Connected, Stream};
 use disk::Disk;
 use frame_service::{Asker, Conversation};
 use mio::unix::SourceFd;
 use mio::{Interest, Registry, Token};
 use sessions::{Founding, OpenGate, Peer};
-use socket_session::{Asked, Connected, Stream};
 use std::alloc::Global;
 use std::collections::BTreeMap;
 use std::os::fd::AsRawFd;
@@ -16,7 +16,7 @@ use std::sync::Wait;
 const MOST_READS: usize = 16;
 
 /// The kernel's lock, held by a worker.
-pub(crate) type Held<'a, L, D, R> = socket_session::Held<'a, L, D, OpenGate, R>;
+pub(crate) type Held<'a, L, D, R> = crate::Held<'a, L, D, OpenGate, R>;
 
 /// The caller of a connection to a server.
 pub(crate) type Caller<'a, L, D, R> = Connected<'a, L, D, OpenGate, R, Stream>;

@@ -2,9 +2,9 @@
 
 use crate::client::{Caller, Held, Served, Talk};
 use crate::door::{Arrival, Door};
+use crate::{Stream, begin};
 use disk::Disk;
 use sessions::{Founding, Latest, OpenGate, Report, Shared};
-use socket_session::{Stream, begin};
 use std::alloc::{AllocGlobal, Global};
 use std::os::unix::net::UnixStream;
 use std::sync::{Arc, Wait};

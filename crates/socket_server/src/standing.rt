@@ -1,7 +1,6 @@
 //! What a worker knows of a connection, besides its conversation.
 
-use frame_service::Tried;
-use socket_buffers::Filled;
+use frame_service::{Filled, Tried};
 use std::mem;
 
 /// How many bytes may wait for their frames' turn before no more are read.

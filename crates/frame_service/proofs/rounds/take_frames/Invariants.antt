@@ -1,6 +1,6 @@
 use Rattle.std.proofs.Common.{◌≡◌, ◌≤◌, ℕ, List, Some}
 use Rattle.std.specs.VecDeque.{deque_capacity, deque_len}
-use Rattle.socket_buffers.specs.Boxes.{inbox_remaining}
+use Rattle.frame_service.specs.Boxes.{inbox_remaining}
 use Rattle.frame_service.specs.declared.rounds.TheConstants.{MOST_PENDING_FRAMES}
 use Rattle.frame_service.proofs.Acting.{Taking}
 use Rattle.frame_service.proofs.rounds.take_frames.Given as goal

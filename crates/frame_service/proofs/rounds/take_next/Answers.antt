@@ -1,5 +1,5 @@
 use Rattle.std.proofs.Common.{Some, IfSome, Ok, sym, subst, ◌∙◌}
-use Rattle.socket_buffers.specs.Boxes.{InboxValue, inbox_remaining}
+use Rattle.frame_service.specs.Boxes.{InboxValue, inbox_remaining}
 use Rattle.frame_service.specs.Asking.{TookNext}
 use Rattle.frame_service.proofs.Turns.{took_in_place}
 use Rattle.frame_service.proofs.rounds.take_next.Goals as goal

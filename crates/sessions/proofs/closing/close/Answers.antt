@@ -2,10 +2,10 @@ use Rattle.std.proofs.Common.{◌≤◌, ℕ, List, sym, subst}
 use Rattle.ipc_laws.specs.OnceLaws.{made_once}
 use Rattle.history.specs.Entries.{Begins, records_of}
 use Rattle.history.specs.declared.entry.Entry.{Entry}
-use Rattle.kernel_keeper.specs.Tokens.{SessionValue}
+use Rattle.keepers.specs.Tokens.{SessionValue}
 use Rattle.sessions.proofs.Closings.{all_apart, all_legal, all_of, all_ascend, are_all, stands_in}
 use Rattle.sessions.proofs.closing.close.Goals as goal
-use Rattle.store_keeper.specs.Storing.{StandsFor}
+use Rattle.keepers.specs.Storing.{StandsFor}
 
 pub returns-in_default-clause-unmatched : goal.returns-in_default-clause-unmatched
 returns-in_default-clause-unmatched g c honest =

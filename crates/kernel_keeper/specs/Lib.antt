@@ -1,4 +1,0 @@
-pub mod Belonging
-pub mod Destroying
-pub mod Keeping
-pub mod Tokens

@@ -1,5 +1,0 @@
-use Rattle.socket_buffers.specs.Boxes.{Gives}
-use Rattle.socket_buffers.proofs.outbox.OutboxWrite.flush.Given as goal
-
-abbrev pub invariant-loop : goal.invariant-loop
-invariant-loop g l = record { gives : Gives g.W.Write.contents l.fn.self l.self }

@@ -1,4 +1,0 @@
-mod Begun
-mod Showing
-mod Staying
-mod Unconfined

@@ -1,5 +1,0 @@
-use Rattle.socket_session.proofs.Staying.{says_confined}
-use Rattle.socket_session.proofs.laws.answer_says_confined.Goals as goal
-
-pub returns : goal.returns
-returns c = says_confined

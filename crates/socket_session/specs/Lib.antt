@@ -1,3 +1,0 @@
-pub mod Confining
-pub mod Connecting
-pub mod Serving

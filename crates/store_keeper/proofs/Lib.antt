@@ -1,2 +1,0 @@
-mod Storers
-mod StoreSteps

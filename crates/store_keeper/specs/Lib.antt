@@ -1,3 +1,0 @@
-pub mod Appending
-pub mod Faults
-pub mod Storing
