@@ -531,8 +531,9 @@ threads = [threading.Thread(target=work, args=(it,)) for it in range(1, 4)]
 [it.join() for it in threads]
 pid = os.fork()
 while pid == 0:
+    # A child of one that numbers its calls makes a task of its own.
     with contextlib.suppress(ConnectionError):
-        os._exit(len(task.names()) != 301)
+        os._exit(refusal(task.names) != "KERN_FAILURE" or len(Task.adopt().names()) != 301)
 say(os.waitpid(pid, 0)[1], len(task.names()), refusal(task.attach, 1))
 """
         with self.server.killed_often(9, 0.2, 0.5):

@@ -11,4 +11,7 @@ kern_return_t adopt_task(machipc_task_t *task);
 /* The same so that each call has one effect and one answer, whatever is killed meanwhile. */
 kern_return_t begin_task(machipc_task_t *task);
 
+/* The seconds that a word of the command line says. The program ends where it is no number. */
+unsigned seconds_of(const char *word);
+
 #endif

@@ -1,5 +1,5 @@
 #!/usr/bin/env python3
-"""Tests of machipc.py, against the server whose socket is in MACHIPC_SOCKET."""
+"""Tests of the package machipc, against the server whose socket is in MACHIPC_SOCKET."""
 
 import contextlib
 import doctest
@@ -35,6 +35,18 @@ class OfTask(unittest.TestCase):
     def tearDown(self):
         self.task.space_destroy()
         self.task.close()
+
+
+def in_child(check):
+    """Returns True if a check holds in a child of fork."""
+    pid = os.fork()
+    if pid == 0:
+        status = 1
+        try:
+            status = not check()
+        finally:
+            os._exit(status)
+    return os.waitpid(pid, 0)[1] == 0
 
 
 class Calls(OfTask):
@@ -130,11 +142,46 @@ class Calls(OfTask):
 
     def test_fork(self):
         """A child of fork has connections of its own."""
-        pid = os.fork()
-        if pid == 0:
-            os._exit(self.task.type(self.port) != type_of(RECEIVE))
-        self.assertEqual(os.waitpid(pid, 0)[1], 0)
+        self.assertEqual(in_child(lambda: self.task.type(self.port) == type_of(RECEIVE)), True)
         self.assertEqual(self.task.type(self.port), type_of(RECEIVE))
+
+
+class Rights(OfTask):
+    def test_given_back(self):
+        task, port = self.task, self.port
+        with task.allocate() as name, task.allocate(PORT_SET) as port_set:
+            self.assertEqual(task.type(name), type_of(RECEIVE))
+            task.move_member(name, port_set)
+        with task.make_send(port) as send, task.right(task.extract_right(port, MAKE_SEND)[0]):
+            self.assertEqual((send, task.get_refs(port, SEND)), (port, 2))
+        with task.make_send_once(port):
+            pass
+        self.assertEqual(task.receive(port, 0).id, NOTIFY_SEND_ONCE)
+        self.assertEqual(task.names(), {port: type_of(RECEIVE)})
+
+    def test_kept(self):
+        task, port = self.task, self.port
+        with task.allocate() as name:
+            task.send(Message.of(port, MAKE_SEND, Ports(MOVE_RECEIVE, name.detach())))
+        with task.allocate() as gone:
+            task.destroy(gone)  # which is no error at the end of the block
+        self.assertEqual(task.type(task.receive(port, 0).ports[0]), type_of(RECEIVE))
+
+    def test_of_messages(self):
+        """The rights of a message that was received, and of one that isn't sent, are given back."""
+        task, port = self.task, self.port
+        carried = task.allocate()
+        items = Ports(MAKE_SEND, carried, 0), Ports(MOVE_RECEIVE, carried), Ports(COPY_SEND, port), data("text")
+        task.insert_right(port, port, MAKE_SEND)
+        task.send(Message.of(port, MAKE_SEND, *items, local=port, local_disposition=MAKE_SEND_ONCE))
+        task.give_back(task.receive(port, 0))
+        self.assertEqual(task.receive(port, 0).id, NOTIFY_SEND_ONCE)
+        self.assertEqual((set(task.names()), task.get_refs(port, SEND)), ({port}, 1))
+        task.request_notification(port, NOTIFY_NO_SENDERS, port, sync=5)
+        task.deallocate(port)
+        self.assertEqual(task.receive(port, 0).id, NOTIFY_NO_SENDERS)
+        task.give_back(Message(port, MAKE_SEND_ONCE))
+        self.assertEqual(task.receive(port, 0).id, NOTIFY_SEND_ONCE)
 
 
 class Messages(OfTask):
@@ -188,6 +235,74 @@ class Messages(OfTask):
         timer.start()
         self.assertEqual(self.task.receive(self.port).id, 9)
         timer.join()
+
+
+class Servers(OfTask):
+    def setUp(self):
+        super().setUp()
+        self.server = MachServer(self.task, self.port)
+        self.client = self.task.another()
+        self.reply_port = self.client.allocate()
+
+    def tearDown(self):
+        self.client.close()
+        super().tearDown()
+
+    def ask(self, id_, *items, disposition=MAKE_SEND_ONCE):
+        """The answer to a request, which the server handles in this thread."""
+        request = Message.of(self.port, MAKE_SEND, *items, id=id_, local=self.reply_port, local_disposition=disposition)
+        self.client.send(request)
+        self.server.handle(self.task.receive(self.port, 1))
+        return self.client.receive(self.reply_port, 1)
+
+    def test_handlers(self):
+        @self.server.message(500)
+        def upper(request):
+            return request.reply(data(request.items[0].bytes.upper()))
+
+        @self.server.message(501)
+        def refuse(request):
+            raise KERN_NO_SPACE
+
+        @self.server.message(502)
+        def fail(request):
+            return request.items[7]
+
+        self.assertEqual(self.ask(500, data("text")).items, [data(b"TEXT")])
+        self.assertEqual(self.ask(500, data("text"), disposition=MAKE_SEND).id, 600)
+        with self.assertLogs("machipc", "ERROR"):
+            answers = [self.ask(it, Ports(MAKE_SEND, self.reply_port)) for it in (501, 502, 503)]
+        codes = [KERN_NO_SPACE.code, MIG_REMOTE_ERROR.code, MIG_BAD_ID.code]
+        self.assertEqual([(it.id, it.items) for it in answers], [(601 + n, [words(it)]) for n, it in enumerate(codes)])
+        self.assertEqual(self.task.get_refs(self.reply_port, SEND), 0)  # the rights of refused requests are given back
+        with self.assertRaises(ValueError):
+            self.server.message(500)(upper)
+
+    def test_no_reply(self):
+        kept = []
+        self.server.message(7)(kept.append)
+        self.client.send(Message(self.port, MAKE_SEND, self.reply_port, MAKE_SEND_ONCE, id=7))
+        self.client.send(Message(self.port, MAKE_SEND, id=8))
+        with self.assertRaises(MACH_RCV_TIMED_OUT):
+            self.server.run(timeout=0)
+        self.task.send(kept[0].reply(body=b"late"))
+        self.assertEqual(self.client.receive(self.reply_port, 1).body, b"late")
+
+    def test_stop(self):
+        """A client that takes no replies and one that asks too much hold nobody up."""
+
+        @self.server.message(1)
+        def answer(request):
+            self.server.stop()
+            return request.reply()
+
+        self.server.limit = 64
+        self.client.set_qlimit(self.reply_port, 0)
+        self.client.send(Message(self.port, MAKE_SEND, body=bytes(100)))
+        self.client.send(Message(self.port, MAKE_SEND, self.reply_port, MAKE_SEND, id=1))
+        self.server.run()
+        self.assertEqual(self.client.get_receive_status(self.reply_port).messages, 0)
+        self.assertEqual(self.task.get_refs(self.reply_port, SEND), 0)
 
 
 class Cut(OfTask):
@@ -291,6 +406,18 @@ class Once(OfTask):
         with self.assertRaises(MACH_RCV_INTERRUPTED):
             self.task.destroy(names[0])
         self.task.destroy(names[0])
+
+    def test_fork(self):
+        """A child of fork doesn't number its parent's calls, and doesn't make them without numbers either."""
+
+        def check():
+            for call in (self.task.allocate, self.task.names, lambda: self.task.attach(self.task.space)):
+                with self.assertRaises(KERN_FAILURE):
+                    call()
+            return True
+
+        self.assertTrue(in_child(check))
+        self.assertEqual(self.task.type(self.task.allocate()), type_of(RECEIVE))
 
     def test_used_numbers(self):
         """A space that has used up its numbers can't be used so any more."""

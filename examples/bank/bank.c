@@ -163,7 +163,7 @@ int main(int words_count, char **words) {
     srand(1);
     must(begin_task(&task), "the bank's task");
     open_accounts(accounts);
-    unsigned killed = run_tellers(accounts, (unsigned) atoi(words[1]));
+    unsigned killed = run_tellers(accounts, seconds_of(words[1]));
     for (int i = 0; i < ACCOUNTS; i++) {
         count_account(&accounts[i], &count);
     }

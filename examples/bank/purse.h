@@ -32,7 +32,7 @@ kern_return_t purse_collect(mach_port_t account, mach_msg_timeout_t timeout);
 
 /* The names of a space by what they are for. */
 struct holdings {
-    mach_port_t *purses;   /* receive rights other than the account's own */
+    mach_port_t *purses; /* receive rights other than the account's own */
     size_t purses_count;
     mach_port_t *accounts; /* send rights: to the accounts of others */
     size_t accounts_count;

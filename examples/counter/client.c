@@ -21,12 +21,14 @@ int main(int count, char **words) {
     if (count != 2 || begin_task(&task) != KERN_SUCCESS) {
         return 2;
     }
-    time_t end = time(NULL) + atoi(words[1]);
+    time_t end = time(NULL) + seconds_of(words[1]);
     kern_return_t code = counter_label(task.bootstrap, "a label", before);
     while (code == KERN_SUCCESS && time(NULL) < end) {
         int last = value;
         code = counter_add(task.bootstrap, 1, &value);
-        calls += code == KERN_SUCCESS;
+        if (code == KERN_SUCCESS) {
+            calls++;
+        }
         if (code == KERN_SUCCESS && value <= last) {
             code = KERN_FAILURE; /* it grew by this call at least */
         }

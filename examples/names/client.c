@@ -49,7 +49,7 @@ int main(int count, char **words) {
     if (count != 3 || begin_task(&task) != KERN_SUCCESS) {
         return 2;
     }
-    time_t end = time(NULL) + atoi(words[2]);
+    time_t end = time(NULL) + seconds_of(words[2]);
     for (uint32_t number = 1; time(NULL) < end; number++) {
         if (service == MACH_PORT_NULL) {
             looked_up++;

@@ -5,7 +5,8 @@
  * A process is a task: it uses one server and one space, which machipc_connect and machipc_attach choose for all its
  * threads. Each thread has a connection of its own, made at its first call, and made anew at its next call after it was
  * cut; so a thread that waits for a message holds no other thread up. A child of fork has the same server and space and
- * makes connections anew. All functions may be called from any thread. None may be called from a signal handler.
+ * makes connections anew; where its parent numbers its calls, all calls of the child are refused with KERN_FAILURE until it
+ * calls machipc_attach, machipc_once, machipc_connect or machipc_adopt. All functions may be called from any thread. None may be called from a signal handler.
  *
  * Link with -lmachipc -pthread.
  */
@@ -73,8 +74,8 @@ kern_return_t machipc_space_destroy(void);
  * with the same number, which the server answers from what it keeps. A receive that waits does so by a call that takes
  * nothing, and takes the message then by a numbered one; a send that waits for room is tried again, up to 50
  * milliseconds apart. Calls that change nothing are made again. Only one process at a time may use a space so, since a
- * space keeps only the last request; the threads of the process take turns. A child of fork is in the same space
- * without this mode.
+ * space keeps only the last request; the threads of the process take turns. A child of fork isn't in this mode, and
+ * chooses anew: until then its calls are refused with KERN_FAILURE.
  *
  * KERN_INVALID_TASK: there is no such space; KERN_NO_ACCESS: the process is confined to another one;
  * KERN_INVALID_ARGUMENT: the server has no numbered requests, or the space has used up their 4,294,967,295 numbers;
@@ -93,6 +94,36 @@ void machipc_set_patience(uint32_t milliseconds);
 /* How many calls of the process were asked again after a cut and then answered, in the mode of machipc_once or at a task's
    end. A call that was asked several times counts once. */
 unsigned long machipc_repeats(void);
+
+/*
+ * A receive that doesn't wait, for an event loop: one round trip to the server, and none where a receive is under way and no
+ * message has come.
+ *
+ * It receives at most rcv_size bytes into msg, of the port or set rcv_name, as mach_msg with MACH_RCV_MSG does; option is 0 or
+ * MACH_RCV_LARGE. MACH_RCV_IN_PROGRESS: there is no message, and a receive is under way. Call it again, with the same port or
+ * set, when machipc_fd() is readable.
+ *
+ * A receive under way has taken no message, so nothing is lost where it is given up, or the server is killed. A thread has one
+ * at a time, and one for another port or set ends it; to receive from several ports, use a set. Meanwhile the thread may make all
+ * other calls. Another receive may take the message first, and then this one is still under way.
+ *
+ * MACH_RCV_INTERRUPTED: the connection was cut; not so with machipc_once, where it is made anew, and the call then waits for
+ * the server as other calls do (machipc_set_patience). Otherwise the codes of mach_msg, of which MACH_RCV_PORT_DIED and
+ * MACH_RCV_PORT_CHANGED may end a receive under way.
+ */
+mach_msg_return_t machipc_receive(mach_msg_header_t *msg, mach_msg_option_t option, mach_msg_size_t rcv_size,
+                                  mach_port_t rcv_name);
+
+/*
+ * The calling thread's descriptor for its event loop, for poll, epoll or libuv's uv_poll: it becomes readable when
+ * machipc_receive has something to do. It stays the same until the thread ends, whatever happens to the connection; a child of
+ * fork has one of its own, and gets it by calling this again. It is only for waiting: don't read it or close it. -1: the
+ * process has no descriptors or no memory left (errno).
+ */
+int machipc_fd(void);
+
+/* Gives up the thread's receive that is under way, if there is one. Nothing is lost. */
+void machipc_receive_cancel(void);
 
 /* A task for others to run: a space, and the name there of the first right that it was given. */
 typedef struct machipc_task {

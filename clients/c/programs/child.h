@@ -14,7 +14,7 @@ struct child {
     char **words;
     const char *socket;
     char found[PATH_MAX]; /* the same without links, or empty */
-    const char *user; /* NULL: machrun's own */
+    const char *user;     /* NULL: machrun's own */
     uid_t uid;
     gid_t gid;
     int broker; /* the command's end of the pair, or -1: the command isn't confined */

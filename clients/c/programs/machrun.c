@@ -219,11 +219,15 @@ static int run_once(struct child *child, struct broker *broker, bool is_open) {
     pid_t process = start(child);
     int error = errno;
     broker_was_given(broker);
-    int status = process > 0 ? wait_for(process) : process == 0 ? 128 + was_stopped : FAILED;
-    broker_end(broker);
-    if (process < 0) {
+    int status = FAILED;
+    if (process > 0) {
+        status = wait_for(process);
+    } else if (process == 0) {
+        status = 128 + was_stopped;
+    } else {
         fprintf(stderr, "machrun: fork: %s\n", strerror(error));
     }
+    broker_end(broker);
     return status;
 }
 

@@ -3,7 +3,6 @@
 #include "clock.h"
 
 #include <errno.h>
-#include <fcntl.h>
 #include <poll.h>
 #include <string.h>
 #include <sys/socket.h>
@@ -53,22 +52,28 @@ bool brokered_is_broker(int descriptor) {
 /* Asks, and leaves the connection with the end where the answer comes. Whether that was done; if not, errno says why. */
 static bool ask(struct connection *connection, int broker) {
     int pair[2];
-    connection_hold_forks();
-    bool is_done = socketpair(AF_UNIX, SOCK_SEQPACKET, 0, pair) == 0;
-    if (is_done) {
-        fcntl(pair[0], F_SETFD, FD_CLOEXEC);
-        fcntl(pair[1], F_SETFD, FD_CLOEXEC);
-        is_done = send_end(broker, pair[1]);
-        int error = errno;
-        close(pair[1]);
-        if (is_done) {
-            connection->socket = pair[0];
-        } else {
-            close(pair[0]);
-            errno = error;
-        }
+    if (socketpair(AF_UNIX, SOCK_SEQPACKET | SOCK_CLOEXEC, 0, pair) != 0) {
+        return false;
     }
+    bool is_done = send_end(broker, pair[1]);
+    int error = errno;
+    close(pair[1]);
+    if (is_done) {
+        connection->socket = pair[0];
+        return true;
+    }
+    close(pair[0]);
+    errno = error;
+    return false;
+}
+
+/* The same while no thread forks. */
+static bool ask_alone(struct connection *connection, int broker) {
+    connection_hold_forks();
+    bool is_done = ask(connection, broker);
+    int error = errno;
     connection_release_forks();
+    errno = error;
     return is_done;
 }
 
@@ -103,10 +108,9 @@ static kern_return_t take(struct connection *connection) {
     struct letter letter;
     letter_begin(&letter);
     connection_hold_forks();
-    bool is_read = recvmsg(connection->socket, &letter.head, MSG_DONTWAIT) == 1;
+    bool is_read = recvmsg(connection->socket, &letter.head, MSG_DONTWAIT | MSG_CMSG_CLOEXEC) == 1;
     int given = is_read ? descriptor_of(&letter) : -1;
     if (given >= 0) {
-        fcntl(given, F_SETFD, FD_CLOEXEC);
         close(connection->socket);
         connection->socket = given;
     }
@@ -124,7 +128,7 @@ static kern_return_t take(struct connection *connection) {
 
 kern_return_t brokered_open(struct connection *connection, int broker) {
     struct clock_wait wait = clock_wait_for(BROKER_PATIENCE);
-    while (!ask(connection, broker)) {
+    while (!ask_alone(connection, broker)) {
         int error = errno;
         if (!may_go_on(error) || !clock_wait_pause(&wait)) {
             errno = error;

@@ -60,13 +60,16 @@ static kern_return_t connect_and_enter(struct connection *connection, const stru
 }
 
 kern_return_t connection_open(struct connection *connection, const struct settings *settings) {
+    if (settings->is_refused) {
+        return KERN_FAILURE;
+    }
     if (connection->socket >= 0 && connection->generation == settings->generation) {
         return KERN_SUCCESS;
     }
     connection_close(connection);
     connection->generation = settings->generation;
-    kern_return_t code = settings->broker >= 0 ? brokered_open(connection, settings->broker)
-                                               : connect_and_enter(connection, settings);
+    kern_return_t code =
+        settings->broker >= 0 ? brokered_open(connection, settings->broker) : connect_and_enter(connection, settings);
     if (code != KERN_SUCCESS) {
         int error = errno;
         connection_close(connection);

@@ -13,7 +13,10 @@ struct connection {
     unsigned long generation; /* of the settings when the socket was connected */
     mach_port_t reply_port;   /* the thread's port for replies, or MACH_PORT_NULL */
     unsigned long reply_port_generation;
-    struct connection *next; /* of the process's connections */
+    struct connection *watch; /* by which the thread waits in machipc_receive, or NULL */
+    int events;               /* of a watch: an epoll descriptor that has its socket, or -1 */
+    mach_port_t watched;      /* of a watch: the port or set of the wait that is under way, or MACH_PORT_NULL */
+    struct connection *next;  /* of the process's connections */
     struct frame call;
     struct frame reply;
 };
@@ -35,8 +38,9 @@ void connection_close(struct connection *connection);
 void connection_hold_forks(void);
 void connection_release_forks(void);
 
-/* Sees that the connection has a socket, to the server and in the space of these settings. MACH_SEND_INTERRUPTED: nobody
-   listens, or machrun has no connection to give; KERN_INVALID_TASK: the space is gone. */
+/* Opens the connection to the server and in the space of these settings, unless it is open there. MACH_SEND_INTERRUPTED:
+   nobody listens, or machrun has no connection to give; KERN_INVALID_TASK: the space is gone; KERN_FAILURE: the settings
+   are a parent's that numbers its calls. */
 kern_return_t connection_open(struct connection *connection, const struct settings *settings);
 
 /* Sends the call's frame and reads the reply's, once. MACH_SEND_INTERRUPTED and MACH_RCV_INTERRUPTED: cut before the

@@ -2,7 +2,6 @@
 
 #include "connection.h"
 
-#include <fcntl.h>
 #include <pthread.h>
 #include <stdlib.h>
 #include <sys/socket.h>
@@ -22,14 +21,19 @@ static void after_fork_in_parent(void) {
     pthread_mutex_unlock(&lock);
 }
 
+static void close_descriptor(int *descriptor) {
+    if (*descriptor >= 0) {
+        close(*descriptor);
+        *descriptor = -1;
+    }
+}
+
 /* A child that kept its parent's sockets open would keep calls of the parent waiting that are to end with it, and the
    server might hand one of them a message. */
 static void after_fork_in_child(void) {
     for (struct connection *it = first; it != NULL; it = it->next) {
-        if (it->socket >= 0) {
-            close(it->socket);
-            it->socket = -1;
-        }
+        close_descriptor(&it->socket);
+        close_descriptor(&it->events);
     }
     pthread_mutex_unlock(&lock);
 }
@@ -54,6 +58,7 @@ struct connection *connection_new(void) {
     struct connection *made = calloc(1, sizeof *made);
     if (made != NULL) {
         made->socket = -1;
+        made->events = -1;
         pthread_mutex_lock(&lock);
         made->next = first;
         first = made;
@@ -63,8 +68,12 @@ struct connection *connection_new(void) {
 }
 
 void connection_free(struct connection *connection) {
+    if (connection->watch != NULL) {
+        connection_free(connection->watch);
+    }
     connection_close(connection);
     pthread_mutex_lock(&lock);
+    close_descriptor(&connection->events);
     struct connection **place = &first;
     while (*place != connection) {
         place = &(*place)->next;
@@ -100,10 +109,7 @@ void connection_release_forks(void) {
 
 bool connection_make_socket(struct connection *connection) {
     pthread_mutex_lock(&lock);
-    connection->socket = socket(AF_UNIX, SOCK_STREAM, 0);
-    if (connection->socket >= 0) {
-        fcntl(connection->socket, F_SETFD, FD_CLOEXEC);
-    }
+    connection->socket = socket(AF_UNIX, SOCK_STREAM | SOCK_CLOEXEC, 0);
     bool is_made = connection->socket >= 0;
     pthread_mutex_unlock(&lock);
     return is_made;
@@ -111,9 +117,6 @@ bool connection_make_socket(struct connection *connection) {
 
 void connection_close(struct connection *connection) {
     pthread_mutex_lock(&lock);
-    if (connection->socket >= 0) {
-        close(connection->socket);
-        connection->socket = -1;
-    }
+    close_descriptor(&connection->socket);
     pthread_mutex_unlock(&lock);
 }

@@ -1,7 +1,8 @@
 #include <mach.h>
 #include <stddef.h>
 
-#define CODE(name) {name, #name}
+#define CODE(name) \
+    { name, #name }
 
 static const struct {
     kern_return_t code;
@@ -49,8 +50,8 @@ static const struct {
     CODE(MACH_RCV_PORT_DIED),
     CODE(MACH_RCV_IN_SET),
     CODE(MACH_RCV_HEADER_ERROR),
-    CODE(MACH_RCV_HEADER_ERROR|MACH_MSG_IPC_SPACE),
-    CODE(MACH_RCV_HEADER_ERROR|MACH_MSG_IPC_KERNEL),
+    {MACH_RCV_HEADER_ERROR | MACH_MSG_IPC_SPACE, "MACH_RCV_HEADER_ERROR|MACH_MSG_IPC_SPACE"},
+    {MACH_RCV_HEADER_ERROR | MACH_MSG_IPC_KERNEL, "MACH_RCV_HEADER_ERROR|MACH_MSG_IPC_KERNEL"},
     CODE(MACH_RCV_BODY_ERROR),
     CODE(MIG_TYPE_ERROR),
     CODE(MIG_REPLY_MISMATCH),

@@ -44,8 +44,8 @@ static mach_msg_return_t send_once(struct connection *connection, const struct s
 }
 
 /* Waits until there is a message, and leaves it. MACH_RCV_TOO_LARGE: there is one. */
-static mach_msg_return_t await(struct connection *connection, const struct settings *settings,
-                               const struct message_call *call, const struct clock_wait *wait) {
+static mach_msg_return_t await(struct connection *connection, const struct settings *settings, const struct message_call *call,
+                               const struct clock_wait *wait) {
     mach_msg_header_t nothing;
     struct clock_wait patience = clock_wait_for(settings->patience);
     for (bool is_again = false;; is_again = true) {

@@ -77,7 +77,11 @@ static kern_return_t find_last(struct connection *connection, const struct setti
         if (code != KERN_SUCCESS) {
             return code;
         }
-        *(found ? &unused : &used) = middle;
+        if (found) {
+            unused = middle;
+        } else {
+            used = middle;
+        }
     }
     *last = used;
     return used < UINT32_MAX - 1 ? KERN_SUCCESS : KERN_INVALID_ARGUMENT;
@@ -108,7 +112,9 @@ static kern_return_t ask_next(struct connection *connection, const struct settin
     }
     /* A wait for room or for a message is refused often, and would use numbers up; such a refusal keeps none. */
     bool is_free = answer.own == KERN_SUCCESS && (answer.inner == MACH_SEND_TIMED_OUT || answer.inner == MACH_RCV_TIMED_OUT);
-    last_request += !is_free;
+    if (!is_free) {
+        last_request = request;
+    }
     return answer.own == KERN_SUCCESS ? answer.inner : answer.own;
 }
 
@@ -129,6 +135,7 @@ kern_return_t machipc_once(machipc_space_t space) {
     struct settings wanted = settings_now();
     bool may_use = settings_may_use(&wanted, space);
     wanted.space = space;
+    wanted.is_refused = false;
     connection_close(connection);
     uint32_t last = 0;
     kern_return_t code = may_use ? find_last(connection, &wanted, &last) : KERN_NO_ACCESS;

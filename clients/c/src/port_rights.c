@@ -15,10 +15,10 @@ kern_return_t mach_port_mod_refs(mach_port_t task, mach_port_t name, mach_port_r
 }
 
 kern_return_t mach_port_request_notification(mach_port_t task, mach_port_t name, mach_msg_id_t variant,
-                                             mach_port_mscount_t sync, mach_port_t notify,
-                                             mach_msg_type_name_t disposition, mach_port_t *previous) {
-    return call_of_task(task, CALL_REQUEST_NOTIFICATION, WORDS(name, (uint32_t) variant, sync, notify, disposition),
-                        previous, 1);
+                                             mach_port_mscount_t sync, mach_port_t notify, mach_msg_type_name_t disposition,
+                                             mach_port_t *previous) {
+    return call_of_task(task, CALL_REQUEST_NOTIFICATION, WORDS(name, (uint32_t) variant, sync, notify, disposition), previous,
+                        1);
 }
 
 kern_return_t mach_port_insert_right(mach_port_t task, mach_port_t name, mach_port_t right_name,

@@ -17,7 +17,10 @@ static void after_fork_in_parent(void) {
     pthread_mutex_unlock(&lock);
 }
 
+/* One process at a time numbers the calls of a space, and that is the parent. The child's calls are refused, and aren't
+   made without numbers, which would be another promise. */
 static void after_fork_in_child(void) {
+    shared.is_refused = shared.is_refused || shared.is_once;
     shared.is_once = false;
     shared.generation++;
     pthread_mutex_unlock(&lock);
@@ -52,6 +55,7 @@ static void use(const char *path, int broker, machipc_space_t space) {
     shared.space = space;
     shared.is_confined = broker >= 0;
     shared.is_once = false;
+    shared.is_refused = false;
     shared.generation++;
     pthread_mutex_unlock(&lock);
 }
@@ -66,9 +70,12 @@ void settings_use_broker(int broker, machipc_space_t space) {
 
 unsigned long settings_use_space(machipc_space_t space, bool is_once) {
     take_lock();
-    shared.generation += space != shared.space;
+    if (space != shared.space) {
+        shared.generation++;
+    }
     shared.space = space;
     shared.is_once = is_once;
+    shared.is_refused = false;
     unsigned long generation = shared.generation;
     pthread_mutex_unlock(&lock);
     return generation;

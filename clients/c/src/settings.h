@@ -14,6 +14,7 @@ struct settings {
     machipc_space_t space;
     bool is_confined; /* to the space, for as long as the server stays the same */
     bool is_once;
+    bool is_refused;   /* this is a child of fork whose parent numbers its calls, and it has chosen nothing yet */
     uint32_t patience; /* milliseconds */
     /* Grows with each change of server or space, and in a child of fork: a connection, or a port for replies, that was
        made under a lower number is of no use. */

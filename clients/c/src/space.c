@@ -26,6 +26,7 @@ kern_return_t machipc_attach(machipc_space_t space) {
         return KERN_NO_ACCESS;
     }
     wanted.space = space;
+    wanted.is_refused = false;
     connection_close(connection);
     kern_return_t code = connection_open(connection, &wanted);
     if (code == KERN_SUCCESS) {

@@ -137,6 +137,14 @@ static void messages(void) {
     CHECK_CODE(mach_msg(&message, MACH_SEND_MSG | MACH_RCV_MSG, 24, 24, 0x100, 0, 0), MACH_RCV_INTERRUPTED);
 }
 
+/* Often 0, a small number or any number. */
+static uint32_t word_by_chance(void) {
+    if (rand() % 2) {
+        return 0;
+    }
+    return rand() % 2 ? (uint32_t) rand() % 64 : (uint32_t) rand();
+}
+
 /* Answers at random: whatever comes, a call answers, and nothing is read or written where it shouldn't be. */
 static void at_random(void) {
     srand(7);
@@ -150,7 +158,7 @@ static void at_random(void) {
         put(rand() % 4 ? length : (uint32_t) rand());
         put(rand() % 2 ? 19 : 1);
         for (uint32_t at = 4; at < length; at += 4) {
-            put(rand() % 2 ? 0 : rand() % 2 ? (uint32_t) rand() % 64 : (uint32_t) rand());
+            put(word_by_chance());
         }
         ends = true;
         machipc_connect(path);

@@ -89,14 +89,14 @@ static void receive_rights(void) {
 
 static void requests(void) {
     mach_port_t port = check_port(), target = check_port(), previous = 9;
-    CHECK_OK(mach_port_request_notification(SELF, port, MACH_NOTIFY_DEAD_NAME, 0, target, MACH_MSG_TYPE_MAKE_SEND_ONCE,
-                                            &previous));
+    CHECK_OK(
+        mach_port_request_notification(SELF, port, MACH_NOTIFY_DEAD_NAME, 0, target, MACH_MSG_TYPE_MAKE_SEND_ONCE, &previous));
     CHECK(previous == MACH_PORT_NULL && (check_type(port) & MACH_PORT_TYPE_DNREQUEST));
     CHECK_OK(mach_port_request_notification(SELF, port, MACH_NOTIFY_DEAD_NAME, 0, MACH_PORT_NULL, 0, &previous));
     CHECK(check_type(previous) == MACH_PORT_TYPE_SEND_ONCE);
-    CHECK_CODE(mach_port_request_notification(SELF, port, MACH_NOTIFY_SEND_ONCE, 0, target, MACH_MSG_TYPE_MAKE_SEND_ONCE,
-                                              &previous),
-               KERN_INVALID_VALUE);
+    CHECK_CODE(
+        mach_port_request_notification(SELF, port, MACH_NOTIFY_SEND_ONCE, 0, target, MACH_MSG_TYPE_MAKE_SEND_ONCE, &previous),
+        KERN_INVALID_VALUE);
     CHECK_OK(mach_port_destroy(SELF, port));
     CHECK_OK(mach_port_destroy(SELF, target));
     CHECK_OK(mach_port_destroy(SELF, previous));

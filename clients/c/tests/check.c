@@ -10,7 +10,9 @@ static int checks, failures;
 static void counted(bool is_as_wanted) {
     pthread_mutex_lock(&lock);
     checks++;
-    failures += !is_as_wanted;
+    if (!is_as_wanted) {
+        failures++;
+    }
     pthread_mutex_unlock(&lock);
 }
 
@@ -48,6 +50,16 @@ int check_end(void) {
 int check_status(void) {
     printf("%d checks, %d failed\n", checks, failures);
     return failures != 0;
+}
+
+long check_number(const char *word) {
+    char *end;
+    long number = strtol(word, &end, 10);
+    if (*word == '\0' || *end != '\0') {
+        fprintf(stderr, "%s is no number\n", word);
+        exit(2);
+    }
+    return number;
 }
 
 mach_port_t check_port(void) {

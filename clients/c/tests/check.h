@@ -23,6 +23,9 @@ int check_end(void);
 /* The same without a space. */
 int check_status(void);
 
+/* The number that a word of the command line is. The test ends where it is none. */
+long check_number(const char *word);
+
 /* A new port of the space, and what a name stands for. */
 mach_port_t check_port(void);
 mach_port_type_t check_type(mach_port_t name);

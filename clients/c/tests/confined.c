@@ -37,10 +37,20 @@ static void *make_names(void *number) {
     return NULL;
 }
 
-/* A child has connections of its own, in the same space and without the mode of machipc_once. */
+/* A child has connections of its own, in the same space. Since its parent numbers its calls, it has to choose first whether it
+   does. */
 static int look_in_child(void) {
     mach_port_type_t type;
-    kern_return_t code;
+    kern_return_t code = mach_port_type(SELF, task.bootstrap, &type);
+    if (code != KERN_FAILURE || mach_reply_port() != MACH_PORT_NULL) {
+        return false;
+    }
+    do {
+        code = machipc_attach(task.space);
+    } while (code == MACH_SEND_INTERRUPTED);
+    if (code != KERN_SUCCESS) {
+        return false;
+    }
     do {
         code = mach_port_type(SELF, task.bootstrap, &type);
     } while (code == MACH_SEND_INTERRUPTED || code == MACH_RCV_INTERRUPTED);
@@ -83,7 +93,7 @@ int main(int count, char **words) {
     CHECK(getenv("MACHIPC_SOCKET") == NULL);
     CHECK_OK(machipc_once(task.space));
     refusals();
-    end = time(NULL) + atoi(words[1]);
+    end = time(NULL) + check_number(words[1]);
     for (int i = 0; i < THREADS; i++) {
         numbers[i] = (mach_port_t) i;
         CHECK(pthread_create(&threads[i], NULL, make_names, &numbers[i]) == 0);

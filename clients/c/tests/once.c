@@ -5,6 +5,7 @@
 
 #include "check.h"
 
+#include <poll.h>
 #include <pthread.h>
 #include <stdio.h>
 #include <stdlib.h>
@@ -64,8 +65,8 @@ static void send_once_rights(mach_port_t port) {
         CHECK_OK(mach_port_extract_right(SELF, port, MACH_MSG_TYPE_MAKE_SEND_ONCE, &once, &type));
         CHECK(check_port_status(port).mps_sorights == i);
     }
-    CHECK_OK(mach_port_request_notification(SELF, port, MACH_NOTIFY_DEAD_NAME, 0, once, MACH_MSG_TYPE_MOVE_SEND_ONCE,
-                                            &previous));
+    CHECK_OK(
+        mach_port_request_notification(SELF, port, MACH_NOTIFY_DEAD_NAME, 0, once, MACH_MSG_TYPE_MOVE_SEND_ONCE, &previous));
     CHECK(previous == MACH_PORT_NULL);
     CHECK_OK(mach_port_request_notification(SELF, port, MACH_NOTIFY_DEAD_NAME, 0, MACH_PORT_NULL, 0, &previous));
     CHECK(check_type(previous) == MACH_PORT_TYPE_SEND_ONCE);
@@ -113,6 +114,20 @@ static void too_large(mach_port_t port) {
 
 static mach_port_t shared;
 
+/* The next message, for which the program waits as an event loop does. */
+static kern_return_t receive_by_events(mach_port_t port, struct note *note) {
+    struct pollfd polled = {.fd = machipc_fd(), .events = POLLIN};
+    for (;;) {
+        kern_return_t code = machipc_receive(&note->head, 0, sizeof *note, port);
+        if (code != MACH_RCV_IN_PROGRESS) {
+            return code;
+        }
+        if (poll(&polled, 1, 20000) <= 0) {
+            return MACH_RCV_TIMED_OUT;
+        }
+    }
+}
+
 static void *send_many(void *from) {
     for (int i = 0; i < MESSAGES; i++) {
         struct note note = note_to(shared, *(int *) from * MESSAGES + i);
@@ -121,7 +136,8 @@ static void *send_many(void *from) {
     return NULL;
 }
 
-/* Threads that wait for room, and one that waits for messages: each message comes once, and in its sender's order. */
+/* Threads that wait for room, and one that waits for messages, every other one by its event loop: each message comes once, and
+   in its sender's order. */
 static void threads(mach_port_t port) {
     pthread_t senders[SENDERS];
     int numbers[SENDERS], next[SENDERS] = {0};
@@ -133,7 +149,11 @@ static void threads(mach_port_t port) {
     }
     for (int i = 0; i < SENDERS * MESSAGES; i++) {
         struct note note = {0};
-        CHECK_OK(mach_msg(&note.head, MACH_RCV_MSG, 0, sizeof note, port, 0, 0));
+        if (i % 2 == 0) {
+            CHECK_OK(mach_msg(&note.head, MACH_RCV_MSG, 0, sizeof note, port, 0, 0));
+        } else {
+            CHECK_OK(receive_by_events(port, &note));
+        }
         int from = note.head.msgh_id / MESSAGES;
         CHECK(from >= 0 && from < SENDERS && note.head.msgh_id == from * MESSAGES + next[from]++);
     }
@@ -149,7 +169,10 @@ static void overtaken(machipc_space_t space) {
     mach_port_t name = check_port(); /* this one's number is the space's last */
     pid_t child = fork();
     if (child == 0) {
-        bool is_done = machipc_once(space) == KERN_SUCCESS;
+        mach_port_t none;
+        bool is_refused = mach_port_allocate(SELF, MACH_PORT_RIGHT_RECEIVE, &none) == KERN_FAILURE &&
+                          mach_port_destroy(SELF, name) == KERN_FAILURE && machipc_space_destroy() == KERN_FAILURE;
+        bool is_done = is_refused && machipc_once(space) == KERN_SUCCESS;
         for (int i = 0; i < 3; i++) {
             is_done = mach_reply_port() != MACH_PORT_NULL && is_done;
         }
@@ -186,8 +209,8 @@ int main(int count, char **words) {
     if (count < 2 || connect_to(words[1]) != KERN_SUCCESS) {
         return 2;
     }
-    int rounds = count > 2 ? atoi(words[2]) : ROUNDS;
-    for (int i = 0; i < rounds; i++) {
+    long rounds = count > 2 ? check_number(words[2]) : ROUNDS;
+    for (long i = 0; i < rounds; i++) {
         work(words[1]);
     }
     printf("%lu calls asked again, ", machipc_repeats());

@@ -15,8 +15,8 @@ static void begun_and_ended(mach_port_t port) {
     machipc_task_t task = {0};
     machipc_space_t own = machipc_space();
     mach_port_t previous;
-    CHECK_OK(mach_port_request_notification(SELF, port, MACH_NOTIFY_NO_SENDERS, 1, port, MACH_MSG_TYPE_MAKE_SEND_ONCE,
-                                            &previous));
+    CHECK_OK(
+        mach_port_request_notification(SELF, port, MACH_NOTIFY_NO_SENDERS, 1, port, MACH_MSG_TYPE_MAKE_SEND_ONCE, &previous));
     CHECK_OK(machipc_task_begin(port, MACH_MSG_TYPE_MAKE_SEND, &task));
     CHECK(machipc_space() == own && task.space != own && task.start == 1 && task.bootstrap >= 0x80000000u);
     CHECK_OK(machipc_task_end(&task));

@@ -97,8 +97,8 @@ kern_return_t mach_port_move_member(mach_port_t task, mach_port_t member, mach_p
  * notify; KERN_UREFS_OVERFLOW; KERN_NO_SPACE: no name for the former right.
  */
 kern_return_t mach_port_request_notification(mach_port_t task, mach_port_t name, mach_msg_id_t variant,
-                                             mach_port_mscount_t sync, mach_port_t notify,
-                                             mach_msg_type_name_t disposition, mach_port_t *previous);
+                                             mach_port_mscount_t sync, mach_port_t notify, mach_msg_type_name_t disposition,
+                                             mach_port_t *previous);
 
 /* Puts a right under a name: right_name is taken as the disposition says. KERN_INVALID_VALUE: the name can't be, or the
    disposition; KERN_INVALID_CAPABILITY: right_name can't be taken so, or is dead; KERN_RIGHT_EXISTS: the port has another

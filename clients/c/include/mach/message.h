@@ -25,9 +25,9 @@ typedef uint32_t mach_msg_bits_t;
 #define MACH_MSGH_BITS_COMPLEX 0x80000000U
 #define MACH_MSGH_BITS_PORTS_MASK (MACH_MSGH_BITS_REMOTE_MASK | MACH_MSGH_BITS_LOCAL_MASK)
 #define MACH_MSGH_BITS(remote, local) ((mach_msg_bits_t) (remote) | ((mach_msg_bits_t) (local) << 8))
-#define MACH_MSGH_BITS_REMOTE(bits) ((bits) & MACH_MSGH_BITS_REMOTE_MASK)
-#define MACH_MSGH_BITS_LOCAL(bits) (((bits) & MACH_MSGH_BITS_LOCAL_MASK) >> 8)
-#define MACH_MSGH_BITS_PORTS(bits) ((bits) & MACH_MSGH_BITS_PORTS_MASK)
+#define MACH_MSGH_BITS_REMOTE(bits) (MACH_MSGH_BITS_REMOTE_MASK & (bits))
+#define MACH_MSGH_BITS_LOCAL(bits) ((MACH_MSGH_BITS_LOCAL_MASK & (bits)) >> 8)
+#define MACH_MSGH_BITS_PORTS(bits) (MACH_MSGH_BITS_PORTS_MASK & (bits))
 #define MACH_MSGH_BITS_OTHER(bits) ((bits) & ~MACH_MSGH_BITS_PORTS_MASK)
 
 typedef natural_t mach_msg_size_t; /* bytes */
@@ -87,8 +87,7 @@ typedef natural_t mach_msg_type_number_t;  /* elements */
 
 #define MACH_MSG_TYPE_PORT_ANY(type) (((type) >= MACH_MSG_TYPE_MOVE_RECEIVE) && ((type) <= MACH_MSG_TYPE_MAKE_SEND_ONCE))
 #define MACH_MSG_TYPE_PORT_ANY_SEND(type) (((type) >= MACH_MSG_TYPE_MOVE_SEND) && ((type) <= MACH_MSG_TYPE_MAKE_SEND_ONCE))
-#define MACH_MSG_TYPE_PORT_ANY_RIGHT(type) \
-    (((type) >= MACH_MSG_TYPE_MOVE_RECEIVE) && ((type) <= MACH_MSG_TYPE_MOVE_SEND_ONCE))
+#define MACH_MSG_TYPE_PORT_ANY_RIGHT(type) (((type) >= MACH_MSG_TYPE_MOVE_RECEIVE) && ((type) <= MACH_MSG_TYPE_MOVE_SEND_ONCE))
 
 /* The descriptor in front of an item's data: a word. Data out of line (msgt_inline 0) is refused by the server. */
 typedef struct {
@@ -128,15 +127,15 @@ typedef kern_return_t mach_msg_return_t;
 #define MACH_MSG_IPC_KERNEL 0x00000800 /* added to MACH_RCV_HEADER_ERROR: the server is out of memory */
 
 #define MACH_SEND_IN_PROGRESS 0x10000001
-#define MACH_SEND_INVALID_DATA 0x10000002   /* there is no message at NULL */
-#define MACH_SEND_INVALID_DEST 0x10000003   /* the destination is no right to send by */
-#define MACH_SEND_TIMED_OUT 0x10000004      /* the queue is full, and the time is over */
+#define MACH_SEND_INVALID_DATA 0x10000002 /* there is no message at NULL */
+#define MACH_SEND_INVALID_DEST 0x10000003 /* the destination is no right to send by */
+#define MACH_SEND_TIMED_OUT 0x10000004    /* the queue is full, and the time is over */
 #define MACH_SEND_WILL_NOTIFY 0x10000005
 #define MACH_SEND_NOTIFY_IN_PROGRESS 0x10000006
-#define MACH_SEND_INTERRUPTED 0x10000007    /* the connection to the server was cut, or there is none */
-#define MACH_SEND_MSG_TOO_SMALL 0x10000008  /* below 24 bytes, no multiple of 4, or items that go past the end */
-#define MACH_SEND_INVALID_REPLY 0x10000009  /* the local port is no right to reply by */
-#define MACH_SEND_INVALID_RIGHT 0x1000000a  /* a right of the body can't be taken */
+#define MACH_SEND_INTERRUPTED 0x10000007   /* the connection to the server was cut, or there is none */
+#define MACH_SEND_MSG_TOO_SMALL 0x10000008 /* below 24 bytes, no multiple of 4, or items that go past the end */
+#define MACH_SEND_INVALID_REPLY 0x10000009 /* the local port is no right to reply by */
+#define MACH_SEND_INVALID_RIGHT 0x1000000a /* a right of the body can't be taken */
 #define MACH_SEND_INVALID_NOTIFY 0x1000000b
 #define MACH_SEND_INVALID_MEMORY 0x1000000c /* data out of line */
 #define MACH_SEND_NO_BUFFER 0x1000000d      /* above 8,192 bytes or 256 rights, or out of memory */
@@ -144,17 +143,17 @@ typedef kern_return_t mach_msg_return_t;
 #define MACH_SEND_INVALID_TYPE 0x1000000f   /* a descriptor that can't be */
 #define MACH_SEND_INVALID_HEADER 0x10000010 /* dispositions that can't be */
 
-#define MACH_RCV_IN_PROGRESS 0x10004001
-#define MACH_RCV_INVALID_NAME 0x10004002  /* neither a receive right nor a set */
-#define MACH_RCV_TIMED_OUT 0x10004003     /* no message came in time */
-#define MACH_RCV_TOO_LARGE 0x10004004     /* the message is larger than the buffer */
-#define MACH_RCV_INTERRUPTED 0x10004005   /* the connection to the server was cut, or there is none */
-#define MACH_RCV_PORT_CHANGED 0x10004006  /* the port was moved into a set meanwhile */
+#define MACH_RCV_IN_PROGRESS 0x10004001  /* of machipc_receive: there is no message yet */
+#define MACH_RCV_INVALID_NAME 0x10004002 /* neither a receive right nor a set */
+#define MACH_RCV_TIMED_OUT 0x10004003    /* no message came in time */
+#define MACH_RCV_TOO_LARGE 0x10004004    /* the message is larger than the buffer */
+#define MACH_RCV_INTERRUPTED 0x10004005  /* the connection to the server was cut, or there is none */
+#define MACH_RCV_PORT_CHANGED 0x10004006 /* the port was moved into a set meanwhile */
 #define MACH_RCV_INVALID_NOTIFY 0x10004007
-#define MACH_RCV_INVALID_DATA 0x10004008  /* there is no buffer at NULL */
-#define MACH_RCV_PORT_DIED 0x10004009     /* the receive right or the set went meanwhile */
-#define MACH_RCV_IN_SET 0x1000400a        /* the port is in a set: receive from that */
-#define MACH_RCV_HEADER_ERROR 0x1000400b  /* with one of the two numbers above */
+#define MACH_RCV_INVALID_DATA 0x10004008 /* there is no buffer at NULL */
+#define MACH_RCV_PORT_DIED 0x10004009    /* the receive right or the set went meanwhile */
+#define MACH_RCV_IN_SET 0x1000400a       /* the port is in a set: receive from that */
+#define MACH_RCV_HEADER_ERROR 0x1000400b /* with one of the two numbers above */
 #define MACH_RCV_BODY_ERROR 0x1000400c
 
 #ifdef __cplusplus

@@ -6,12 +6,12 @@
 #include <mach/kern_return.h>
 #include <mach/message.h>
 
-#define MIG_TYPE_ERROR (-300)      /* the reply's types aren't those of the interface */
-#define MIG_REPLY_MISMATCH (-301)  /* the reply isn't one to this request */
-#define MIG_REMOTE_ERROR (-302)    /* the server found a fault */
-#define MIG_BAD_ID (-303)          /* the server knows no such request */
-#define MIG_BAD_ARGUMENTS (-304)   /* the request's types aren't those of the interface */
-#define MIG_NO_REPLY (-305)        /* no reply is to be sent */
+#define MIG_TYPE_ERROR (-300)     /* the reply's types aren't those of the interface */
+#define MIG_REPLY_MISMATCH (-301) /* the reply isn't one to this request */
+#define MIG_REMOTE_ERROR (-302)   /* the server found a fault */
+#define MIG_BAD_ID (-303)         /* the server knows no such request */
+#define MIG_BAD_ARGUMENTS (-304)  /* the request's types aren't those of the interface */
+#define MIG_NO_REPLY (-305)       /* no reply is to be sent */
 #define MIG_EXCEPTION (-306)
 #define MIG_ARRAY_TOO_LARGE (-307) /* an array is longer than the room for it */
 #define MIG_SERVER_DIED (-308)     /* the server's port died */

@@ -49,25 +49,25 @@ typedef mach_port_type_t *mach_port_type_array_t;
 #define MACH_PORT_TYPE_PORT_OR_DEAD (MACH_PORT_TYPE_PORT_RIGHTS | MACH_PORT_TYPE_DEAD_NAME)
 #define MACH_PORT_TYPE_ALL_RIGHTS (MACH_PORT_TYPE_PORT_OR_DEAD | MACH_PORT_TYPE_PORT_SET)
 
-typedef natural_t mach_port_urefs_t;      /* user references of a name */
-typedef integer_t mach_port_delta_t;      /* a change of user references */
-typedef natural_t mach_port_seqno_t;      /* the number that a port's next message gets */
-typedef natural_t mach_port_mscount_t;    /* how many send rights were made from a receive right */
-typedef natural_t mach_port_msgcount_t;   /* messages in a queue, and its limit */
-typedef natural_t mach_port_rights_t;     /* how many rights there are */
+typedef natural_t mach_port_urefs_t;    /* user references of a name */
+typedef integer_t mach_port_delta_t;    /* a change of user references */
+typedef natural_t mach_port_seqno_t;    /* the number that a port's next message gets */
+typedef natural_t mach_port_mscount_t;  /* how many send rights were made from a receive right */
+typedef natural_t mach_port_msgcount_t; /* messages in a queue, and its limit */
+typedef natural_t mach_port_rights_t;   /* how many rights there are */
 typedef natural_t *mach_port_seqno_array_t;
 
 /* What is known of a receive right. */
 typedef struct mach_port_status {
-    mach_port_t mps_pset;             /* the set that the port is in, or MACH_PORT_NULL */
-    mach_port_seqno_t mps_seqno;      /* the number that its next message gets */
-    mach_port_mscount_t mps_mscount;  /* its make-send count */
-    mach_port_msgcount_t mps_qlimit;  /* how many messages its queue takes */
+    mach_port_t mps_pset;              /* the set that the port is in, or MACH_PORT_NULL */
+    mach_port_seqno_t mps_seqno;       /* the number that its next message gets */
+    mach_port_mscount_t mps_mscount;   /* its make-send count */
+    mach_port_msgcount_t mps_qlimit;   /* how many messages its queue takes */
     mach_port_msgcount_t mps_msgcount; /* how many messages are in it */
-    mach_port_rights_t mps_sorights;  /* how many send-once rights there are */
-    boolean_t mps_srights;            /* whether there are send rights */
-    boolean_t mps_pdrequest;          /* whether there is a port-destroyed request */
-    boolean_t mps_nsrequest;          /* whether there is a no-senders request */
+    mach_port_rights_t mps_sorights;   /* how many send-once rights there are */
+    boolean_t mps_srights;             /* whether there are send rights */
+    boolean_t mps_pdrequest;           /* whether there is a port-destroyed request */
+    boolean_t mps_nsrequest;           /* whether there is a no-senders request */
 } mach_port_status_t;
 
 #define MACH_PORT_QLIMIT_DEFAULT ((mach_port_msgcount_t) 5)

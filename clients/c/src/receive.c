@@ -1,0 +1,140 @@
+/*
+ * Receives for event loops. One that finds no message begins a wait on a second connection of the thread's, and returns. The
+ * wait is a call with limit 0 and MACH_RCV_LARGE, which leaves each message where it is and only says that one is there. So a
+ * wait that is given up loses nothing, and a message is taken only by the call that returns it.
+ */
+
+#include "call.h"
+#include "message.h"
+
+#include <errno.h>
+#include <poll.h>
+#include <sys/epoll.h>
+
+/* The thread's connection for waits, with its descriptor for event loops, or NULL. */
+static struct connection *watch_of_thread(void) {
+    struct connection *own = connection_of_thread();
+    if (own == NULL) {
+        errno = ENOMEM;
+        return NULL;
+    }
+    if (own->watch == NULL) {
+        own->watch = connection_new();
+    }
+    struct connection *watch = own->watch;
+    if (watch != NULL && watch->events < 0) {
+        watch->watched = MACH_PORT_NULL;
+        watch->events = epoll_create1(EPOLL_CLOEXEC);
+    }
+    return watch != NULL && watch->events >= 0 ? watch : NULL;
+}
+
+int machipc_fd(void) {
+    struct connection *watch = watch_of_thread();
+    return watch != NULL ? watch->events : -1;
+}
+
+void machipc_receive_cancel(void) {
+    struct connection *watch = watch_of_thread();
+    if (watch != NULL && watch->watched != MACH_PORT_NULL) {
+        connection_close(watch);
+        watch->watched = MACH_PORT_NULL;
+    }
+}
+
+/* Whether a wait for this port or set is under way, in the space that the process uses now. */
+static bool waits_for(const struct connection *watch, mach_port_t name) {
+    return name != MACH_PORT_NULL && watch->watched == name && watch->socket >= 0 &&
+           watch->generation == settings_now().generation;
+}
+
+/* What a wait asks for, and where its answer's size and port go, which nobody reads. */
+static struct message_call wait_for(mach_port_t name, mach_msg_header_t *nothing) {
+    return (struct message_call){.message = nothing, .option = MACH_RCV_MSG | MACH_RCV_LARGE, .receive_name = name};
+}
+
+static kern_return_t begin_wait(struct connection *watch, mach_port_t name) {
+    mach_msg_header_t nothing;
+    struct message_call call = wait_for(name, &nothing);
+    struct settings settings = settings_now();
+    struct epoll_event event = {.events = EPOLLIN};
+    message_frame(watch, &call);
+    kern_return_t code = connection_open(watch, &settings);
+    if (code != KERN_SUCCESS) {
+        return code;
+    }
+    bool is_added = epoll_ctl(watch->events, EPOLL_CTL_ADD, watch->socket, &event) == 0 || errno == EEXIST;
+    if (!is_added || !frame_send(&watch->call, watch->socket)) {
+        connection_close(watch);
+        return MACH_RCV_INTERRUPTED;
+    }
+    watch->watched = name;
+    return KERN_SUCCESS;
+}
+
+static bool is_over(const struct connection *watch) {
+    struct pollfd polled = {.fd = watch->socket, .events = POLLIN};
+    return poll(&polled, 1, 0) != 0;
+}
+
+/* Reads how a wait ended. KERN_SUCCESS: there was a message. */
+static kern_return_t end_wait(struct connection *watch) {
+    mach_msg_header_t nothing;
+    struct message_call call = wait_for(watch->watched, &nothing);
+    watch->watched = MACH_PORT_NULL;
+    if (!frame_receive(&watch->reply, watch->socket)) {
+        connection_close(watch);
+        return MACH_RCV_INTERRUPTED;
+    }
+    kern_return_t code = call_read(watch, CALL_MACH_MSG);
+    if (code != MIG_REPLY_MISMATCH) {
+        code = message_result(watch, &call, code);
+    }
+    return code == MACH_RCV_TOO_LARGE ? KERN_SUCCESS : code;
+}
+
+/* Takes a message, or begins to wait for one. A wait that can't begin since the server was just killed is begun again where
+   calls are numbered: the attempt in front of it has the patience. */
+static mach_msg_return_t take_or_wait(struct connection *watch, mach_msg_header_t *msg, mach_msg_option_t option,
+                                      mach_msg_size_t size, mach_port_t name) {
+    for (;;) {
+        mach_msg_return_t code = mach_msg(msg, MACH_RCV_MSG | MACH_RCV_TIMEOUT | option, 0, size, name, 0, MACH_PORT_NULL);
+        if (code != MACH_RCV_TIMED_OUT) {
+            return code;
+        }
+        code = begin_wait(watch, name);
+        if (code == KERN_SUCCESS) {
+            return MACH_RCV_IN_PROGRESS;
+        }
+        if (!call_was_cut(code)) {
+            return code;
+        }
+        if (!settings_now().is_once) {
+            return MACH_RCV_INTERRUPTED;
+        }
+    }
+}
+
+mach_msg_return_t machipc_receive(mach_msg_header_t *msg, mach_msg_option_t option, mach_msg_size_t rcv_size,
+                                  mach_port_t rcv_name) {
+    if (option & ~MACH_RCV_LARGE) {
+        return KERN_INVALID_ARGUMENT;
+    }
+    struct connection *watch = watch_of_thread();
+    if (watch == NULL) {
+        return message_no_memory(MACH_RCV_MSG);
+    }
+    if (waits_for(watch, rcv_name)) {
+        if (!is_over(watch)) {
+            return MACH_RCV_IN_PROGRESS;
+        }
+        kern_return_t code = end_wait(watch);
+        bool is_asked_again = call_was_cut(code) && settings_now().is_once;
+        if (code != KERN_SUCCESS && !is_asked_again) {
+            return code;
+        }
+    } else {
+        machipc_receive_cancel();
+    }
+    return take_or_wait(watch, msg, option, rcv_size, rcv_name);
+}

@@ -1,0 +1,147 @@
+"""`mach_msg`: how a task sends and receives."""
+
+from __future__ import annotations
+
+from typing import Optional, Tuple
+
+from . import wire
+from .constants import LARGEST_MESSAGE
+from .errors import (
+    KERN_RESOURCE_SHORTAGE,
+    MACH_RCV_HEADER_ERROR_IPC_KERNEL,
+    MACH_RCV_INTERRUPTED,
+    MACH_RCV_TIMED_OUT,
+    MACH_RCV_TOO_LARGE,
+    MACH_SEND_INTERRUPTED,
+    MACH_SEND_NO_BUFFER,
+    MACH_SEND_TIMED_OUT,
+    MIG_REPLY_MISMATCH,
+)
+from .exchange import Exchange
+from .messages import Message
+from .waiting import Deadline
+
+
+def text_of(message: Message) -> bytes:
+    """Returns the bytes of a message. MACH_SEND_NO_BUFFER: they are too many."""
+    text = message.to_bytes()
+    if len(text) > LARGEST_MESSAGE:
+        raise MACH_SEND_NO_BUFFER(f"{len(text)} bytes, and a message has at most {LARGEST_MESSAGE}")
+    return text
+
+
+class Messaging(Exchange):
+    """Sends and receives. Timeouts are seconds: None waits forever, and 0 is one attempt."""
+
+    def send(self, message: Message, timeout: Optional[float] = None) -> None:
+        """Sends a message, and waits for room in the queue."""
+        text = text_of(message)
+        if self._numbers:
+            self._send_once(text, timeout)
+            return
+        option = wire.SEND_MSG | (0 if timeout is None else wire.SEND_TIMEOUT)
+        try:
+            self._sent(*self._mach_msg(option, 0, 0, timeout, text))
+        except MACH_RCV_INTERRUPTED as fault:
+            raise MACH_SEND_INTERRUPTED(*fault.args) from None
+
+    def receive(
+        self, name: int, timeout: Optional[float] = None, limit: int = LARGEST_MESSAGE, large: bool = False
+    ) -> Message:
+        """Receives a message of at most `limit` bytes from a port or a set, and waits for one. A larger one is destroyed, or
+        stays with `large`; MACH_RCV_TOO_LARGE has its size and port."""
+        if self._numbers:
+            return self._receive_once(name, timeout, limit, large)
+        option = wire.RCV_MSG | (0 if timeout is None else wire.RCV_TIMEOUT) | (wire.RCV_LARGE if large else 0)
+        try:
+            return self._received(*self._mach_msg(option, limit, name, timeout), limit)
+        except MACH_SEND_INTERRUPTED as fault:
+            raise MACH_RCV_INTERRUPTED(*fault.args) from None
+
+    def send_receive(
+        self, message: Message, name: int, timeout: Optional[float] = None, limit: int = LARGEST_MESSAGE
+    ) -> Message:
+        """Sends a message and then receives one from `name`, as a client does that asks a server. Each half has the
+        timeout."""
+        if self._numbers:
+            self._send_once(text_of(message), timeout)
+            return self._receive_once(name, timeout, limit, False)
+        timeouts = 0 if timeout is None else wire.SEND_TIMEOUT | wire.RCV_TIMEOUT
+        option = wire.SEND_MSG | wire.RCV_MSG | timeouts
+        return self._received(*self._mach_msg(option, limit, name, timeout, text_of(message)), limit)
+
+    def _mach_msg(
+        self, option: int, limit: int, name: int, timeout: Optional[float], text: bytes = b""
+    ) -> Tuple[int, bytes]:
+        frame = wire.words(wire.MACH_MSG) + wire.mach_msg(option, limit, name, timeout, text)
+        return self._answer(wire.MACH_MSG, self._exchange(frame))
+
+    def _received(self, code: int, results: bytes, limit: int) -> Message:
+        try:
+            return wire.message(code, results, limit)
+        except MIG_REPLY_MISMATCH:
+            self.close()
+            raise
+
+    def _sent(self, code: int, results: bytes) -> None:
+        try:
+            wire.no_message(code, results)
+        except MIG_REPLY_MISMATCH:
+            self.close()
+            raise
+
+    # Numbered requests, each of which is one attempt.
+
+    def _attempt(self, option: int, limit: int, name: int, text: bytes = b"") -> Tuple[int, bytes]:
+        assert self._numbers
+        return self._make_numbered(self._numbers, wire.MACH_MSG, wire.mach_msg(option, limit, name, None, text))
+
+    def _send_once(self, text: bytes, timeout: Optional[float]) -> None:
+        wait = Deadline(timeout)
+        while True:
+            try:
+                self._sent(*self._attempt(wire.SEND_MSG | wire.SEND_TIMEOUT, 0, 0, text))
+                return
+            except MACH_SEND_TIMED_OUT:
+                if not wait.pause():
+                    raise
+            except KERN_RESOURCE_SHORTAGE:
+                raise MACH_SEND_NO_BUFFER() from None
+            except MACH_RCV_INTERRUPTED as fault:
+                raise MACH_SEND_INTERRUPTED(*fault.args) from None
+
+    def _receive_once(self, name: int, timeout: Optional[float], limit: int, large: bool) -> Message:
+        wait = Deadline(timeout)
+        option = wire.RCV_MSG | wire.RCV_TIMEOUT | (wire.RCV_LARGE if large else 0)
+        while True:
+            try:
+                return self._received(*self._attempt(option, limit, name), limit)
+            except MACH_RCV_TIMED_OUT:
+                if wait.left() == 0:
+                    raise
+            except KERN_RESOURCE_SHORTAGE:
+                raise MACH_RCV_HEADER_ERROR_IPC_KERNEL() from None
+            except MACH_SEND_INTERRUPTED as fault:
+                raise MACH_RCV_INTERRUPTED(*fault.args) from None
+            self._await(name, wait)
+
+    def _await(self, name: int, wait: Deadline) -> None:
+        """Waits until there is a message, and leaves it: none fits into a limit of 0."""
+        patience = Deadline(self.patience)
+        is_again = False
+        while True:
+            left = wait.left()
+            option = wire.RCV_MSG | wire.RCV_LARGE | (0 if left is None else wire.RCV_TIMEOUT)
+            try:
+                code, results = self._mach_msg(option, 0, name, left)
+                self.repeats += is_again
+                self._received(code, results, 0)
+            except MACH_RCV_TOO_LARGE:
+                return
+            except MACH_RCV_INTERRUPTED:
+                patience = Deadline(self.patience)  # the server was there until now
+                patience.pause()
+            except MACH_SEND_INTERRUPTED as fault:
+                if not patience.pause():
+                    raise MACH_RCV_INTERRUPTED(*fault.args) from None
+            is_again = True

@@ -1,0 +1,107 @@
+"""The ways to a server: its socket, or `machrun`, which gives connections to a confined program."""
+
+from __future__ import annotations
+
+import array
+import errno
+import os
+import socket
+from typing import Tuple, Union
+
+from . import wire
+from .constants import FIRST_SPACE
+from .errors import refusal
+from .waiting import Deadline
+
+# What machrun answers where the server can't be reached now, and the longest wait for its answer in seconds.
+_LATER, _BROKER_PATIENCE = 255, 20.0
+_PASSING = (errno.EAGAIN, errno.ETOOMANYREFS, errno.ENOBUFS)
+
+# A path, or the descriptor by which machrun is asked.
+Route = Union[str, int]
+
+
+def open_socket(route: Route, space: int, is_confined: bool) -> socket.socket:
+    """Returns a connection in a space, for good if it is confined there. OSError: there is none now."""
+    if isinstance(route, int):
+        return _from_broker(route)
+    made = socket.socket(socket.AF_UNIX)
+    try:
+        made.connect(route)
+        if space != FIRST_SPACE:
+            _enter(made, wire.ATTACH, space)
+        if is_confined:
+            _enter(made, wire.CONFINE)
+    except BaseException:
+        made.close()
+        raise
+    return made
+
+
+def _enter(connection: socket.socket, number: int, *arguments: int) -> None:
+    connection.sendall(wire.with_length(wire.words(number, *arguments)))
+    code, _ = wire.answer(number, read_frame(connection))
+    if code:
+        raise refusal(code)
+
+
+def read_frame(connection: socket.socket) -> bytes:
+    return _read(connection, wire.length_of(_read(connection, 4)))
+
+
+def _read(connection: socket.socket, count: int) -> bytes:
+    text = bytearray()
+    while len(text) < count:
+        some = connection.recv(count - len(text))
+        if not some:
+            raise ConnectionError("the server ended the connection")
+        text += some
+    return bytes(text)
+
+
+def is_broker(descriptor: int) -> bool:
+    """Returns True if machrun can be asked by it. A descriptor may have been closed, and opened as something else."""
+    try:
+        with socket.socket(fileno=os.dup(descriptor)) as found:
+            return found.family == socket.AF_UNIX and found.type == socket.SOCK_SEQPACKET
+    except OSError:
+        return False
+
+
+def _from_broker(broker: int) -> socket.socket:
+    """Asks by one end of a pair, and receives the connection at the other end: threads and processes that share the
+    broker's descriptor don't get one another's."""
+    wait = Deadline(_BROKER_PATIENCE)
+    own, sent = socket.socketpair(socket.AF_UNIX, socket.SOCK_SEQPACKET)
+    with own:
+        with sent:
+            _ask(broker, sent, wait)
+        own.settimeout(wait.left())
+        given, byte = _receive(own)
+    if given:
+        return socket.socket(fileno=given[0])
+    if byte in (0, _LATER):
+        raise ConnectionError("machrun has no connection to the server now")
+    raise refusal(byte)
+
+
+def _ask(broker: int, sent: socket.socket, wait: Deadline) -> None:
+    """Sends an end of the pair. Where others have filled the queue, there is room in a moment."""
+    rights = [(socket.SOL_SOCKET, socket.SCM_RIGHTS, array.array("i", [sent.fileno()]))]
+    with socket.socket(fileno=os.dup(broker)) as asked:
+        while True:
+            try:
+                asked.sendmsg([b"\0"], rights, socket.MSG_DONTWAIT | socket.MSG_NOSIGNAL)
+                return
+            except OSError as fault:
+                if fault.errno not in _PASSING or not wait.pause():
+                    raise
+
+
+def _receive(own: socket.socket) -> Tuple[array.array[int], int]:
+    """Returns the descriptors that came, and the byte; an end without a byte counts as 0."""
+    text, ancillary, _, _ = own.recvmsg(1, socket.CMSG_LEN(4), socket.MSG_CMSG_CLOEXEC)
+    given = array.array("i")
+    for _, _, data in ancillary:
+        given.frombytes(data)
+    return given, text[0] if text else 0

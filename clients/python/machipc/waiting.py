@@ -1,0 +1,41 @@
+"""Time that runs out, and pauses within it."""
+
+from __future__ import annotations
+
+import time
+from typing import Optional
+
+_FIRST_PAUSE, _LONGEST_PAUSE = 0.001, 0.05
+
+
+class Deadline:
+    """A time so many seconds from now; None is never over."""
+
+    def __init__(self, seconds: Optional[float]) -> None:
+        self.end = None if seconds is None else time.monotonic() + seconds
+        self._pause = _FIRST_PAUSE
+
+    def left(self) -> Optional[float]:
+        return None if self.end is None else max(0.0, self.end - time.monotonic())
+
+    def next_pause(self) -> Optional[float]:
+        """Returns the seconds of the next pause, each longer than the one before, or None if no time is left."""
+        left = self.left()
+        if left == 0:
+            return None
+        pause = self._pause if left is None else min(self._pause, left)
+        self._pause = min(2 * self._pause, _LONGEST_PAUSE)
+        return pause
+
+    def pause(self) -> bool:
+        """Sleeps, and returns False if no time was left."""
+        pause = self.next_pause()
+        if pause is None:
+            return False
+        time.sleep(pause)
+        return True
+
+
+def milliseconds(seconds: Optional[float]) -> int:
+    """Returns a timeout as `mach_msg` has it: whole milliseconds, rounded up."""
+    return 0 if seconds is None else min(max(0, int(seconds * 1000 + 0.999)), 0xFFFFFFFE)

@@ -1,0 +1,201 @@
+//! What all clones of a task share: the way to the server, connections that are idle, and numbered calls.
+
+use std::sync::atomic::{AtomicU64, Ordering};
+use std::sync::{Mutex, MutexGuard, PoisonError};
+use std::time::Duration;
+
+use crate::connection::{Connection, Route};
+use crate::deadline::Deadline;
+use crate::wire::{self, Answer, Call};
+use crate::{Error, Name, Result};
+
+/// Connections beyond so many are closed when their calls are over.
+const MOST_IDLE: usize = 16;
+
+#[derive(Debug)]
+pub(crate) struct Shared {
+    pub(crate) route: Route,
+    pub(crate) space: u32,
+    pub(crate) bootstrap: Name,
+    pub(crate) start: u32,
+    pub(crate) patience: Option<Duration>,
+    pub(crate) repeats: AtomicU64,
+    /// The number that the space used last, if calls are numbered. The lock is held until a call is answered, since a
+    /// space keeps only its last request.
+    pub(crate) last_request: Option<Mutex<u32>>,
+    pub(crate) idle: Mutex<Idle>,
+}
+
+#[derive(Debug)]
+pub(crate) struct Idle {
+    connections: Vec<Connection>,
+    is_confined: bool,
+    /// Grows when connections become useless: those in use aren't kept after their calls then.
+    generation: u64,
+}
+
+impl Idle {
+    pub(crate) fn new(is_confined: bool) -> Mutex<Idle> {
+        Mutex::new(Idle { connections: Vec::new(), is_confined, generation: 0 })
+    }
+}
+
+/// A connection that is taken for one call, and the generation that it is of.
+#[derive(Debug)]
+pub(crate) struct Taken {
+    pub(crate) connection: Connection,
+    generation: u64,
+}
+
+pub(crate) fn lock<T>(mutex: &Mutex<T>) -> MutexGuard<'_, T> {
+    mutex.lock().unwrap_or_else(PoisonError::into_inner)
+}
+
+impl Shared {
+    // Connections.
+
+    pub(crate) fn is_confined(&self) -> bool {
+        lock(&self.idle).is_confined
+    }
+
+    /// An idle connection, or a new one.
+    pub(crate) fn take(&self) -> Result<Taken> {
+        let (found, is_confined, generation) = {
+            let mut idle = lock(&self.idle);
+            (idle.connections.pop(), idle.is_confined, idle.generation)
+        };
+        let connection = found.map_or_else(|| self.route.open(self.space, is_confined), Ok)?;
+        Ok(Taken { connection, generation })
+    }
+
+    /// Keeps a connection for the next call.
+    pub(crate) fn put_back(&self, taken: Taken) {
+        let mut idle = lock(&self.idle);
+        if taken.generation == idle.generation && idle.connections.len() < MOST_IDLE {
+            idle.connections.push(taken.connection);
+        }
+    }
+
+    /// Closes all connections: one was cut, so the others are too, or they aren't confined yet.
+    pub(crate) fn renew(&self, is_confined: bool) {
+        let mut idle = lock(&self.idle);
+        idle.connections.clear();
+        idle.generation += 1;
+        idle.is_confined |= is_confined;
+    }
+
+    /// Makes a call, once.
+    pub(crate) fn exchange(&self, call: &Call) -> Result<Answer> {
+        let mut taken = self.take()?;
+        match taken.connection.exchange(call) {
+            Ok(answer) => {
+                self.put_back(taken);
+                Ok(answer)
+            }
+            Err(fault) => {
+                self.renew(false);
+                Err(fault)
+            }
+        }
+    }
+
+    /// Makes a call that may be made again, as long as the patience lasts.
+    pub(crate) fn exchange_repeated(&self, call: &Call) -> Result<Answer> {
+        let mut patience = Deadline::after(self.patience);
+        let mut is_again = false;
+        loop {
+            let made = self.exchange(call);
+            match made {
+                Err(fault) if fault.is_cut() => {
+                    if !patience.pause() {
+                        return Err(fault);
+                    }
+                }
+                made => {
+                    self.count_repeat(is_again);
+                    return made;
+                }
+            }
+            is_again = true;
+        }
+    }
+
+    pub(crate) fn count_repeat(&self, is_again: bool) {
+        self.repeats.fetch_add(is_again.into(), Ordering::Relaxed);
+    }
+
+    // Numbered calls.
+
+    /// Makes a call as the task's mode wants it.
+    pub(crate) fn make(&self, call: &Call) -> Result<Answer> {
+        match &self.last_request {
+            None => self.exchange(call),
+            Some(last) if call.may_be_numbered() => self.make_numbered(last, call),
+            Some(_) => self.exchange_repeated(call),
+        }
+    }
+
+    /// Makes a call under a request's number, which the server answers in the same way if it is asked again.
+    fn ask(&self, request: u32, call: &Call) -> Result<Answer> {
+        let results = self.exchange_repeated(&call.numbered(request))?.ok()?;
+        Answer::of_numbered(call, request, results)
+    }
+
+    /// Returns true if a request of this number would be a new one. It asks to destroy name 0: a new request is refused
+    /// with `KERN_INVALID_NAME` and keeps no number, and no request that was done has that answer.
+    fn is_new(&self, request: u32) -> Result<bool> {
+        match self.ask(request, &Call::new(wire::DESTROY, &[0])) {
+            Ok(answer) => Ok(answer.code == Error::KernInvalidName.code()),
+            Err(Error::KernInvalidValue | Error::KernInvalidArgument) => Ok(false),
+            Err(other) => Err(other),
+        }
+    }
+
+    /// Finds the number that the space used last. `KernInvalidArgument`: the server has no numbered requests, or the
+    /// space has used all numbers.
+    fn find_last_request(&self) -> Result<u32> {
+        if !self.is_new(u32::MAX)? {
+            return Err(Error::KernInvalidArgument);
+        }
+        let (mut used, mut unused) = (0, u32::MAX);
+        while unused - used > 1 {
+            let middle = used + (unused - used) / 2;
+            if self.is_new(middle)? {
+                unused = middle;
+            } else {
+                used = middle;
+            }
+        }
+        if used == u32::MAX - 1 {
+            return Err(Error::KernInvalidArgument);
+        }
+        Ok(used)
+    }
+
+    /// The number from which a task counts on. The next one is left to a request that a program before this one may have
+    /// on its way to the server yet.
+    pub(crate) fn first_number(&self) -> Result<u32> {
+        Ok(self.find_last_request()? + 1)
+    }
+
+    fn make_numbered(&self, last: &Mutex<u32>, call: &Call) -> Result<Answer> {
+        let mut last = lock(last);
+        let request = last.checked_add(1).ok_or(Error::KernResourceShortage)?;
+        *last = request;
+        match self.ask(request, call) {
+            Err(Error::KernInvalidValue | Error::KernInvalidArgument) => {
+                // Another program numbers its calls in this space. Its requests hide whether this one was made.
+                *last = self.first_number()?;
+                Err(Error::MachRcvInterrupted(std::io::ErrorKind::AlreadyExists))
+            }
+            Ok(answer) => {
+                // A wait for room or for a message is refused often. Such a refusal keeps no number.
+                if Error::from_code(answer.code).is_timeout() {
+                    *last = request - 1;
+                }
+                Ok(answer)
+            }
+            Err(other) => Err(other),
+        }
+    }
+}
