@@ -1,4 +1,4 @@
-.PHONY: demo test quick bin bench load mutants gate-cost stress shortage clients examples install uninstall deb package-test
+.PHONY: demo test quick bin bench load mutants gate-cost stress shortage power failing soak clients examples install uninstall deb package-test
 
 # The main job on a new folder, with its bytes explained. It proves nothing: the program runs checked, and where bin/ has
 # the proved one, that.
@@ -35,7 +35,7 @@ bench:
 # with Redis, where that is installed, and nothing else is; ROUNDS=N sets how often (3). docs/draw-load draws that table.
 load:
 	@[ -z "$(REDIS)" ] || demo/load-redis --check
-	.ci/bin machipcd load_client
+	.ci/bin machipcd
 	@demo/load
 	@[ -n "$(REDIS)" ] || demo/waiting
 
@@ -50,6 +50,20 @@ stress: bin
 # programs first, and wants a C compiler.
 shortage: bin
 	@stress/shortage
+
+# Losses of power below servers under load, at 1,000 moments on each file system that the kernel has: an hour. SHORT=1 takes two
+# minutes. As root on Linux; it proves the programs first, and wants a C compiler.
+power: bin
+	@stress/power $(if $(SHORT),--short)
+
+# Disks that fail, hang, fill up and can't be written to. It proves the programs first, and wants a C compiler, and root for all
+# of it.
+failing: bin
+	@stress/failing $(if $(SHORT),--short)
+
+# Servers under load for so many HOURS (1), which are killed and lose power. It proves the programs first.
+soak: bin
+	@stress/soak $(or $(HOURS),1)
 
 # The tests of the clients in C and Python, against the server in bin/, or against a stand-in where there is none.
 clients:
