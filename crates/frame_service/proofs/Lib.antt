@@ -4,6 +4,7 @@ mod Boxes
 mod Ended
 mod Going
 pub mod Keeping
+mod Lives
 mod Sent
 mod Steps
 mod Turns

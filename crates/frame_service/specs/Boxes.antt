@@ -5,7 +5,7 @@ use Rattle.std.specs.Io.KnownBytes.{Appends, Consumes, Keeps, append_known, prep
 use Rattle.frame_service.specs.declared.inbox.Filled.{Filled}
 use Rattle.frame_service.specs.declared.inbox.Filled.TheVariants as filled
 use Rattle.frame_service.specs.declared.inbox.Source.{Source}
-use Rattle.frame_service.specs.declared.inbox.Source.TheVariants.{Open, Ended, Failed}
+use Rattle.frame_service.specs.declared.inbox.Source.TheVariants.{Open}
 use Rattle.frame_service.specs.contracts.inbox.Source as source
 
 -- the stream, the bytes that came from it and aren't read, and what it still has

@@ -1,6 +1,6 @@
 -- What a conversation is between two of its steps: one connection, as far as it goes without waiting, whoever takes the
 -- steps.
-use Rattle.std.specs.Prelude.{◌≡◌, ℕ, Bool, true, false, List, [], ◌∷◌, Option, None, Some, Result, Ok, Err, option_map}
+use Rattle.std.specs.Prelude.{◌≡◌, ℕ, Bool, true, false, List, [], ◌∷◌, Option, None, Some, Result, Ok, Err, MatchOption, option_map}
 use Rattle.std.specs.Io.KnownBytes.{Appends, Keeps}
 use Rattle.calls.specs.declared.request.Request.{Request}
 use Rattle.ipc_model.specs.declared.reply.Reply.{Reply}
@@ -33,30 +33,32 @@ abbrev pub fault_of : Result (Unit {0}) WireFault → Result (Unit {0}) ServeFau
 fault_of (Ok done) = Ok done
 fault_of (Err fault) = Err (Wire fault)
 
--- how a conversation with these frames in hand, whose input ended so if it did, has ended
-abbrev pub over_of : {T : Type 0} → List (PendingFrame T) → Option (Result (Unit {0}) WireFault)
+-- how a conversation has ended: by a step's fault; or with no frame in hand, once its input ended so
+abbrev pub over_of : {T : Type 0} → Option ServeFault → List (PendingFrame T) → Option (Result (Unit {0}) WireFault)
     → Option (Result (Unit {0}) ServeFault)
-over_of [] input_end = option_map fault_of input_end
-over_of (pending ∷ all_pending) input_end = None
+over_of (Some fault) all_pending input_end = Some (Err fault)
+over_of None [] input_end = option_map fault_of input_end
+over_of None (pending ∷ all_pending) input_end = None
 
--- the bound of the call that the first frame in hand waits for, if it waits
-abbrev pub waits_of : {T : Type 0} → List (PendingFrame T) → Option (Option ℕ)
-waits_of (Waits message ∷ all_pending) = Some (bound_of message)
-waits_of all_pending = None
+-- the bound of the call that the first frame in hand waits for, if no step failed and it waits
+abbrev pub waits_of : {T : Type 0} → Option ServeFault → List (PendingFrame T) → Option (Option ℕ)
+waits_of None (Waits message ∷ all_pending) = Some (bound_of message)
+waits_of fault all_pending = None
 
--- the ticket of the first frame in hand, if it waits only to be answered
-abbrev pub awaited_of : {T : Type 0} → List (PendingFrame T) → Option T
-awaited_of (Settled (Made ticket) ∷ all_pending) = Some ticket
-awaited_of all_pending = None
+-- the ticket of the first frame in hand, if no step failed and it waits only to be answered
+abbrev pub awaited_of : {T : Type 0} → Option ServeFault → List (PendingFrame T) → Option T
+awaited_of None (Settled (Made ticket) ∷ all_pending) = Some ticket
+awaited_of fault all_pending = None
 
--- whether there is a frame to be taken, or the end of the input, and nothing in hand
+-- whether no step failed, there is a frame to be taken, or the end of the input, and nothing is in hand
 abbrev pub is_next : Source → List ℕ → Bool
 is_next Open bytes = holds_frame bytes
 is_next source bytes = true
 
-abbrev pub has_next : {S T : Type 0} → List (PendingFrame T) → Option (Result (Unit {0}) WireFault) → InboxValue S → Bool
-has_next [] None inbox = is_next inbox.source inbox.bytes
-has_next all_pending input_end inbox = false
+abbrev pub has_next : {S T : Type 0} → Option ServeFault → List (PendingFrame T) → Option (Result (Unit {0}) WireFault)
+    → InboxValue S → Bool
+has_next None [] None inbox = is_next inbox.source inbox.bytes
+has_next fault all_pending input_end inbox = false
 
 module _ {C T : Type 0} (answer : T → Reply) (makes : C → Request → T → C → Type 0) (lacks : C → Request → C → Type 0) where
   -- a frame in hand was tried again, if it waited
@@ -87,19 +89,36 @@ module _ {S W C T Turn Known Latest : Type 0} (remaining : S → Option (List �
       GoesOn answer makes lacks acknowledges fails looks start input before c.asker c.pending.frames.items c.input_end
       (inbox_remaining remaining c.inbox) (outbox_contents contents c.outbox)
 
+  -- It began so, and has ended like this.
+  abbrev pub Ended : C → List ℕ → List ℕ → Conversation S W C T Turn Known Latest → Result (Unit {0}) ServeFault → Type 0
+  Ended start input before c how =
+      EndsAsked answer makes lacks acknowledges fails looks start input before c.asker
+      (inbox_remaining remaining c.inbox) (outbox_contents contents c.outbox) how
+
+  -- The whole life of one that began so: it has come so far; or a step failed, and it has ended with that fault.
+  abbrev pub Lives : C → List ℕ → List ℕ → Conversation S W C T Turn Known Latest → Type 0
+  Lives start input before c =
+      MatchOption c.fault (Goes start input before c) (λ fault. Ended start input before c (Err fault))
+
   -- It begins with this caller, with whatever input comes and whatever was written before.
-  abbrev pub Begins : C → InboxValue S → OutboxValue W → Conversation S W C T Turn Known Latest → Type 0
-  Begins start inbox outbox c =
-      (input before : List ℕ) → inbox_remaining remaining inbox ≡ Some input
-      → outbox_contents contents outbox ≡ Some before → Goes start input before c
+  pub record Begins (start : C) (inbox : InboxValue S) (outbox : OutboxValue W)
+      (c : Conversation S W C T Turn Known Latest) : Type 0 where
+    pub none_failed : c.fault ≡ None
+    pub goes : (input before : List ℕ) → inbox_remaining remaining inbox ≡ Some input
+        → outbox_contents contents outbox ≡ Some before → Goes start input before c
+
+  -- Whatever its life was, this is still its life afterwards.
+  abbrev pub Kept : (old new : Conversation S W C T Turn Known Latest) → Type 0
+  Kept old new = (start : C) (input before : List ℕ) → Lives start input before old → Lives start input before new
 
   -- However it began and came so far, it has come so far afterwards.
-  abbrev pub Kept : (old new : Conversation S W C T Turn Known Latest) → Type 0
-  Kept old new = (start : C) (input before : List ℕ) → Goes start input before old → Goes start input before new
+  abbrev pub Continues : (old new : Conversation S W C T Turn Known Latest) → Type 0
+  Continues old new = (start : C) (input before : List ℕ) → Goes start input before old → Goes start input before new
 
   -- However it began and came so far, it ends like this.
   abbrev pub Stops : (old new : Conversation S W C T Turn Known Latest) → Result (Unit {0}) ServeFault → Type 0
-  Stops old new result =
-      (start : C) (input before : List ℕ) → Goes start input before old
-      → EndsAsked answer makes lacks acknowledges fails looks start input before new.asker
-      (inbox_remaining remaining new.inbox) (outbox_contents contents new.outbox) result
+  Stops old new how = (start : C) (input before : List ℕ) → Goes start input before old → Ended start input before new how
+
+  -- Whatever its life was, it has ended like this.
+  abbrev pub HasEnded : Conversation S W C T Turn Known Latest → Result (Unit {0}) ServeFault → Type 0
+  HasEnded c how = (start : C) (input before : List ℕ) → Lives start input before c → Ended start input before c how

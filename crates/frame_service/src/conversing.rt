@@ -1,11 +1,11 @@
 //! One connection, as far as it goes without waiting.
-ghost use Rattle.std.specs.Prelude.{◌≡◌, ◌≤◌, [], None, Err, IfErr, IfOk, IfSome, OnOk, length, option_map};
+ghost use Rattle.std.specs.Prelude.{◌≡◌, ◌≤◌, [], None, Some, Err, IfErr, IfOk, IfSome, OnOk, length, option_map};
 ghost use Rattle.std.specs.VecDeque.{deque_len};
 ghost use Rattle.codes.specs.declared.limits.TheConstants.{MAX_FRAME_CONTENT};
 ghost use Rattle.ipc_model.specs.encodings.Encodings.{reply_encoding};
 ghost use Rattle.frame_service.specs.Boxes.{inbox_remaining, outbox_contents};
 ghost use Rattle.frame_service.specs.Asking.{IsGiven, IsUngiven, bound_of};
-ghost use Rattle.frame_service.specs.Conversing.{Begins, IsRetried, Kept, Stops, Tells, awaited_of, end_of, has_next, over_of, waits_of};
+ghost use Rattle.frame_service.specs.Conversing.{Begins, Continues, HasEnded, IsRetried, Kept, Stops, Tells, awaited_of, end_of, has_next, over_of, waits_of};
 
 use crate::ahead::holds_frame;
 use crate::asking::{Asker, PendingFrame, Ready};
@@ -61,6 +61,7 @@ impl<S: Read, W: Write, A: Asker> Conversation<S, W, A> {
             asker,
             pending: PendingFrames { frames },
             input_end: None,
+            fault: None,
         })
     }
 
@@ -69,8 +70,12 @@ impl<S: Read, W: Write, A: Asker> Conversation<S, W, A> {
         ensures keeps { Kept S.remaining W.contents A.answer A.makes A.lacks A.acknowledges A.fails A.looks self.old
             self.new }
         ensures asker { self.new.asker ≡ self.old.asker }
+        ensures ended { IfSome self.old.fault (λ fault. (self.new ≡ self.old) × (result ≡ Filled.Over)) }
     {
-        self.inbox.fill()
+        match self.fault {
+            Some(_) => Filled::Over,
+            None => self.inbox.fill(),
+        }
     }
 
     /// Takes the frames that are there in hand, unless some are in hand already, and makes their calls as far as they
@@ -78,7 +83,11 @@ impl<S: Read, W: Write, A: Asker> Conversation<S, W, A> {
     pub fn take(&mut self, alloc: Global, turn: A::Turn) -> Option<A::Turn>
         ensures keeps { Kept S.remaining W.contents A.answer A.makes A.lacks A.acknowledges A.fails A.looks self.old
             self.new }
+        ensures ended { IfSome self.old.fault (λ fault. self.new ≡ self.old) }
     {
+        if self.fault.is_some() {
+            return Some(turn);
+        }
         self.asker.join_turn(turn);
         if self.pending.frames.is_empty() && self.input_end.is_none() {
             self.take_all(alloc);
@@ -90,8 +99,9 @@ impl<S: Read, W: Write, A: Asker> Conversation<S, W, A> {
     fn take_all(&mut self, alloc: Global)
         requires none { (self.old.pending.frames.items ≡ []) × (deque_len self.old.pending.frames ≡ 0) }
         requires more { self.old.input_end ≡ None }
-        ensures keeps { Kept S.remaining W.contents A.answer A.makes A.lacks A.acknowledges A.fails A.looks self.old
+        ensures keeps { Continues S.remaining W.contents A.answer A.makes A.lacks A.acknowledges A.fails A.looks self.old
             self.new }
+        ensures fault { self.new.fault ≡ self.old.fault }
     {
         let taken = take_frames(
             alloc,
@@ -112,15 +122,20 @@ impl<S: Read, W: Write, A: Asker> Conversation<S, W, A> {
     ) -> (Option<A::Turn>, Tried)
         ensures keeps { Kept S.remaining W.contents A.answer A.makes A.lacks A.acknowledges A.fails A.looks self.old
             self.new }
+        ensures ended { IfSome self.old.fault (λ fault. (self.new ≡ self.old) × (result.1 ≡ Tried.Settled)) }
     {
+        if self.fault.is_some() {
+            return (Some(turn), Tried::Settled);
+        }
         self.asker.join_turn(turn);
         let tried = self.try_first(alloc, may_wait);
         (self.asker.leave_turn(), tried)
     }
 
     fn try_first(&mut self, alloc: Global, may_wait: bool) -> Tried
-        ensures keeps { Kept S.remaining W.contents A.answer A.makes A.lacks A.acknowledges A.fails A.looks self.old
+        ensures keeps { Continues S.remaining W.contents A.answer A.makes A.lacks A.acknowledges A.fails A.looks self.old
             self.new }
+        ensures fault { self.new.fault ≡ self.old.fault }
     {
         let Some(pending) = self.pending.frames.pop_front() else {
             return Tried::Settled;
@@ -134,9 +149,12 @@ impl<S: Read, W: Write, A: Asker> Conversation<S, W, A> {
     pub fn look(&mut self, latest: &mut A::Latest)
         ensures keeps { Kept S.remaining W.contents A.answer A.makes A.lacks A.acknowledges A.fails A.looks self.old
             self.new }
-        ensures looks { A.looks self.old.asker self.new.asker }
+        ensures looks { self.old.fault ≡ None → A.looks self.old.asker self.new.asker }
+        ensures ended { IfSome self.old.fault (λ fault. self.new ≡ self.old) }
     {
-        self.asker.look(latest);
+        if self.fault.is_none() {
+            self.asker.look(latest);
+        }
     }
 
     /// Answers the frames in hand whose replies can be had without a wait by this report, in order. `reply` is where
@@ -144,11 +162,33 @@ impl<S: Read, W: Write, A: Asker> Conversation<S, W, A> {
     pub fn answer(&mut self, reply: &mut Frame, known: &mut A::Known) -> Result<(), ServeFault>
         requires { MAX_FRAME_CONTENT ≤ reply.old.room }
         ensures room { reply.old.room ≤ reply.new.room }
+        ensures keeps { Kept S.remaining W.contents A.answer A.makes A.lacks A.acknowledges A.fails A.looks self.old
+            self.new }
+        ensures fault { IfErr result (λ fault. self.new.fault ≡ Some fault) }
+        ensures ended { IfSome self.old.fault (λ fault. (self.new ≡ self.old) × (result ≡ Err fault)) }
+    {
+        if let Some(fault) = self.fault {
+            return Err(fault);
+        }
+        match self.answer_all(reply, known) {
+            Ok(()) => Ok(()),
+            Err(fault) => {
+                self.fault = Some(fault);
+                Err(fault)
+            }
+        }
+    }
+
+    /// Answers them.
+    fn answer_all(&mut self, reply: &mut Frame, known: &mut A::Known) -> Result<(), ServeFault>
+        requires { MAX_FRAME_CONTENT ≤ reply.old.room }
+        ensures room { reply.old.room ≤ reply.new.room }
         ensures keeps { OnOk result
-            (Kept S.remaining W.contents A.answer A.makes A.lacks A.acknowledges A.fails A.looks self.old self.new) }
+            (Continues S.remaining W.contents A.answer A.makes A.lacks A.acknowledges A.fails A.looks self.old self.new) }
         ensures ends { IfErr result (λ fault.
             Stops S.remaining W.contents A.answer A.makes A.lacks A.acknowledges A.fails A.looks self.old self.new
             (Err fault)) }
+        ensures fault { self.new.fault ≡ self.old.fault }
     {
         for _ in 0..MOST_PENDING_FRAMES {
             match self.answer_first(reply, known) {
@@ -165,10 +205,11 @@ impl<S: Read, W: Write, A: Asker> Conversation<S, W, A> {
         requires { MAX_FRAME_CONTENT ≤ reply.old.room }
         ensures room { reply.old.room ≤ reply.new.room }
         ensures keeps { OnOk result
-            (Kept S.remaining W.contents A.answer A.makes A.lacks A.acknowledges A.fails A.looks self.old self.new) }
+            (Continues S.remaining W.contents A.answer A.makes A.lacks A.acknowledges A.fails A.looks self.old self.new) }
         ensures ends { IfErr result (λ fault.
             Stops S.remaining W.contents A.answer A.makes A.lacks A.acknowledges A.fails A.looks self.old self.new
             (Err fault)) }
+        ensures fault { self.new.fault ≡ self.old.fault }
     {
         if !self.is_due(known) {
             return Ok(false);
@@ -197,28 +238,35 @@ impl<S: Read, W: Write, A: Asker> Conversation<S, W, A> {
         }
     }
 
-    /// Gives what was written to whom it is for, as much as is taken now.
+    /// Flushes buffered output. Bytes that the peer doesn't accept stay buffered.
     pub fn flush(&mut self) -> Result<(), ServeFault>
-        ensures keeps { OnOk result
-            (Kept S.remaining W.contents A.answer A.makes A.lacks A.acknowledges A.fails A.looks self.old self.new) }
-        ensures ends { IfErr result (λ fault.
-            Stops S.remaining W.contents A.answer A.makes A.lacks A.acknowledges A.fails A.looks self.old self.new
-            (Err fault)) }
+        ensures keeps { Kept S.remaining W.contents A.answer A.makes A.lacks A.acknowledges A.fails A.looks self.old
+            self.new }
         ensures asker { self.new.asker ≡ self.old.asker }
+        ensures fault { IfErr result (λ fault. self.new.fault ≡ Some fault) }
+        ensures ended { IfSome self.old.fault (λ fault. (self.new ≡ self.old) × (result ≡ Err fault)) }
     {
+        if let Some(fault) = self.fault {
+            return Err(fault);
+        }
         if self.outbox.flush().is_err() {
-            return Err(ServeFault::Wire(WireFault::Device));
+            let fault = ServeFault::Wire(WireFault::Device);
+            self.fault = Some(fault);
+            return Err(fault);
         }
         Ok(())
     }
 
-    /// How the conversation has ended, if the input is over and nothing is in hand.
+    /// Returns how the conversation has ended: a step failed, or the input is over and nothing is in hand. `None`: it
+    /// hasn't ended.
     pub fn ended(&self) -> Option<Result<(), ServeFault>>
-        ensures value { result ≡ over_of self.now.pending.frames.items self.now.input_end }
+        ensures value { result ≡ over_of self.now.fault self.now.pending.frames.items self.now.input_end }
         ensures ends { IfSome result (λ how.
-            Stops S.remaining W.contents A.answer A.makes A.lacks A.acknowledges A.fails A.looks self.now self.now
-            how) }
+            HasEnded S.remaining W.contents A.answer A.makes A.lacks A.acknowledges A.fails A.looks self.now how) }
     {
+        if let Some(fault) = self.fault {
+            return Some(Err(fault));
+        }
         if !self.pending.frames.is_empty() {
             return None;
         }
@@ -236,24 +284,27 @@ impl<S: Read, W: Write, A: Asker> Conversation<S, W, A> {
         &self.asker
     }
 
-    /// How many bytes that are written haven't been taken by whom they are for.
+    /// Returns the number of output bytes that the peer hasn't accepted.
     pub fn unsent(&self) -> usize
         ensures { result ≡ length self.now.outbox.bytes }
     {
         self.outbox.len()
     }
 
-    /// How many bytes of the input came whose frames weren't taken.
+    /// Returns the number of input bytes that came and whose frames weren't taken.
     pub fn ahead(&self) -> usize
         ensures { result ≡ length self.now.inbox.bytes }
     {
         self.inbox.unread().len()
     }
 
-    /// Whether there is a frame to be taken, or the end of the input, and nothing in hand.
+    /// Returns true if there is a frame to be taken, or the end of the input, and nothing in hand.
     pub fn has_next(&self) -> bool
-        ensures { result ≡ has_next self.now.pending.frames.items self.now.input_end self.now.inbox }
+        ensures { result ≡ has_next self.now.fault self.now.pending.frames.items self.now.input_end self.now.inbox }
     {
+        if self.fault.is_some() {
+            return false;
+        }
         if !self.pending.frames.is_empty() || self.input_end.is_some() {
             return false;
         }
@@ -263,20 +314,26 @@ impl<S: Read, W: Write, A: Asker> Conversation<S, W, A> {
         }
     }
 
-    /// The ticket of the first frame in hand, if it waits only to be answered.
+    /// Returns the ticket of the first frame in hand, if it waits only to be answered.
     pub fn awaited(&self) -> Option<&A::Ticket>
-        ensures { option_map (λ ticket. ticket.now) result ≡ awaited_of self.now.pending.frames.items }
+        ensures { option_map (λ ticket. ticket.now) result ≡ awaited_of self.now.fault self.now.pending.frames.items }
     {
+        if self.fault.is_some() {
+            return None;
+        }
         match self.pending.frames.front() {
             Some(PendingFrame::Settled(Ready::Made(ticket))) => Some(ticket),
             _ => None,
         }
     }
 
-    /// The bound of the call that the first frame in hand waits for, if it waits.
+    /// Returns the bound of the call that the first frame in hand waits for, if it waits.
     pub fn waits(&self) -> Option<Option<u32>>
-        ensures { result ≡ waits_of self.now.pending.frames.items }
+        ensures { result ≡ waits_of self.now.fault self.now.pending.frames.items }
     {
+        if self.fault.is_some() {
+            return None;
+        }
         match self.pending.frames.front() {
             Some(PendingFrame::Waits(message)) => Some(bound_of(message)),
             _ => None,

@@ -1,13 +1,13 @@
 -- What notes of cells show. f gives a note's cell, and g what it knows.
 use Rattle.std.proofs.Common.{◌≡◌, ℕ, ◌+◌, ◌-◌, ◌<◌, ◌≤◌, Option, Some, None, List, [], ◌∷◌, ◌++◌, length, map, take, drop, slice_get, is_some, true, IfSome, refl, ap, sym, ◌∙◌, subst, arith, inl, inr, length-append}
 use Rattle.std.specs.Option.{option_map}
-use Rattle.std.proofs.lemmas.List.{map-append, length-map, length-take, length-drop, drop-append-le, take-append-le, take-take, take-map, take-append-drop}
+use Rattle.std.proofs.lemmas.List.{map-append, length-map, length-take, take-take, take-map, take-append-drop}
 use Rattle.std.proofs.lemmas.Option.{slice_get-map, slice_get_within, slice_get_cases}
 use Rattle.history.specs.Entries.{numbers_of, PlacedValue, place_after, placed, Begins}
 use Rattle.history.specs.Blocks.{BlockNames, LinkValue, PlaceValue, names_after, IsBlockAt, Leads}
 use Rattle.history.specs.Blocks as blocks
 use Rattle.history.specs.Pasts.{known_entries, AreKnown, AreNotes, IsPast}
-use Rattle.history.proofs.Places.{slice_get-take, slice_get-drop, take_next, drop_map, take_within}
+use Rattle.history.proofs.Places.{slice_get-take, slice_get-drop, take_next, drop_map}
 use Rattle.history.proofs.Placed.{begins_at, length-placed_from, placed-append, placed-take, placed_from_at}
 use Rattle.history.proofs.Links.{compared, names_after-append}
 use Rattle.history.proofs.Leading.{take_front, leads_more, leads_next, leads_at, leads_cell}
@@ -72,33 +72,6 @@ notes_more cells noted known name p are at before =
           (λ es. map Some (placed es)) (sym (known_more known p)))));
     }
 
--- no more was read of an entry block than is known of it
-pub read_within : (first : BlockNames) (place : PlaceValue) (noted : List ℕ) (known : List (Option PlacedValue))
-    (seen : List PlacedValue) → IsPast first place noted known seen
-    → length seen ≤ length (known_entries known) - place.start
-read_within first place noted known seen is =
-    let lie = placed (known_entries known) in
-    omega (
-      arith,
-      ap length is.read,
-      length-take (length seen) (drop place.start lie),
-      length-drop place.start lie,
-      length-placed_from [] (known_entries known),
-    )
-
--- what was read at a place of the block is the entry there
-pub read_at : (first : BlockNames) (place : PlaceValue) (noted : List ℕ) (known : List (Option PlacedValue))
-    (seen : List PlacedValue) (i : ℕ) (p : PlacedValue) → IsPast first place noted known seen
-    → slice_get seen i ≡ Some p → slice_get (known_entries known) (place.start + i) ≡ Some p.entry
-read_at first place noted known seen i p is at =
-    let entries = known_entries known in
-    let lie = placed entries in
-    let here : slice_get lie (place.start + i) ≡ Some p =
-    sym (slice_get-drop place.start i lie)
-    ∙ (sym (slice_get-take (length seen) i (drop place.start lie) (slice_get_within seen i p at))
-    ∙ (sym (ap (λ (l : List PlacedValue). slice_get l i) is.read) ∙ at)) in
-    (placed_from_at [] entries (place.start + i) p here).0
-
 -- a place of the block, among those of all blocks
 pub block_cell : (first block : BlockNames) (links : List LinkValue) (start at : ℕ) → IsBlockAt first links start block
     → start ≤ at → slice_get block.cells (at - start) ≡ slice_get (names_after first links).cells at
@@ -117,37 +90,24 @@ module _ {X : Type 0} (f : X → ℕ) (g : X → Option PlacedValue) where
 
   -- one more entry
   pub past_more : (first : BlockNames) (place : PlaceValue) (old new : List X) (x : X) (p : PlacedValue)
-      (seen : List PlacedValue) → IsPast first place (map f old) (map g old) seen → new ≡ old ++ x ∷ []
+      → IsPast first place (map f old) (map g old) → new ≡ old ++ x ∷ []
       → slice_get (names_after first place.links).cells (length old) ≡ Some (f x) → g x ≡ Some p
-      → p.before ≡ numbers_of (known_entries (map g old)) → IsPast first place (map f new) (map g new) seen
-  past_more first place old new x p seen is more at knows before =
+      → p.before ≡ numbers_of (known_entries (map g old)) → IsPast first place (map f new) (map g new)
+  past_more first place old new x p is more at knows before =
       let cells = (names_after first place.links).cells in
-      let entries = known_entries (map g old) in
-      let lie = placed entries in
       let noted : map f new ≡ map f old ++ f x ∷ [] = ap (map f) more ∙ map-append f old (x ∷ []) in
       let known : map g new ≡ map g old ++ Some p ∷ [] =
       ap (map g) more ∙ (map-append g old (x ∷ []) ∙ ap (λ (k : Option PlacedValue). map g old ++ k ∷ []) knows) in
       let long : length (map f old) ≡ length old = length-map old f in
       let grown = notes_more cells (map f old) (map g old) (f x) p is.notes (ap (slice_get cells) long ∙ at) before in
-      let all : known_entries (map g new) ≡ entries ++ p.entry ∷ [] =
-      ap known_entries known ∙ known_more (map g old) p in
       let longer : length (map f new) ≡ length (map f old) + 1 =
       ap length noted ∙ length-append (map f old) (f x ∷ []) in
-      let whole : length lie ≡ length old =
-      length-placed_from [] entries ∙ (known_long (map g old) is.notes.entries ∙ length-map old g) in
-      let begun : place.start ≤ length lie = omega (arith, is.begun) in
-      let fits : length seen ≤ length (drop place.start lie) =
-      omega (arith, ap length is.read, length-take (length seen) (drop place.start lie)) in
       record {
         notes =
             subst (λ (l : List ℕ). AreNotes cells l (map g new)) (sym noted)
             (subst (λ (l : List (Option PlacedValue)). AreNotes cells (map f old ++ f x ∷ []) l) (sym known) grown);
         leads = leads_more first place.links cells (length (map f old)) (length (map f new)) is.leads (omega arith);
         begun = omega (arith, is.begun);
-        read =
-            is.read ∙ (sym (take-append-le (length seen) (drop place.start lie) (place_after entries p.entry ∷ []) fits)
-            ∙ ap (take (length seen)) (sym (drop-append-le place.start lie (place_after entries p.entry ∷ []) begun)
-            ∙ ap (drop place.start) (sym (placed-append entries p.entry) ∙ ap placed (sym all))));
       }
 
   -- two prefixes, by what the notes of the last cell of one of them show
@@ -175,9 +135,9 @@ module _ {X : Type 0} (f : X → ℕ) (g : X → Option PlacedValue) where
 
 -- the next entry block
 pub past_next : (first block : BlockNames) (place : PlaceValue) (noted : List ℕ) (known : List (Option PlacedValue))
-    (seen : List PlacedValue) (long : ℕ) → IsPast first place noted known seen → long ≡ length noted
-    → IsPast first (blocks.place_after first place long block) noted known []
-past_next first block place noted known seen long is at =
+    (long : ℕ) → IsPast first place noted known → long ≡ length noted
+    → IsPast first (blocks.place_after first place long block) noted known
+past_next first block place noted known long is at =
     let here = names_after first place.links in
     let fits = noted_fits here.cells noted known is.notes in
     let last : LinkValue = record { start = long; next = blocks.next_names here long block } in
@@ -196,7 +156,6 @@ past_next first block place noted known seen long is at =
           (leads_next first place.links here.cells block.cells long last
           (subst (λ (n : ℕ). Leads first place.links here.cells n) (sym at) is.leads) refl refl (omega arith)));
       begun = omega arith;
-      read = refl;
     }
 
 -- Up to where a block was left, its notes are of the same cells as the notes of pasts that went on.
@@ -227,14 +186,19 @@ alongside first mine theirs own other known others i are go same within inside =
     ∙ sym (name_at (names_after first theirs).cells other others i go inside))
 
 module _ {X : Type 0} (f : X → ℕ) (g : X → Option PlacedValue) where
-  pub knows : (notes : List X) (x : X) (i : ℕ) → AreKnown (map g notes) → slice_get notes i ≡ Some x
-      → is_some (g x) ≡ true
-  knows notes x i are at =
+  -- the note at a place knows the entry there
+  pub known_entry : (notes : List X) (x : X) (i : ℕ) → AreKnown (map g notes) → slice_get notes i ≡ Some x
+      → (slice_get (known_entries (map g notes)) i ≡ option_map (λ p. p.entry) (g x))
+      × (is_some (option_map (λ p. p.entry) (g x)) ≡ true)
+  known_entry notes x i are at =
       let here = known_at (map g notes) i are (omega (arith, length-map notes g, slice_get_within notes i x at)) in
       let one : Some (g x) ≡ Some (Some here.0) =
       ap (option_map g) (sym at) ∙ (sym (slice_get-map g notes i) ∙ here.1) in
-      let known : g x ≡ Some here.0 = cc one in
-      ap is_some known
+      let known : g x ≡ Some here.0 = cc one in (
+        (placed_from_at [] (known_entries (map g notes)) i here.0 here.2).0
+            ∙ ap (option_map (λ (p : PlacedValue). p.entry)) (sym known),
+        ap (λ (o : Option PlacedValue). is_some (option_map (λ (p : PlacedValue). p.entry) o)) known,
+      )
 
   pub seen_cell : (first block : BlockNames) (links : List LinkValue) (start i : ℕ) (notes : List X) (x : X)
       → IsBlockAt first links start block → AreNotes (names_after first links).cells (map f notes) (map g notes)
@@ -246,31 +210,6 @@ module _ {X : Type 0} (f : X → ℕ) (g : X → Option PlacedValue) where
       ∙ (sym (name_at cells (map f notes) (map g notes) (start + i) are
       (omega (arith, length-map notes f, slice_get_within notes (start + i) x at)))
       ∙ (slice_get-map f notes (start + i) ∙ ap (option_map f) at)))
-
-  -- one more entry was read
-  pub read_more : (first : BlockNames) (place : PlaceValue) (notes : List X) (x : X) (p : PlacedValue)
-      (seen more : List PlacedValue) → IsPast first place (map f notes) (map g notes) seen
-      → slice_get notes (place.start + length seen) ≡ Some x → g x ≡ Some p → more ≡ seen ++ p ∷ []
-      → IsPast first place (map f notes) (map g notes) more
-  read_more first place notes x p seen more is at knows grown =
-      let i = place.start + length seen in
-      let lie = placed (known_entries (map g notes)) in
-      let here =
-      known_at (map g notes) i is.notes.entries
-      (omega (arith, length-map notes g, slice_get_within notes i x at)) in
-      let one : Some (g x) ≡ Some (Some here.0) =
-      ap (option_map g) (sym at) ∙ (sym (slice_get-map g notes i) ∙ here.1) in
-      let same : here.0 ≡ p = cc (one, knows) in
-      let next : slice_get (drop place.start lie) (length seen) ≡ Some p =
-      slice_get-drop place.start (length seen) lie ∙ (here.2 ∙ ap Some same) in
-      record {
-        notes = is.notes;
-        leads = is.leads;
-        begun = is.begun;
-        read = grown ∙ (ap (λ (l : List PlacedValue). l ++ p ∷ []) is.read
-            ∙ (sym (take_next (length seen) (drop place.start lie) p next) ∙ ap
-            (λ (n : ℕ). take n (drop place.start lie)) (sym (ap length grown ∙ length-append seen (p ∷ [])))));
-      }
 
   -- notes of the same cells that know a prefix, and then those that the others have more
   grown : (mine theirs new : List X) → AreKnown (map g mine) → AreKnown (map g theirs)
@@ -296,19 +235,14 @@ module _ {X : Type 0} (f : X → ℕ) (g : X → Option PlacedValue) where
 
   -- what another past has more in the same block
   pub learned : (first : BlockNames) (place other : PlaceValue) (mine theirs new : List X)
-      (seen others : List PlacedValue) → IsPast first place (map f mine) (map g mine) seen
-      → IsPast first other (map f theirs) (map g theirs) others → place.links ≡ other.links
+      → IsPast first place (map f mine) (map g mine) → IsPast first other (map f theirs) (map g theirs)
+      → place.links ≡ other.links
       → length mine ≤ length theirs → Begins (known_entries (map g mine)) (known_entries (map g theirs))
-      → new ≡ mine ++ drop (length mine) theirs → IsPast first place (map f new) (map g new) seen
+      → new ≡ mine ++ drop (length mine) theirs → IsPast first place (map f new) (map g new)
       × (known_entries (map g new) ≡ known_entries (map g theirs))
-  learned first place other mine theirs new seen others is are links less begins more =
-      let all = known_entries (map g theirs) in
+  learned first place other mine theirs new is are links less begins more =
       let n = length mine in
       let cells = (names_after first place.links).cells in
-      let long : length (known_entries (map g mine)) ≡ n =
-      known_long (map g mine) is.notes.entries ∙ length-map mine g in
-      let lie : placed (known_entries (map g mine)) ≡ take n (placed all) =
-      ap placed (sym begins ∙ ap (λ (k : ℕ). take k all) long) ∙ placed-take all n in
       let theirs_noted : map f theirs ≡ take (length (map f theirs)) cells =
       are.notes.names ∙ ap (λ (l : List LinkValue). take (length (map f theirs)) (names_after first l).cells)
       (sym links) in
@@ -317,8 +251,7 @@ module _ {X : Type 0} (f : X → ℕ) (g : X → Option PlacedValue) where
       ∙ (sym (take-take n (length (map f theirs)) cells (omega (arith, length-map theirs f)))
       ∙ ap (take n) (sym theirs_noted))) in
       let same = grown mine theirs new is.notes.entries are.notes.entries noted_front begins more in
-      let fits = read_within first place (map f mine) (map g mine) seen is in
-      let whole : IsPast first place (map f theirs) (map g theirs) seen = record {
+      let whole : IsPast first place (map f theirs) (map g theirs) = record {
         notes =
             subst (λ (l : List LinkValue). AreNotes (names_after first l).cells (map f theirs) (map g theirs))
             (sym links) are.notes;
@@ -326,39 +259,32 @@ module _ {X : Type 0} (f : X → ℕ) (g : X → Option PlacedValue) where
             subst (λ (l : List LinkValue). Leads first l (names_after first l).cells (length (map f theirs)))
             (sym links) are.leads;
         begun = omega (arith, is.begun, length-map mine f, length-map theirs f);
-        read = is.read ∙ (ap (λ (l : List PlacedValue). take (length seen) (drop place.start l)) lie
-            ∙ take_within (length seen) place.start n (placed all) (omega (arith, is.begun, length-map mine f)));
       } in (
-        subst (λ (l : List ℕ). IsPast first place l (map g new) seen) (sym same.0)
-            (subst (λ (l : List (Option PlacedValue)). IsPast first place (map f theirs) l seen) (sym same.1) whole),
+        subst (λ (l : List ℕ). IsPast first place l (map g new)) (sym same.0)
+            (subst (λ (l : List (Option PlacedValue)). IsPast first place (map f theirs) l) (sym same.1) whole),
         ap known_entries same.1,
       )
 
   -- what another past has more, with its place
-  pub followed : (first : BlockNames) (other : PlaceValue) (mine theirs new : List X) (others : List PlacedValue)
-      → AreKnown (map g mine) → IsPast first other (map f theirs) (map g theirs) others
+  pub followed : (first : BlockNames) (other : PlaceValue) (mine theirs new : List X) → AreKnown (map g mine)
+      → IsPast first other (map f theirs) (map g theirs)
       → map f mine ≡ take (length mine) (map f theirs)
       → Begins (known_entries (map g mine)) (known_entries (map g theirs)) → new ≡ mine ++ drop (length mine) theirs
-      → IsPast first other (map f new) (map g new) [] × (known_entries (map g new) ≡ known_entries (map g theirs))
-  followed first other mine theirs new others own are cells begins more =
-      let same = grown mine theirs new own are.notes.entries cells begins more in
-      let whole : IsPast first other (map f theirs) (map g theirs) [] =
-      record { notes = are.notes; leads = are.leads; begun = are.begun; read = refl } in (
-        subst (λ (l : List ℕ). IsPast first other l (map g new) []) (sym same.0)
-            (subst (λ (l : List (Option PlacedValue)). IsPast first other (map f theirs) l []) (sym same.1) whole),
+      → IsPast first other (map f new) (map g new) × (known_entries (map g new) ≡ known_entries (map g theirs))
+  followed first other mine theirs new own are cells begins more =
+      let same = grown mine theirs new own are.notes.entries cells begins more in (
+        subst (λ (l : List ℕ). IsPast first other l (map g new)) (sym same.0)
+            (subst (λ (l : List (Option PlacedValue)). IsPast first other (map f theirs) l) (sym same.1) are),
         ap known_entries same.1,
       )
 
-  -- the same place and notes once more, with nothing read
-  pub unread : (first : BlockNames) (place other : PlaceValue) (mine new : List X) (seen none : List PlacedValue)
-      → IsPast first place (map f mine) (map g mine) seen → other ≡ place → new ≡ mine → none ≡ []
-      → IsPast first other (map f new) (map g new) none
-  unread first place other mine new seen none is same more empty =
-      let whole : IsPast first place (map f mine) (map g mine) [] =
-      record { notes = is.notes; leads = is.leads; begun = is.begun; read = refl } in
-      subst (λ (l : List PlacedValue). IsPast first other (map f new) (map g new) l) (sym empty)
-      (subst (λ (l : List X). IsPast first other (map f l) (map g l) []) (sym more)
-      (subst (λ (p : PlaceValue). IsPast first p (map f mine) (map g mine) []) (sym same) whole))
+  -- the same place and notes once more
+  pub again : (first : BlockNames) (place other : PlaceValue) (mine new : List X)
+      → IsPast first place (map f mine) (map g mine) → other ≡ place → new ≡ mine
+      → IsPast first other (map f new) (map g new)
+  again first place other mine new is same more =
+      subst (λ (l : List X). IsPast first other (map f l) (map g l)) (sym more)
+      (subst (λ (p : PlaceValue). IsPast first p (map f mine) (map g mine)) (sym same) is)
 
 -- up to where a block was left, the notes are of the first cells of pasts that went on
 pub front_cells : (first : BlockNames) (mine theirs : List LinkValue) (own other : List ℕ)

@@ -28,12 +28,4 @@ impl Entry {
         let record = copy_record(alloc, space, call, reply)?;
         Ok(Entry { session, record })
     }
-
-    /// The same entry once more.
-    pub(crate) fn copy(&self, alloc: Global) -> Result<Self, AllocError>
-        ensures { IfOk result (λ entry. entry ≡ self.now) }
-    {
-        let Record { space, call, reply } = &self.record;
-        Entry::new(alloc, self.session, *space, call, reply)
-    }
 }

@@ -1,11 +1,11 @@
 ghost use Rattle.std.specs.Prelude.{◌≡◌, IfOk};
 
 use crate::Entry;
-use boxcar::tag::{Names, Tag};
+use boxcar::tag::Tag;
 use std::alloc::{AllocError, Global};
 use std::marker::Model;
 
-/// An entry as it lies in its cell or, copied, in the list of a reader, and ghost: all entries before it.
+/// An entry as it lies in its cell, and ghost: all entries before it.
 #[derive(Drop)]
 pub(crate) struct Held {
     entry: Entry,
@@ -22,28 +22,12 @@ impl Model for Held {
     ghost view = { λ h. record { entry = h.entry; before = h.before.numbers } };
 }
 
-/// All entries before this one.
-struct Before;
-
-impl Names<Held> for Before {
-    ghost numbers = { λ held. held.before };
-}
-
 impl Held {
     /// An entry that comes after those that the tag stands for, in a box as its cell takes it.
     pub(crate) fn boxed(alloc: Global, entry: Entry, before: Tag) -> Result<Box<Self>, AllocError>
         ensures { IfOk result (λ held. held.value ≡ record { entry = entry; before = before.numbers }) }
     {
         Ok(Box::new(alloc, Held { entry, before })?)
-    }
-
-    /// The same entry once more, after the same ones.
-    pub(crate) fn copy(&self, alloc: Global) -> Result<Self, AllocError>
-        ensures { IfOk result (λ held. held ≡ self.now) }
-    {
-        let entry = self.entry.copy(alloc)?;
-        let before = Tag::of::<Held, Before>(self);
-        Ok(Held { entry, before })
     }
 
     /// The entry itself.

@@ -25,4 +25,5 @@ pub use founding::Founding;
 pub use mark::{Mark, Marking, NewMark};
 pub use past::Past;
 pub use place::FirstBlock;
+pub use reading::EntryNote;
 pub use tokens::{Stored, Storing};

@@ -93,7 +93,7 @@ impl<L: FirstBlock> Past<L> {
     fn follow(&mut self, other: &mut Past<L>) -> Result<bool, AllocError>
         requires { self.old.blocks < other.old.blocks }
         ensures same { other.new ≡ other.old }
-        ensures moved { result ≡ Ok true → (self.new ≡ record other.old { read = 0 })
+        ensures moved { result ≡ Ok true → (self.new ≡ other.old)
             × (length self.old.entries ≤ length other.old.entries) × Begins self.old.entries other.old.entries }
         ensures apart { result ≡ Ok false → self.new ≡ self.old }
         ensures err { OnErr result (self.new ≡ self.old) }
@@ -109,7 +109,6 @@ impl<L: FirstBlock> Past<L> {
         let place = other.place.again(self.alloc)?;
         self.notes.reserve(other.notes.len() - self.notes.len())?;
         copy_rest(&mut self.notes, &mut other.notes);
-        self.seen.clear();
         self.place = place;
         Ok(true)
     }
@@ -122,7 +121,7 @@ impl<L: FirstBlock> Past<L> {
             ++ drop (length self.old.entries) other.old.entries) }
         ensures begins { OnOk result (Begins self.old.entries self.new.entries
             × Begins other.old.entries self.new.entries) }
-        ensures moved { OnOk result (self.old.blocks < other.old.blocks → self.new ≡ record other.old { read = 0 }) }
+        ensures moved { OnOk result (self.old.blocks < other.old.blocks → self.new ≡ other.old) }
         ensures stayed { OnOk result (other.old.blocks ≤ self.old.blocks
             → self.new ≡ record self.old { entries = self.new.entries }) }
         ensures apart { IsErrOf result CatchUpFault.Apart → self.old.blocks ≢ other.old.blocks }

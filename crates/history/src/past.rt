@@ -13,16 +13,13 @@ use std::marker::Model;
 use std::sync::Arc;
 
 /// A prefix of the history, up to an entry block that it keeps. Contracts see its entries, how many blocks came before
-/// its block, where that block begins, the names of its cells, and how many of the block's entries were read.
+/// its block, where that block begins, and the names of its cells.
 pub struct Past<L: FirstBlock> {
     pub(crate) alloc: Global,
     pub(crate) place: Place<L>,
 
     // A note for each entry. Notes take no memory.
     pub(crate) notes: Vec<Note<Held>>,
-
-    // What was read of the entry block.
-    pub(crate) seen: Vec<Held>,
 }
 
 // Written out, so that proofs above know one function and not its parts.
@@ -32,11 +29,9 @@ impl<L: FirstBlock> Drop for Past<L> {
             alloc: _,
             place,
             notes,
-            seen,
         } = self;
         drop(place);
         drop(notes);
-        drop(seen);
     }
 }
 
@@ -53,11 +48,10 @@ impl<L: FirstBlock> Model for Past<L> {
       blocks = length p.place.links;
       start = p.place.start;
       block = p.place.block;
-      read = length p.seen.items;
     } };
 
     ghost invariant = { λ p. IsPast L.first p.place (map (λ n. n.cell) p.notes.items)
-        (map (λ n. n.known) p.notes.items) p.seen.items };
+        (map (λ n. n.known) p.notes.items) };
 }
 
 /// All entries before the next one.
@@ -73,20 +67,19 @@ impl<L: FirstBlock> Past<L> {
     /// The prefix that has no entry, in the first entry block.
     pub fn new(alloc: Global, block: Arc<EntryBlock, Global>) -> Self
         requires { arc_value block ≡ L.first }
-        ensures { result ≡ record { entries = []; blocks = 0; start = 0; block = L.first; read = 0 } }
+        ensures { result ≡ record { entries = []; blocks = 0; start = 0; block = L.first } }
     {
         Past {
             alloc,
             place: Place::new(alloc, block),
             notes: Vec::new(alloc),
-            seen: Vec::new(alloc),
         }
     }
 
-    /// The same entries again, none of them read.
+    /// The same entries again.
     pub fn again(&mut self) -> Result<Self, AllocError>
         ensures same { self.new ≡ self.old }
-        ensures past { IfOk result (λ past. past ≡ record self.old { read = 0 }) }
+        ensures past { IfOk result (λ past. past ≡ self.old) }
     {
         let alloc = self.alloc;
         let place = self.place.again(alloc)?;
@@ -96,7 +89,6 @@ impl<L: FirstBlock> Past<L> {
             alloc,
             place,
             notes,
-            seen: Vec::new(alloc),
         })
     }
 
@@ -175,17 +167,11 @@ impl<L: FirstBlock> Past<L> {
               blocks = self.old.blocks + 1;
               start = length self.old.entries;
               block = arc_value block;
-              read = 0;
             }) }
         ensures full { IsErrOf result AddFault.BlockFull → ⊥ }
         ensures err { OnErr result (self.new ≡ self.old) }
     {
-        match self.place.begin(self.alloc, self.notes.len(), block) {
-            Ok(()) => {
-                self.seen.clear();
-                Ok(())
-            }
-            Err(fault) => Err(fault),
-        }
+        self.place.begin(self.alloc, self.notes.len(), block)?;
+        Ok(())
     }
 }

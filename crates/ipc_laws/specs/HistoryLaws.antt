@@ -6,7 +6,7 @@ use Rattle.std.proofs.lemmas.List.{append-nil, append_assoc, map-append, take-ap
 use Rattle.ipc_model.specs.declared.call.Call.{Call}
 use Rattle.ipc_model.specs.declared.reply.Reply.{Reply}
 use Rattle.ipc_model.specs.declared.record.Record.{Record}
-use Rattle.ipc_model.specs.calls.Step.{Run, has_record}
+use Rattle.ipc_model.specs.calls.Step.{Steps, has_record}
 use Rattle.ipc_model.specs.state.State.{State}
 use Rattle.ipc_model.specs.history.History.{Session, Operation, called, redeemed, redeemed_for_another, looked, detached, IsAnswered, IsAcknowledgedUpTo, Leads, After, AfterAll, IsNew, Legal, Meet}
 
@@ -72,7 +72,7 @@ led_order base history old looked new more within led order =
       places = ascend_further 0 old.seen new.seen old.places more order.places;
     })
 led_order base history old detached new more within led order =
-    subst (IsInOrder history) (sym led)
+    subst (IsInOrder history) (sym led.after)
     (record {
       seen = within;
       acknowledged = omega (arith, more, order.acknowledged);
@@ -180,7 +180,7 @@ lived_calls base history old (looked ∷ operations) new (mid, after, rest) =
     (λ (s : Session). map (call_at history) s.places ++ some_calls (recorded_calls operations)) after.leads
 lived_calls base history old (detached ∷ operations) new (mid, after, rest) =
     lived_calls base history mid operations new rest ∙ ap
-    (λ (s : Session). map (call_at history) s.places ++ some_calls (recorded_calls operations)) after.leads
+    (λ (s : Session). map (call_at history) s.places ++ some_calls (recorded_calls operations)) after.leads.after
 
 -- At a legal session's places stand its calls with records, in their order, and nothing else.
 abbrev pub PlacesHoldCalls : Type 0
@@ -218,7 +218,7 @@ led_further base history more old (called c answer) new within (inr is) = inr (r
   unseen = is.unseen;
   state = is.state;
   run =
-      subst (λ (l : List Record). Run base l is.state)
+      subst (λ (l : List Record). Steps base l is.state)
       (sym (take-append-le is.beginning history more (omega (arith, is.seen, within)))) is.run;
   answered = is.answered;
   seen = is.seen;
@@ -227,7 +227,14 @@ led_further base history more old (called c answer) new within (inr is) = inr (r
 led_further base history more old (redeemed seen) new within led = led
 led_further base history more old (redeemed_for_another seen) new within led = led
 led_further base history more old looked new within led = led
-led_further base history more old detached new within led = led
+led_further base history more old detached new within led = record {
+  place = led.place;
+  entry = led.entry;
+  there = there_still history more led.place led.entry led.there;
+  destroys = led.destroys;
+  seen = led.seen;
+  after = led.after;
+}
 
 lived_further : (base : State) (history more : List Record) (old : Session) (operations : List Operation)
     (new : Session) → AfterAll base history old operations new → AfterAll base (history ++ more) old operations new

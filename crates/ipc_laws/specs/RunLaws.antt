@@ -1,14 +1,34 @@
--- Runs of the machine that follow one another, and those of what is kept.
+-- Steps and runs of the machine that follow one another, and runs of canonical records.
 use Rattle.std.specs.Prelude.{◌↔◌, List, [], ◌∷◌, ◌++◌, map}
 use Rattle.std.proofs.Common.{refl, subst, inl}
 use Rattle.ipc_model.specs.declared.record.Record.{Record}
 use Rattle.ipc_model.specs.state.State.{State}
-use Rattle.ipc_model.specs.calls.Step.{Step, Run}
+use Rattle.ipc_model.specs.calls.Step.{Step, Steps, Run}
 use Rattle.ipc_model.specs.encodings.Encodings.{canonical_record}
 use Rattle.ipc_laws.specs.CanonicalRecords.{replayed_as_canonical}
 use Rattle.ipc_laws.specs.RunsKeep.{FitCalls}
 
 -- one more step
+pub steps-push : (old mid new : State) (records : List Record) (next : Record) → Steps old records mid
+    → Step mid next.space next.call next.reply new → Steps old (records ++ next ∷ []) new
+steps-push old mid new [] next so_far step =
+    (new, subst (λ (s : State). Step s next.space next.call next.reply new) so_far step, refl)
+steps-push old mid new (first ∷ records) next so_far step =
+    (so_far.0, so_far.1, steps-push so_far.0 mid new records next so_far.2 step)
+
+-- steps by records that follow one another are steps by the first ones, and then by the others
+pub steps_split : (old new : State) (records more : List Record) → Steps old (records ++ more) new → (mid : State)
+    × Steps old records mid × Steps mid more new
+steps_split old new [] more steps = (old, refl, steps)
+steps_split old new (first ∷ records) more steps =
+    let later = steps_split steps.0 new records more steps.2 in (later.0, (steps.0, steps.1, later.1), later.2)
+
+-- records of steps can be replayed
+pub steps_run : (old new : State) (records : List Record) → Steps old records new → Run old records new
+steps_run old new [] steps = steps
+steps_run old new (first ∷ records) steps = (steps.0, inl steps.1, steps_run steps.0 new records steps.2)
+
+-- a run with one more step
 pub run-push : (old mid new : State) (records : List Record) (next : Record) → Run old records mid
     → Step mid next.space next.call next.reply new → Run old (records ++ next ∷ []) new
 run-push old mid new [] next so_far step =

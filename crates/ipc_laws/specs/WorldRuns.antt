@@ -1,4 +1,4 @@
--- Whatever events come: what was applied is a run of the machine, tickets keep the replies of its steps, epoch logs
+-- Whatever events come: what was applied are steps of the machine, tickets keep the replies of its steps, epoch logs
 -- hold no more than they may, and after a fault of the device nothing more is stored or acknowledged.
 use Rattle.std.specs.Prelude.{◌≡◌, ◌⊎◌, ℕ, zero, suc, ◌+◌, ◌-◌, ◌<◌, ◌≤◌, Bool, true, false, ◌&&◌, List, [], ◌∷◌, ◌++◌, length, take, Option, None, Some, slice_get, if◌then◌else◌, refl}
 use Rattle.std.proofs.Common.{inl, inr, sym, ◌∙◌, ap, subst, arith, length-append}
@@ -7,11 +7,11 @@ use Rattle.codes.specs.declared.limits.TheConstants.{MAX_RECORDS}
 use Rattle.ipc_model.specs.declared.call.Call.{Call}
 use Rattle.ipc_model.specs.declared.reply.Reply.{Reply}
 use Rattle.ipc_model.specs.declared.record.Record.{Record}
-use Rattle.ipc_model.specs.calls.Step.{Step, Run, has_record}
+use Rattle.ipc_model.specs.calls.Step.{Step, Steps, has_record}
 use Rattle.ipc_model.specs.state.State.{State}
 use Rattle.ipc_model.specs.store.Faults as fault
 use Rattle.ipc_model.specs.world.World.{Event, Outcome, Ticket, Batch, Receipt, Checkpoint, World, Worlds, After, AfterPossible, MayGive, IsStep, submit, take_batch, append, durable, ask_reply, cut, roll_close, roll_head, roll_open, image_close, piece, finish, given, replied, done, not_now, epoch_full, no_memory, store, of_append, of_finish, first_world, log_length, is_of_store, acknowledged, record_of, after_submit, after_append, after_durable, with_answered, with_checkpoint}
-use Rattle.ipc_laws.specs.RunLaws.{run-push}
+use Rattle.ipc_laws.specs.RunLaws.{steps-push}
 use Rattle.ipc_laws.specs.WorldLaws.{acknowledged_is_stored}
 
 -- An event that gives no ticket changes no record that was applied, makes the epoch log no longer, and at most marks
@@ -104,26 +104,26 @@ always base P kept world [] new worlds holds = subst P (sym worlds) holds
 always base P kept world (first ∷ events) new (mid, after, rest) holds =
     always base P kept mid events new rest (kept world mid (changes base world first.0 first.1 mid after) holds)
 
--- What was applied is a run from the state that the opening gave.
-abbrev HasRun : State → World → Type 0
-HasRun base world = (state : State) × Run base world.applied state
+-- What was applied are steps from the state that the opening gave.
+abbrev HasSteps : State → World → Type 0
+HasSteps base world = (state : State) × Steps base world.applied state
 
-run_given : (base : State) (applied : List Record) (space : ℕ) (c : Call) (answer : Reply) (b : Bool) → (old : State)
-    × (new : State) × Run base applied old × Step old space c answer new
-    → (state : State) × Run base (applied
+steps_given : (base : State) (applied : List Record) (space : ℕ) (c : Call) (answer : Reply) (b : Bool) → (old : State)
+    × (new : State) × Steps base applied old × Step old space c answer new
+    → (state : State) × Steps base (applied
     ++ (if b then record { space = space; call = c; reply = answer } ∷ [] else [])) state
-run_given base applied space c answer true (old, new, run, step) =
-    (new, run-push base old new applied (record { space = space; call = c; reply = answer }) run step)
-run_given base applied space c answer false (old, new, run, step) =
-    (old, subst (λ (l : List Record). Run base l old) (sym (append-nil applied)) run)
+steps_given base applied space c answer true (old, new, run, step) =
+    (new, steps-push base old new applied (record { space = space; call = c; reply = answer }) run step)
+steps_given base applied space c answer false (old, new, run, step) =
+    (old, subst (λ (l : List Record). Steps base l old) (sym (append-nil applied)) run)
 
-keeps_run : (base : State) → IsKept base (HasRun base)
-keeps_run base world new (inl gives) holds =
-    subst (HasRun base) (sym gives.after)
-    (run_given base world.applied gives.space gives.call gives.answer
+keeps_steps : (base : State) → IsKept base (HasSteps base)
+keeps_steps base world new (inl gives) holds =
+    subst (HasSteps base) (sym gives.after)
+    (steps_given base world.applied gives.space gives.call gives.answer
     (has_record gives.call gives.answer) gives.may.0)
-keeps_run base world new (inr is) holds =
-    (holds.0, subst (λ (l : List Record). Run base l holds.0) (sym is.applied) holds.1)
+keeps_steps base world new (inr is) holds =
+    (holds.0, subst (λ (l : List Record). Steps base l holds.0) (sym is.applied) holds.1)
 
 -- A ticket's reply is that of a step from the state after a prefix of the records. What it saw is this prefix, and then
 -- the call's own record, if it has one.
@@ -132,7 +132,7 @@ pub record IsOfStep (base : State) (applied : List Record) (ticket : Ticket) : T
   pub call : Call
   pub before : ℕ
   pub within : before ≤ length applied
-  pub step : (old : State) × (new : State) × Run base (take before applied) old × Step old space call ticket.answer new
+  pub step : (old : State) × (new : State) × Steps base (take before applied) old × Step old space call ticket.answer new
   pub seen : ticket.seen ≤ length applied
   pub saw : take ticket.seen applied ≡ take before applied ++ record_of space call ticket.answer
 
@@ -148,7 +148,7 @@ of_step_further base applied more ticket is = record {
   before = is.before;
   within = omega (arith, is.within, length-append applied more);
   step =
-      subst (λ (l : List Record). (old : State) × (new : State) × Run base l old
+      subst (λ (l : List Record). (old : State) × (new : State) × Steps base l old
       × Step old is.space is.call ticket.answer new)
       (sym (take-append-le is.before applied more is.within)) is.step;
   seen = omega (arith, is.seen, length-append applied more);
@@ -206,7 +206,7 @@ new_of_step base world space c answer step =
       before = length world.applied;
       within = omega (arith, length-append world.applied (record_of space c answer));
       step =
-          subst (λ (l : List Record). (old : State) × (new : State) × Run base l old × Step old space c answer new)
+          subst (λ (l : List Record). (old : State) × (new : State) × Steps base l old × Step old space c answer new)
           (sym before) step;
       seen = omega arith;
       saw =
@@ -247,15 +247,15 @@ keeps_row base world new (inl gives) holds =
     (row_given world gives.space gives.call gives.answer (has_record gives.call gives.answer) gives.may.1 holds)
 keeps_row base world new (inr is) holds = omega (arith, is.row, holds)
 
--- Whatever events come after the opening, what was applied is a run.
-abbrev pub AppliedIsRun : Type 0
-AppliedIsRun =
+-- Whatever events come after the opening, what was applied are steps.
+abbrev pub AppliedAreSteps : Type 0
+AppliedAreSteps =
     (base : State) (epoch opened : ℕ) (events : List (Event × Outcome)) (world : World)
-    → Worlds base (first_world epoch opened) events world → (state : State) × Run base world.applied state
+    → Worlds base (first_world epoch opened) events world → (state : State) × Steps base world.applied state
 
-pub applied_is_run : AppliedIsRun
-applied_is_run base epoch opened events world worlds =
-    always base (HasRun base) (keeps_run base) (first_world epoch opened) events world worlds (base, refl)
+pub applied_are_steps : AppliedAreSteps
+applied_are_steps base epoch opened events world worlds =
+    always base (HasSteps base) (keeps_steps base) (first_world epoch opened) events world worlds (base, refl)
 
 -- Each ticket keeps the reply of a step, and saw the records up to that step.
 abbrev pub TicketsAreSteps : Type 0

@@ -29,7 +29,7 @@ ghost use Rattle.ipc_laws.specs.Settling.{AlwaysSettles, EffectsLower};
 ghost use Rattle.ipc_laws.specs.RecordEncodings.{RecordsHaveOneEncoding};
 ghost use Rattle.ipc_laws.specs.StepLaws.{OneEnd};
 ghost use Rattle.ipc_laws.specs.WorldLaws.{NotNowExactly, AcknowledgedIsStored, AcknowledgedWithinApplied};
-ghost use Rattle.ipc_laws.specs.WorldRuns.{AppliedIsRun, NothingNewIsAcknowledged, LogsFit, TicketsAreSteps};
+ghost use Rattle.ipc_laws.specs.WorldRuns.{AppliedAreSteps, NothingNewIsAcknowledged, LogsFit, TicketsAreSteps};
 
 /// A reply shows each choice that the machine made: from a lawful state, a task's call with a given reply leaves one
 /// state. That includes sends and receives.
@@ -219,9 +219,9 @@ pub fn not_now_exactly()
     ensures { NotNowExactly }
 {}
 
-/// What was applied is a run of the machine from the state that the opening returned.
-pub fn applied_is_run()
-    ensures { AppliedIsRun }
+/// The calls that were applied are steps of the machine from the state that the opening returned.
+pub fn applied_are_steps()
+    ensures { AppliedAreSteps }
 {}
 
 /// Each ticket keeps the reply of a step from the state after a prefix of what was applied; it saw this prefix, and the

@@ -4,7 +4,7 @@
 mod laws;
 
 pub use laws::{
-    acknowledged_is_stored, acknowledged_within_applied, always_settles, applied_is_run,
+    acknowledged_is_stored, acknowledged_within_applied, always_settles, applied_are_steps,
     calls_are_made_once, circles_lead_up, detached_is_refused, effects_keep_acyclic,
     effects_keep_lawful, effects_lower, encodes_once, gone_is_refused, image_once,
     kept_changes_nothing, lawful_is_at_rest, lawful_is_encodable, legal_is_in_order,

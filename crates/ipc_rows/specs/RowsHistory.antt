@@ -11,18 +11,21 @@ use Rattle.ipc_model.specs.declared.record.Record.{Record}
 use Rattle.ipc_model.specs.calls.Actions.{Done}
 use Rattle.ipc_model.specs.calls.PortCalls.{tests_of}
 use Rattle.ipc_model.specs.calls.PlainStep.{PlainStep, ActsFrom}
-use Rattle.ipc_model.specs.calls.Step.{Step, Answer, Run}
+use Rattle.ipc_model.specs.calls.Step.{Step, Answer, Steps}
 use Rattle.ipc_model.specs.effects.Effects.{Effect, settled}
-use Rattle.ipc_model.specs.history.History.{Session, Operation, Sessions, called, redeemed, redeemed_for_another, redemption, IsNew, Legal, AreAll, Meet, IsLegalHistory, space_after}
+use Rattle.ipc_model.specs.history.History.{Session, Operation, Sessions, called, redeemed, redeemed_for_another, redemption, detached, IsNew, Legal, AreAll, Meet, IsLegalHistory, space_after}
 use Rattle.ipc_model.specs.declared.plain_reply.PlainReply.{PlainReply}
 use Rattle.ipc_model.specs.declared.reply.Reply.TheVariants as upper
 use Rattle.ipc_model.specs.state.Ipc.{Ipc, opening_ipc}
 use Rattle.ipc_model.specs.state.State.{State, opening_state}
 use Rattle.ipc_laws.specs.OpeningLaws.{opening_is_lawful}
+use Rattle.ipc_laws.specs.NumberedSteps.{one_replayed}
+use Rattle.ipc_laws.specs.RunLaws.{steps_run}
 use Rattle.ipc_laws.specs.RunsKeep.{one_run}
 use Rattle.ipc_rows.specs.RowRules.{rows}
 use Rattle.ipc_rows.specs.RowsWorld.{allocation, first-step, one_allocated, two_allocated, second-step, unknown-refused}
 use Rattle.ipc_rows.specs.RowStates.{answered, asked}
+use Rattle.ipc_rows.specs.RowsNumbered.{answered_as, asked_as, kept_as, seven-step, with_seven}
 
 abbrev pub allocated_name : ℕ → Record
 allocated_name name = record { space = 1; call = allocation; reply = answered (reply.Allocate name) }
@@ -53,8 +56,8 @@ pub type-answer : Answer two_allocated 1 (asked (call.Type 0x101)) (answered (re
 unfolding Step PlainStep Done tests_of
 type-answer = ((two_allocated.ipc, [], simp rows (refl, refl, refl), settled), refl)
 
-pub two_records-run : Run opening_state two_records two_allocated
-two_records-run = (one_allocated, inl first-step, (two_allocated, inl second-step, refl))
+pub two_records-steps : Steps opening_state two_records two_allocated
+two_records-steps = (one_allocated, first-step, (two_allocated, second-step, refl))
 
 new-session : IsNew two_records new_session
 new-session = record { space = refl; within = omega arith; acknowledged = refl; tickets = refl; places = refl }
@@ -86,7 +89,7 @@ first-legal = record {
               beginning = 2;
               unseen = omega arith;
               state = two_allocated;
-              run = two_records-run;
+              run = two_records-steps;
               answered = type-answer;
               seen = omega arith;
               after = refl;
@@ -134,7 +137,7 @@ apart-two (suc i) (suc j) d below end = absurd (omega (arith, below, end))
 
 pub both-legal : IsLegalHistory opening_state two_records both
 both-legal =
-    record { end = two_allocated; run = two_records-run; legal = (first-legal, (other-legal, tt)); apart = apart-two }
+    record { end = two_allocated; run = two_records-steps; legal = (first-legal, (other-legal, tt)); apart = apart-two }
 
 pub both-all : AreAll two_records (first_session ∷ other_session ∷ [])
 both-all = refl
@@ -185,8 +188,8 @@ no_answer session legal = elim legal.after.1.leads as (λ _. ⊥) [
   | inl at ↦ absurd (cc at.recorded)
   | inr is ↦
       let none : is.beginning ≡ 0 = omega (arith, is.seen, legal.after.1.within) in
-      let at_start : Run opening_state (take 0 []) is.state =
-      subst (λ (n : ℕ). Run opening_state (take n []) is.state) none is.run in
+      let at_start : Steps opening_state (take 0 []) is.state =
+      subst (λ (n : ℕ). Steps opening_state (take n []) is.state) none is.run in
       let in_space : Answer is.state 1 (asked (call.Type 0x200)) (answered (reply.Type 0x20000)) =
       subst (λ (n : ℕ). Answer is.state n (asked (call.Type 0x200)) (answered (reply.Type 0x20000))) legal.new.space is.answered in
       let found : Step opening_state 1 (asked (call.Type 0x200)) (answered (reply.Type 0x20000)) is.state =
@@ -223,11 +226,12 @@ older_answer session legal = elim legal.after.1.leads as (λ _. ⊥) [
         | inl other ↦ absurd (cc other.recorded)
         | inr is ↦
             let all : is.beginning ≡ 1 = omega (arith, at.seen, is.unseen, is.seen, legal.after.2.1.within) in
-            let whole : Run opening_state (allocated_name 0x100 ∷ []) is.state =
-            subst (λ (n : ℕ). Run opening_state (take n (allocated_name 0x100 ∷ [])) is.state) all is.run in
+            let whole : Steps opening_state (allocated_name 0x100 ∷ []) is.state =
+            subst (λ (n : ℕ). Steps opening_state (take n (allocated_name 0x100 ∷ [])) is.state) all is.run in
             let one : is.state ≡ one_allocated =
             one_run opening_state (allocated_name 0x100 ∷ []) is.state one_allocated
-            ((omega arith, tt), tt) opening_is_lawful.0 opening_is_lawful.1 whole
+            ((omega arith, tt), tt) opening_is_lawful.0 opening_is_lawful.1
+            (steps_run opening_state is.state (allocated_name 0x100 ∷ []) whole)
             (one_allocated, inl first-step, refl) in
             let space : legal.after.0.space ≡ 1 = ap (λ (s : Session). s.space) at.after ∙ legal.new.space in
             let in_space : Answer is.state 1 (asked (call.Type 0x100)) (answered (reply.Refused 2 InvalidName)) =
@@ -281,7 +285,32 @@ redeemed-ungiven session legal =
 pub redeemed-own : (redemption first_session 2 ≡ redeemed 2) × (redemption first_session 0 ≡ redeemed_for_another 0)
 redeemed-own = (refl, refl)
 
--- an invented record: the records aren't a run
+-- a session is detached though no space was destroyed
+pub detached-undestroyed : (session : Session) → Legal opening_state [] (detached ∷ []) session → ⊥
+detached-undestroyed session legal = absurd (omega (arith, legal.after.1.leads.seen, legal.after.1.within))
+
+-- a numbered call is recorded twice: asked for again it has no record
+abbrev pub seven_recorded : Record
+seven_recorded =
+    record { space = 1; call = asked_as 7 (call.Allocate 1); reply = answered_as 7 (reply.Allocate 0x100) }
+
+seven-recorded_again : (new : State)
+    → Step with_seven 1 (asked_as 7 (call.Allocate 1)) (answered_as 7 (reply.Allocate 0x100)) new
+    → answered_as 7 (reply.Allocate 0x100) ≡ upper.Repeated (kept_as 7 (reply.Allocate 0x100))
+unfolding Step
+seven-recorded_again new = simp rows (λ (is : _). is.0)
+
+pub recorded_twice : (sessions : Sessions) → IsLegalHistory opening_state (seven_recorded ∷ seven_recorded ∷ []) sessions
+    → ⊥
+recorded_twice sessions legal =
+    let first : with_seven ≡ legal.run.0 =
+    one_replayed opening_state seven_recorded with_seven legal.run.0 opening_is_lawful.0 (inl seven-step)
+    (inl legal.run.1) in
+    absurd (cc (seven-recorded_again legal.run.2.0
+    (subst (λ (s : State). Step s 1 (asked_as 7 (call.Allocate 1)) (answered_as 7 (reply.Allocate 0x100)) legal.run.2.0)
+    (sym first) legal.run.2.1)))
+
+-- an invented record: the records aren't steps
 unallocated-acts : (acted : Ipc) (effects : List Effect)
     → ActsFrom opening_ipc 1 (finmap.get opening_ipc.spaces 1) (call.Deallocate 0x100) (reply.Done 7) acted effects
     → reply.Done 7 ≡ reply.Refused 7 InvalidName
@@ -296,7 +325,4 @@ unallocated-step new step = unallocated-acts step.0.0 step.0.1 step.0.2
 pub invented_record : (sessions : Sessions)
     → IsLegalHistory opening_state
     (record { space = 1; call = asked (call.Deallocate 0x100); reply = answered (reply.Done 7) } ∷ []) sessions → ⊥
-invented_record sessions legal = elim legal.run.1 as (λ _. ⊥) [
-  | inl step ↦ absurd (cc (unallocated-step legal.run.0 step))
-  | inr is ↦ absurd is
-]
+invented_record sessions legal = absurd (cc (unallocated-step legal.run.0 legal.run.1))

@@ -74,7 +74,7 @@ may-first = ((opening_state, one_allocated, refl, first-step), (λ (_ : _). omeg
 
 may-second : MayGive opening_state one_submitted 1 allocation (answered (reply.Allocate 0x101))
 may-second =
-    ((one_allocated, two_allocated, (one_allocated, inl first-step, refl), second-step), (λ (_ : _). omega arith))
+    ((one_allocated, two_allocated, (one_allocated, first-step, refl), second-step), (λ (_ : _). omega arith))
 
 -- the events in their order, with what they answer
 abbrev pub two_calls : List (Event × Outcome)

@@ -4,8 +4,9 @@ use Rattle.std.specs.Prelude.{if◌then◌else◌}
 use Rattle.std.proofs.lemmas.List.{map-append, length-map}
 use Rattle.history.specs.Entries.{Begins, records_of}
 use Rattle.history.specs.declared.entry.Entry.{Entry}
+use Rattle.ipc_laws.specs.RunLaws.{steps_run}
 use Rattle.ipc_laws.specs.RunsKeep.{runs_keep_lawful}
-use Rattle.ipc_model.specs.calls.Step.{Run, has_record}
+use Rattle.ipc_model.specs.calls.Step.{Steps, has_record}
 use Rattle.ipc_model.specs.declared.call.Call.{Call}
 use Rattle.ipc_model.specs.declared.record.Record.{Record}
 use Rattle.ipc_model.specs.state.State.{State}
@@ -67,7 +68,7 @@ module _ (base : State) (old new : KernelValue) (entries : List Entry) (opened e
     kernel = old.kernel;
     lawful =
         (runs_keep_lawful base (records_of entries) old.kernel core.applied.fit core.applied.lawful core.applied.acyclic
-        core.applied.run).0;
+        (steps_run base old.kernel (records_of entries) core.applied.run)).0;
     next = new.kernel;
     run = core.applied.run;
     step = gives.step;
@@ -75,7 +76,7 @@ module _ (base : State) (old new : KernelValue) (entries : List Entry) (opened e
         record {
           state = new.kernel;
           run = subst
-              (λ (l : List Entry). Run base (records_of l) new.kernel) (sym is) more.all.run;
+              (λ (l : List Entry). Steps base (records_of l) new.kernel) (sym is) more.all.run;
         };
     seen_is = gives.seen ∙ more.all.made_is ∙ counted after ∙ ap length (sym is);
     old_counted = core.applied.made_is ∙ counted entries;

@@ -9,7 +9,7 @@ use Rattle.history.proofs.Beginnings.{begins_length, begins_more, begins_trans}
 use Rattle.history.specs.Entries.{Begins, records_of}
 use Rattle.history.specs.Pasts.{PastValue}
 use Rattle.history.specs.declared.entry.Entry.{Entry}
-use Rattle.ipc_model.specs.calls.Step.{Run, Step, has_record}
+use Rattle.ipc_model.specs.calls.Step.{Step, Steps, has_record}
 use Rattle.ipc_model.specs.declared.call.Call.{Call}
 use Rattle.ipc_model.specs.declared.record.Record.{Record}
 use Rattle.ipc_model.specs.history.History.{called, space_after}
@@ -129,7 +129,7 @@ module _ (base : State) (old : SessionValue) (c : Call) (ticket : TicketValue) (
             beginning = length past.entries;
             unseen = omega (arith, long, ap length same);
             state = did.kernel;
-            run = subst (λ (l : List Record). Run base l did.kernel) (sym all) did.run;
+            run = subst (λ (l : List Record). Steps base l did.kernel) (sym all) did.run;
             answered =
                 subst (λ (s : State). Step did.kernel old.task.space c ticket.answer s)
                 (unrecorded_step did.kernel old.task.space c ticket.answer did.next did.step is) did.step;

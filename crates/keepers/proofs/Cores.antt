@@ -13,7 +13,7 @@ use Rattle.ipc_model.specs.declared.record.Record.{Record}
 use Rattle.ipc_model.specs.history.History.{IsAcknowledgedUpTo, Leads, Session, has_ticket, redeemed, redeemed_for_another, redemption}
 use Rattle.ipc_model.specs.state.State.{State}
 use Rattle.keepers.specs.Keeping.{Applies, BothPastsValue, KernelCoreValue, IsKernelCore, Learns, both_learned, entries_of_call}
-use Rattle.keepers.specs.Tokens.{IsHistory, entry_by, SessionValue, IsSession, session_of, KeepsRead}
+use Rattle.keepers.specs.Tokens.{IsHistory, entry_by, SessionValue, IsSession, session_of}
 use Rattle.keepers.proofs.Calling.{applies, core_after}
 use Rattle.keepers.proofs.Histories.{did_session}
 use Rattle.system.specs.Halves.{Gives, KernelValue, TicketValue}
@@ -44,7 +44,7 @@ core_history base half entries opened earlier taken older core = record { state 
 
 -- the history is kept once more
 pub again_history : {E : Type 0} (base : State) (past : PastValue) (r : Result PastValue E)
-    → IsHistory base past.entries → IfOk r (λ p. p ≡ record past { read = 0 }) → IfOk r (λ p. IsHistory base p.entries)
+    → IsHistory base past.entries → IfOk r (λ p. p ≡ past) → IfOk r (λ p. IsHistory base p.entries)
 again_history base past (Ok p) history is = subst (λ (v : PastValue). IsHistory base v.entries) (sym is) history
 again_history base past (Err e) history is = tt
 
@@ -73,6 +73,13 @@ new_session base number past tickets places amount no_ticket none nothing histor
       own = λ i place at. absurd (cc at);
       counted = nothing;
     })
+
+-- What a session has seen is a history, whether or not it learned all of it.
+pub learned_history : (base : State) {X E : Type 0} (r : Result X E) (seen kept new : List Entry) → IsHistory base seen
+    → IsHistory base kept → OnOk r (new ≡ kept) → OnErr r ((new ≡ seen) ⊎ (new ≡ kept)) → IsHistory base new
+learned_history base (Ok done) seen kept new history whole ok err = subst (IsHistory base) (sym ok) whole
+learned_history base (Err fault) seen kept new history whole ok (inl same) = subst (IsHistory base) (sym same) history
+learned_history base (Err fault) seen kept new history whole ok (inr same) = subst (IsHistory base) (sym same) whole
 
 -- The two that learned of a call's record, where it has one.
 module _ (old new : BothPastsValue) (space : ℕ) (c : Call) where
@@ -126,18 +133,6 @@ module _ (old new : BothPastsValue) (space : ℕ) (c : Call) where
   both_kept (Ok ticket) kept same learned unlearned =
       kept_by ticket.answer kept (has_record c ticket.answer) refl same learned unlearned
   both_kept (Err fault) kept same learned unlearned = tt
-
-  pub both_reads : {E : Type 0} (P : Type 0) (r : Result TicketValue E) (seen : PastValue) → KeepsRead seen old.mine
-      → IfOk r (λ ticket. has_record c ticket.answer ≡ true → new ≡ both_learned old space c ticket.answer)
-      → IfOk r (λ ticket. has_record c ticket.answer ≡ false → new ≡ old) → OnErr r (P × (new ≡ old))
-      → KeepsRead seen new.mine
-  both_reads P (Ok ticket) seen keeps learned unlearned err =
-      elim (learned_or_not ticket.answer (has_record c ticket.answer) refl learned unlearned) [
-        | inl is ↦ subst (λ (v : BothPastsValue). KeepsRead seen v.mine) (sym is) (record { reads = keeps.reads })
-        | inr is ↦ subst (λ (v : BothPastsValue). KeepsRead seen v.mine) (sym is) keeps
-      ]
-  both_reads P (Err fault) seen keeps learned unlearned err =
-      subst (λ (v : BothPastsValue). KeepsRead seen v.mine) (sym err.1) keeps
 
   pub both_back : {E : Type 0} (P : Type 0) (r : Result TicketValue E) (kept : PastValue) (seen : List Entry)
       → old.kept ≡ kept → old.mine.entries ≡ kept.entries → OnErr r (P × (new ≡ old))

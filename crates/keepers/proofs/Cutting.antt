@@ -70,6 +70,7 @@ module _ (base : State) (half new : KernelValue) (entries : List Entry) (opened 
     recorded = recorded_of base half entries opened earlier taken older core;
     within = omega arith;
     state = half.kernel;
-    run = subst (λ (l : List Record). Run base l half.kernel) (sym (take_end records)) core.applied.run;
+    run = subst (λ (l : List Record). Run base l half.kernel) (sym (take_end records))
+        (steps_run base half.kernel records core.applied.run);
     image = cuts.image;
   }

@@ -9,16 +9,18 @@ use Rattle.history.specs.Entries.{records_of}
 use Rattle.history.specs.Pasts.{PastValue}
 use Rattle.history.specs.declared.entry.Entry.{Entry}
 use Rattle.ipc_laws.specs.DetachedLaws.{gone_is_refused}
+use Rattle.ipc_laws.specs.RunLaws.{steps_run}
 use Rattle.ipc_laws.specs.RunsKeep.{runs_keep_lawful}
 use Rattle.ipc_model.specs.calls.Step.{has_record, is_gone, refused}
 use Rattle.ipc_model.specs.declared.call.Call.{Call}
 use Rattle.ipc_model.specs.declared.call.Call.TheVariants.{Plain, Numbered, Unnumberable}
+use Rattle.ipc_model.specs.history.History.{is_destruction}
 use Rattle.ipc_model.specs.declared.plain_call.PlainCall.TheVariants as call
 use Rattle.ipc_model.specs.declared.reply.Reply.{Reply}
 use Rattle.ipc_model.specs.state.Ipc.{Names}
 use Rattle.ipc_model.specs.state.LawfulState.{LawfulState}
 use Rattle.ipc_model.specs.state.State.{State}
-use Rattle.keepers.specs.Destroying.{Destroys, DestroysKnown, IsGoneSince, IsNoted, StaysSince, Tells, TellsOf, count_at, is_destruction, is_noted}
+use Rattle.keepers.specs.Destroying.{Destroys, DestroysKnown, IsGoneSince, IsNoted, StaysSince, Tells, TellsOf, count_at, is_noted}
 use Rattle.keepers.specs.Keeping.{Applies, IsKernelCore, entries_of_call}
 use Rattle.keepers.specs.Tokens.{entry_by}
 use Rattle.keepers.proofs.Histories.{got_pushed}
@@ -229,7 +231,7 @@ destroys_known base old new kept opened earlier taken older space c core (Ok tic
     lawful : LawfulState old.kernel
     lawful =
         (runs_keep_lawful base (records_of kept) old.kernel core.applied.fit core.applied.lawful core.applied.acyclic
-        core.applied.run).0
+        (steps_run base old.kernel (records_of kept) core.applied.run)).0
 
     by : (gone : Bool) → is_gone old.kernel space ≡ gone → has_record c ticket.answer ≡ true
         → is_destruction c ≡ true → space ≤ MAX_SPACES

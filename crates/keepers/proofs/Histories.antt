@@ -2,16 +2,18 @@
 use Rattle.std.proofs.Common.{◌≡◌, ℕ, zero, suc, ◌⊎◌, List, [], ◌∷◌, ◌++◌, length, take, drop, Some, refl, sym, ap, subst, ◌∙◌, inl, inr, arith}
 use Rattle.std.specs.Prelude.{option_map, slice_get}
 use Rattle.std.proofs.lemmas.List.{length-map}
+use Rattle.std.proofs.lemmas.Option.{slice_get-map, slice_get_within}
 use Rattle.std.proofs.Math.Seq.{take-length}
 use Rattle.codes.specs.declared.name.TheConstants.{NO_SPACE}
-use Rattle.history.proofs.Beginnings.{begins_itself, begins_length, begins_records, begins_rest}
+use Rattle.history.proofs.Beginnings.{begins_itself, begins_length, begins_records, begins_rest, begins_trans}
 use Rattle.history.specs.Entries.{Begins, records_of}
 use Rattle.history.specs.Pasts.{PastValue}
 use Rattle.history.specs.declared.entry.Entry.{Entry}
 use Rattle.ipc_laws.specs.HistoryLaws.{after_more, legal_stays_legal}
 use Rattle.ipc_model.specs.declared.record.Record.{Record}
-use Rattle.ipc_model.specs.history.History.{Operation, detached, looked, Legal}
+use Rattle.ipc_model.specs.history.History.{Destroys, Legal, Operation, Session, detached, looked}
 use Rattle.ipc_model.specs.state.State.{State}
+use Rattle.keepers.specs.Destroying.{IsGoneSince}
 use Rattle.keepers.specs.Tokens.{SessionValue, AreOwn, IsHistory, IsSession, Did}
 
 -- a session's own entries
@@ -107,14 +109,6 @@ looks base old past amount history is begins =
 pub same_long : (short long : List Entry) → Begins short long → length long ≡ length short → long ≡ short
 same_long short long begins same = sym (take-length long) ∙ ap (λ (n : ℕ). take n long) same ∙ begins
 
--- A session that has read more is otherwise the same.
-pub has_read : (base : State) (old : SessionValue) (past : PastValue) (amount count : ℕ)
-    → past ≡ record old.past { read = count } → IsSession base old amount → IsSession base (looking old past) amount
-has_read base old past amount count is session =
-    let same : past.entries ≡ old.past.entries = ap (λ (p : PastValue). p.entries) is in
-    looks base old past amount (subst (IsHistory base) (sym same) session.history) session
-    (subst (Begins old.past.entries) (sym same) (begins_itself old.past.entries))
-
 -- A session whose space has gone.
 
 abbrev pub detaching : SessionValue → SessionValue
@@ -126,11 +120,20 @@ detaching old =
     }
 
 pub did_detach : (base : State) (old : SessionValue) → old.task.seen ≡ length old.past.entries
-    → Did base old detached (detaching old)
-did_detach base old seen = record {
+    → IsGoneSince 0 old.task.space (Some old.past.entries) → Did base old detached (detaching old)
+did_detach base old seen (place, e, since, at, destroys) = record {
   after =
       record {
-        leads = refl;
+        leads = record {
+          place = place;
+          entry = e.«record»;
+          there =
+              slice_get-map (λ (e : Entry). e.«record») old.past.entries place
+              ∙ ap (option_map (λ (e : Entry). e.«record»)) at;
+          destroys = destroys;
+          seen = slice_get_within old.past.entries place e at;
+          after = refl;
+        };
         more = omega (arith, seen);
         within = omega (arith, length-map old.past.entries (λ (e : Entry). e.«record»));
       };
@@ -138,8 +141,33 @@ did_detach base old seen = record {
   same = refl;
 }
 
-pub detaches : (base : State) (old : SessionValue) (amount : ℕ) → IsSession base old amount
-    → IsSession base (detaching old) amount
-detaches base old amount is =
-    did_session base old detached (detaching old) amount amount is.history is (did_detach base old is.seen) refl is.own
-    is.counted
+pub detaches : (base : State) (old : SessionValue) (amount : ℕ) → IsGoneSince 0 old.task.space (Some old.past.entries)
+    → IsSession base old amount → IsSession base (detaching old) amount
+detaches base old amount gone is =
+    did_session base old detached (detaching old) amount amount is.history is (did_detach base old is.seen gone) refl
+    is.own is.counted
+
+-- A session that looked and was then detached was detached.
+pub looked_detached : (base : State) (old mid new : SessionValue) → Did base old looked mid → Did base mid detached new
+    → Did base old detached new
+looked_detached base old mid new look gone = record {
+  after =
+      record {
+        leads = record {
+          place = gone.after.leads.place;
+          entry = gone.after.leads.entry;
+          there = gone.after.leads.there;
+          destroys =
+              subst (λ (space : ℕ). Destroys space gone.after.leads.entry)
+              (ap (λ (s : Session). s.space) look.after.leads) gone.after.leads.destroys;
+          seen = gone.after.leads.seen;
+          after =
+              gone.after.leads.after
+              ∙ ap (λ (s : Session). record s { space = NO_SPACE; seen = new.task.seen }) look.after.leads;
+        };
+        more = omega (arith, look.after.more, gone.after.more);
+        within = gone.after.within;
+      };
+  begins = begins_trans old.past.entries mid.past.entries new.past.entries look.begins gone.begins;
+  same = gone.same ∙ look.same;
+}

@@ -21,7 +21,7 @@ module _ (old ahead new : PastValue) where
   pub caught : (r : Result (Unit {0}) CatchUpFault) → is_ok r ≡ true → IsAfter old ahead
       → OnOk r (new.entries ≡ old.entries ++ drop (length old.entries) ahead.entries)
       → OnOk r (Begins old.entries new.entries × Begins ahead.entries new.entries)
-      → OnOk r (old.blocks < ahead.blocks → new ≡ record ahead { read = 0 }) → Caught old ahead new
+      → OnOk r (old.blocks < ahead.blocks → new ≡ ahead) → Caught old ahead new
   caught (Err fault) is beyond ok begins moved = absurd (cc is)
   caught (Ok _) is (inl earlier) ok begins moved =
       let same : new.entries ≡ ahead.entries = ap (λ (p : PastValue). p.entries) (moved earlier) in
@@ -42,7 +42,7 @@ module _ (old ahead new : PastValue) where
   pub caught_or_same : (r : Result (Unit {0}) CatchUpFault) → IsAfter old ahead
       → OnOk r (new.entries ≡ old.entries ++ drop (length old.entries) ahead.entries)
       → OnOk r (Begins old.entries new.entries × Begins ahead.entries new.entries)
-      → OnOk r (old.blocks < ahead.blocks → new ≡ record ahead { read = 0 }) → OnErr r (new ≡ old)
+      → OnOk r (old.blocks < ahead.blocks → new ≡ ahead) → OnErr r (new ≡ old)
       → Caught old ahead new ⊎ (new ≡ old)
   caught_or_same (Ok done) beyond ok begins moved err = inl (caught (Ok done) refl beyond ok begins moved)
   caught_or_same (Err fault) beyond ok begins moved err = inr err

@@ -4,11 +4,11 @@ use Rattle.std.specs.Prelude.{Result, Ok, Err, IfOk, MatchOption, option_map, if
 use Rattle.std.proofs.lemmas.List.{append_cancel_right}
 use Rattle.codes.specs.declared.kern_return.KernReturn.TheVariants.{InvalidTask}
 use Rattle.codes.specs.declared.name.TheConstants.{NO_SPACE}
+use Rattle.history.proofs.Beginnings.{begins_itself, begins_trans}
 use Rattle.history.specs.Entries.{Begins, records_of}
-use Rattle.history.specs.Pasts.{PastValue}
 use Rattle.history.specs.declared.entry.Entry.{Entry}
 use Rattle.ipc_laws.specs.DetachedLaws.{detached_is_refused}
-use Rattle.ipc_model.specs.calls.Step.{Run, Step, refused, succeeded}
+use Rattle.ipc_model.specs.calls.Step.{Step, Steps, refused, succeeded}
 use Rattle.ipc_model.specs.declared.call.Call.{Call}
 use Rattle.ipc_model.specs.declared.call.Call.TheVariants.{Plain, Numbered, Unnumberable}
 use Rattle.ipc_model.specs.declared.plain_call.PlainCall.TheVariants as call
@@ -41,7 +41,7 @@ made_after base (Some before) now old new c ticket old_made new_made applies did
       did = did;
       all = all;
       kernel = applies.kernel;
-      run = subst (λ (l : List Entry). Run base (records_of l) applies.kernel) same applies.run;
+      run = subst (λ (l : List Entry). Steps base (records_of l) applies.kernel) same applies.run;
       lawful = applies.lawful;
       next = applies.next;
       step = applies.step;
@@ -67,36 +67,37 @@ Strays base old mid =
 
 strayed : (base : State) (old settled mid : SessionValue)
     → record settled.task { space = old.task.space; seen = old.task.seen } ≡ old.task
-    → settled.number ≡ old.number → old.task.seen ≤ settled.task.seen → settled.past ≡ old.past
+    → settled.number ≡ old.number → old.task.seen ≤ settled.task.seen → Begins old.past.entries settled.past.entries
     → Did base settled looked mid → Strays base old mid
-strayed base old settled mid task number seen past did = (
+strayed base old settled mid task number seen begins did = (
   did.same ∙ number,
   ap (λ (s : Session). record s { space = old.task.space; seen = old.task.seen }) did.after.leads ∙ task,
   omega (arith, seen, did.after.more),
   did.after.within,
-  subst (λ (p : PastValue). Begins p.entries mid.past.entries) past did.begins,
+  begins_trans old.past.entries settled.past.entries mid.past.entries begins did.begins,
 )
 
-same_strays : (base : State) (old settled mid : SessionValue) → settled ≡ old → settled.past ≡ old.past
-    → Did base settled looked mid → Strays base old mid
-same_strays base old settled mid same past did =
+same_strays : (base : State) (old settled mid : SessionValue) → settled ≡ old → Did base settled looked mid
+    → Strays base old mid
+same_strays base old settled mid same did =
     strayed base old settled mid
     (ap (λ (s : SessionValue). record s.task { space = old.task.space; seen = old.task.seen }) same)
     (ap (λ (s : SessionValue). s.number) same)
-    (seen_same old settled (ap (λ (s : SessionValue). s.task.seen) same)) past did
+    (seen_same old settled (ap (λ (s : SessionValue). s.task.seen) same))
+    (subst (λ (s : SessionValue). Begins old.past.entries s.past.entries) (sym same)
+    (begins_itself old.past.entries)) did
   where
     seen_same : (old settled : SessionValue) → settled.task.seen ≡ old.task.seen → old.task.seen ≤ settled.task.seen
     seen_same old settled is = omega (arith, is)
 
 pub strays : (base : State) (since : Option ℕ) (kept : Option (List Entry)) (old settled mid : SessionValue)
-    → SettlesBy base since kept old settled → settled.past ≡ old.past → Did base settled looked mid
-    → Strays base old mid
-strays base None kept old settled mid same past did = same_strays base old settled mid same past did
-strays base (Some since) kept old settled mid (inl same) past did = same_strays base old settled mid same.0 past did
-strays base (Some since) kept old settled mid (inr gone) past did =
+    → SettlesBy base since kept old settled → Did base settled looked mid → Strays base old mid
+strays base None kept old settled mid same did = same_strays base old settled mid same did
+strays base (Some since) kept old settled mid (inl same) did = same_strays base old settled mid same.0 did
+strays base (Some since) kept old settled mid (inr gone) did =
     strayed base old settled mid
-    (ap (λ (s : Session). record s { space = old.task.space; seen = old.task.seen }) gone.0.after.leads) gone.0.same
-    gone.0.after.more past did
+    (ap (λ (s : Session). record s { space = old.task.space; seen = old.task.seen }) gone.0.after.leads.after)
+    gone.0.same gone.0.after.more gone.0.begins did
 
 -- A session that is returned to its space is one that looked.
 pub attaches : (base : State) (space : ℕ) (now : SessionValue) (amount : ℕ) → IsSession base now amount

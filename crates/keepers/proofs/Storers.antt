@@ -9,7 +9,7 @@ use Rattle.history.specs.Entries.{Begins, records_of}
 use Rattle.history.proofs.Beginnings.{begins_caught, begins_itself, begins_records, begins_records_length}
 use Rattle.history.specs.declared.entry.Entry.{Entry}
 use Rattle.codes.specs.declared.limits.TheConstants.{MAX_RECORDS}
-use Rattle.ipc_laws.specs.RunLaws.{run_split}
+use Rattle.ipc_laws.specs.RunLaws.{run_split, steps_run}
 use Rattle.ipc_laws.specs.RunsKeep.{one_run}
 use Rattle.ipc_model.specs.calls.Step.{Run}
 use Rattle.ipc_model.specs.declared.record.Record.{Record}
@@ -166,7 +166,8 @@ module _ {D : Type 0} (honest : Type 0) (view : D → View) (base : State) where
         run_split base is.recorded.end (take keeper.stored (records_of keeper.entries))
         (drop keeper.stored (records_of keeper.entries))
         (subst (λ (l : List Record). Run base l is.recorded.end)
-        (sym (take-append-drop keeper.stored (records_of keeper.entries))) is.recorded.run)
+        (sym (take-append-drop keeper.stored (records_of keeper.entries)))
+        (steps_run base is.recorded.end (records_of keeper.entries) is.recorded.run))
 
     here : rest.0 ≡ kept.state
     here =

@@ -7,21 +7,16 @@ use Rattle.history.specs.Entries.{Begins}
 use Rattle.history.specs.declared.entry.Entry.{Entry}
 use Rattle.ipc_model.specs.calls.Step.{has_record, refused}
 use Rattle.ipc_model.specs.declared.call.Call.{Call}
-use Rattle.ipc_model.specs.declared.call.Call.TheVariants.{Plain}
-use Rattle.ipc_model.specs.declared.plain_call.PlainCall.TheVariants as call
-use Rattle.ipc_model.specs.history.History.{detached}
+use Rattle.ipc_model.specs.history.History as history
+use Rattle.ipc_model.specs.history.History.{detached, is_destruction}
 use Rattle.ipc_model.specs.state.State.{State}
 use Rattle.keepers.specs.Keeping.{MadeAfter}
 use Rattle.keepers.specs.Tokens.{SessionValue, Did, IsSession}
 use Rattle.system.specs.Halves.{TicketValue}
 
-abbrev pub is_destruction : Call → Bool
-is_destruction (Plain call.SpaceDestroy) = true
-is_destruction c = false
-
 -- an entry whose record destroyed a space under this number
 abbrev pub Destroys : ℕ → Entry → Type 0
-Destroys space e = (is_destruction e.«record».call ≡ true) × (e.«record».space ≡ space)
+Destroys space e = history.Destroys space e.«record»
 
 -- the number that a table has for a space, 0 where it has none
 abbrev pub count_at : List ℕ → ℕ → ℕ
@@ -65,7 +60,7 @@ IsGoneSince since space (Some entries) =
     (place : ℕ) × (e : Entry) × (since ≤ place) × (slice_get entries place ≡ Some e) × Destroys space e
 
 -- A session that is confined since so many records: it is as it was, and its space wasn't destroyed since; or it was,
--- and the session is detached.
+-- and the session has seen that and is detached.
 abbrev pub SettlesExactly : State → ℕ → Option (List Entry) → SessionValue → SessionValue → Type 0
 SettlesExactly base since entries old new =
     ((new ≡ old) × StaysSince since old.task.space entries)

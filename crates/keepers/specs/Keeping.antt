@@ -4,7 +4,7 @@ use Rattle.std.specs.Coded.{Coded, code_by, coded×, coded_ℕ, coded_option}
 use Rattle.history.specs.Entries.{Begins, records_of}
 use Rattle.history.specs.Pasts.{PastValue, past_code}
 use Rattle.history.specs.declared.entry.Entry.{Entry}
-use Rattle.ipc_model.specs.calls.Step.{Run, Step, has_record}
+use Rattle.ipc_model.specs.calls.Step.{Step, Steps, has_record}
 use Rattle.ipc_model.specs.declared.call.Call.{Call}
 use Rattle.ipc_model.specs.declared.reply.Reply.{Reply}
 use Rattle.ipc_model.specs.history.History.{called}
@@ -115,7 +115,7 @@ pub record Applies (base : State) (number space : ℕ) (seen : List Entry) (c : 
   pub kernel : State
   pub lawful : LawfulState kernel
   pub next : State
-  pub run : Run base (records_of before) kernel
+  pub run : Steps base (records_of before) kernel
   pub step : Step kernel space c ticket.answer next
   pub history : IsHistory base after
   pub seen_is : ticket.seen ≡ length after
@@ -129,7 +129,7 @@ pub record MadeAfter (base : State) (before : List Entry) (old : SessionValue) (
   pub did : Did base old (called c ticket.answer) new
   pub all : new.past.entries ≡ before ++ entries_of_call old.number old.task.space c ticket
   pub kernel : State
-  pub run : Run base (records_of before) kernel
+  pub run : Steps base (records_of before) kernel
   pub lawful : LawfulState kernel
   pub next : State
   pub step : Step kernel old.task.space c ticket.answer next

@@ -7,7 +7,7 @@ use Rattle.history.specs.Entries.{records_of}
 use Rattle.history.specs.contracts.entry.Entry as entry
 use Rattle.history.specs.declared.entry.Entry.{Entry}
 use Rattle.ipc_laws.specs.RunsKeep.{FitCalls}
-use Rattle.ipc_model.specs.calls.Step.{Run}
+use Rattle.ipc_model.specs.calls.Step.{Run, Steps}
 use Rattle.ipc_model.specs.declared.record.Record.{Record}
 use Rattle.ipc_model.specs.state.Circular.{Acyclic}
 use Rattle.ipc_model.specs.state.LawfulState.{LawfulState}
@@ -20,10 +20,10 @@ use Rattle.checkpoint_phases.specs.Phases.{Keeps}
 use Rattle.store_layout.specs.Gates.{StandForState}
 use Rattle.store_half.specs.Values.{CutValue, StoreValue, cut_code, store_code}
 
--- A history whose records a store can hold: a run from the base, of calls and replies that records can hold.
+-- A history whose records a store can hold: steps from the base, of calls and replies that records can hold.
 pub record IsRecorded (base : State) (entries : List Entry) : Type 0 where
   pub end : State
-  pub run : Run base (records_of entries) end
+  pub run : Steps base (records_of entries) end
   pub fit : FitCalls (records_of entries)
   pub records : AreRecords (map canonical_record (records_of entries))
   pub lawful : LawfulState base

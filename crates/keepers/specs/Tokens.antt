@@ -4,7 +4,7 @@ use Rattle.history.specs.Entries.{Begins, records_of}
 use Rattle.std.specs.Coded.{Coded, code_by, coded×, coded_ℕ, coded_list}
 use Rattle.history.specs.Pasts.{PastValue, past_code}
 use Rattle.history.specs.declared.entry.Entry.{Entry}
-use Rattle.ipc_model.specs.calls.Step.{Run}
+use Rattle.ipc_model.specs.calls.Step.{Steps}
 use Rattle.ipc_model.specs.declared.call.Call.{Call}
 use Rattle.ipc_model.specs.declared.reply.Reply.{Reply}
 use Rattle.ipc_model.specs.history.History.{Session, Operation, After, Legal, Meet}
@@ -71,7 +71,7 @@ AreOwn entries number places =
 -- A history that the machine can have made from a state.
 pub record IsHistory (base : State) (entries : List Entry) : Type 0 where
   pub state : State
-  pub run : Run base (records_of entries) state
+  pub run : Steps base (records_of entries) state
 
 -- What holds of each session: what it has seen is a history, in which some operations lead to it from a new session;
 -- its own entries stand at its places, of which there are this many.
@@ -88,14 +88,6 @@ pub record Did (base : State) (old : SessionValue) (operation : Operation) (new 
   pub after : After base (records_of new.past.entries) old.task operation new.task
   pub begins : Begins old.past.entries new.past.entries
   pub same : new.number ≡ old.number
-
--- A session that has read this many records of its entry block is otherwise the same.
-abbrev pub HasRead : SessionValue → ℕ → SessionValue → Type 0
-HasRead old count new = new ≡ record old { past = record old.past { read = count } }
-
--- What was read of an entry block stays read as long as the session stays in the block.
-pub record KeepsRead (old new : PastValue) : Type 0 where
-  pub reads : new.blocks ≡ old.blocks → old.read ≤ new.read
 
 -- Two sessions met. Both have then seen the same, of which what either had seen is a prefix, and no place belongs to
 -- both.

@@ -1,6 +1,7 @@
 ghost use Rattle.std.specs.Prelude.{◌≡◌, ◌≤◌, ◌==◌, ℕ, nat_lt, true, if◌then◌else◌, IfOk};
 ghost use Rattle.codes.specs.declared.limits.TheConstants.{MAX_SPACES};
-ghost use Rattle.keepers.specs.Destroying.{IsNoted, count_at, is_destruction, is_noted};
+ghost use Rattle.ipc_model.specs.history.History.{is_destruction};
+ghost use Rattle.keepers.specs.Destroying.{IsNoted, count_at, is_noted};
 
 use codes::MAX_SPACES;
 use ipc_model::{Call, PlainCall};

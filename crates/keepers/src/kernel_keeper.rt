@@ -5,7 +5,7 @@ ghost use Rattle.ipc_model.specs.state.Circular.{Acyclic};
 ghost use Rattle.ipc_model.specs.state.LawfulState.{LawfulState};
 ghost use Rattle.keepers.specs.Destroying.{MadeSince, SettlesBy, SettlesExactly, count_at};
 ghost use Rattle.keepers.specs.Keeping.{Ends, IsApart, IsSame, Loads, MadeAfter, Makes, blocks_in, entries_in, first_core};
-ghost use Rattle.keepers.specs.Tokens.{Did, IsHistory, KeepsRead};
+ghost use Rattle.keepers.specs.Tokens.{Did, IsHistory};
 ghost use Rattle.system.specs.Halves.{CanCut, CannotTake, IsFullFor, with_receipt};
 ghost use Rattle.waiting.specs.Places.{names};
 ghost use Rattle.waiting.specs.CallPlaces.{places_of_call};
@@ -115,7 +115,6 @@ impl<L: Founding> KernelKeeper<L> {
         ensures full { IsErrOf result.1 SessionFault.EpochFull → IsFullFor self.old.core.half session.task.space call.now }
         ensures apart { IsErrOf result.1 SessionFault.Apart → IsApart self.old.core.past session.past }
         ensures err { OnErr result.1 (Did L.base session looked result.0 × (self.new ≡ self.old)) }
-        ensures reads { KeepsRead session.past result.0.past }
     {
         let Session { own_state, past } = session;
         let before = self.core.made();
@@ -156,10 +155,12 @@ impl<L: Founding> KernelKeeper<L> {
             (λ ticket. Wakes self.old.core.half.kernel.ipc self.new.core.half.kernel.ipc (names places.new)) }
         ensures made { IfOk result.1 (λ ticket. MadeSince L.base since session call.now ticket result.0) }
         ensures err { OnErr result.1 (Did L.base session looked result.0 × (self.new ≡ self.old)) }
-        ensures reads { KeepsRead session.past result.0.past }
     {
         let space = session.own_state.space;
-        let session = self.settle_since(session, since);
+        let (session, settled) = self.settle_since(session, since);
+        if let Err(fault) = settled {
+            return (session, Err(fault));
+        }
         let (session, made) = self.submit(session, call, places);
         match made {
             Ok(ticket) => (session, Ok(ticket)),
@@ -167,28 +168,54 @@ impl<L: Founding> KernelKeeper<L> {
         }
     }
 
-    /// The session with which a call is made now.
-    fn settle_since(&self, session: Session<L>, since: Option<u64>) -> Session<L>
-        ensures settled { SettlesBy L.base since (entries_in self.now.core) session result }
-        ensures past { result.past ≡ session.past }
+    /// Returns the session with which a call is made now. At a fault the session stays in its space.
+    fn settle_since(
+        &mut self,
+        session: Session<L>,
+        since: Option<u64>,
+    ) -> (Session<L>, Result<(), SessionFault>)
+        ensures same { self.new ≡ self.old }
+        ensures settled { OnOk result.1 (SettlesBy L.base since (entries_in self.old.core) session result.0) }
+        ensures err { OnErr result.1 (Did L.base session looked result.0) }
     {
         match since {
             Some(count) => self.settle(session, count),
-            None => session,
+            None => (session, Ok(())),
         }
     }
 
-    /// The session of a task that is confined to its space since so many records were made. If the space was destroyed
-    /// after these, it is detached, whether or not there is a new space under the number.
-    fn settle(&self, session: Session<L>, since: u64) -> Session<L>
-        ensures settled { SettlesExactly L.base since (entries_in self.now.core) session result }
-        ensures past { result.past ≡ session.past }
+    /// Settles the session of a task that is confined to its space since so many records were made. If the space was
+    /// destroyed after these, the session learns all of the history and is detached, whether or not there is a new space
+    /// under the number.
+    fn settle(
+        &mut self,
+        session: Session<L>,
+        since: u64,
+    ) -> (Session<L>, Result<(), SessionFault>)
+        ensures same { self.new ≡ self.old }
+        ensures settled { OnOk result.1 (SettlesExactly L.base since (entries_in self.old.core) session result.0) }
+        ensures err { OnErr result.1 (Did L.base session looked result.0) }
     {
-        if self.destructions.has_since(session.own_state.space, since) {
-            session.detach()
-        } else {
-            session
+        if !self.destructions.has_since(session.own_state.space, since) {
+            return (session, Ok(()));
         }
+        let (session, learned) = self.show(session);
+        match learned {
+            Ok(()) => (session.detach(), Ok(())),
+            Err(fault) => (session, Err(fault)),
+        }
+    }
+
+    /// Makes a session learn all of the history.
+    fn show(&mut self, session: Session<L>) -> (Session<L>, Result<(), SessionFault>)
+        ensures same { self.new ≡ self.old }
+        ensures looked { Did L.base session looked result.0 }
+        ensures level { OnOk result.1 (entries_in self.old.core ≡ Some result.0.past.entries) }
+    {
+        let Session { own_state, past } = session;
+        let mut past = past;
+        let learned = self.core.show(&mut past);
+        (Session { own_state, past }, learned)
     }
 
     /// The places where a call of a session waits if it finds nothing to do. `None`: an allocation failed, or it is a

@@ -25,7 +25,7 @@ mod store_keeper;
 pub use admissions::{Admission, Admissions, MOST_SESSIONS};
 pub use destructions::Destructions;
 pub use fault::{NotBegun, NotStored};
-pub use history::{CatchUpFault, EntryBlock, Founding, Past};
+pub use history::{CatchUpFault, EntryBlock, EntryNote, Founding, Past};
 pub use kernel_keeper::KernelKeeper;
 pub use latest::Latest;
 pub use laws::no_space_is_refused;

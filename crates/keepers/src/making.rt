@@ -5,7 +5,7 @@ ghost use Rattle.ipc_model.specs.state.Circular.{Acyclic};
 ghost use Rattle.ipc_model.specs.state.LawfulState.{LawfulState};
 ghost use Rattle.keepers.specs.Destroying.{DestroysKnown};
 ghost use Rattle.keepers.specs.Keeping.{Applies, Ends, IsApart, IsSame, Learns, Loads, Makes, blocks_in, both_learned, entries_in, entries_of_call, first_core, first_number};
-ghost use Rattle.keepers.specs.Tokens.{IsHistory, KeepsRead};
+ghost use Rattle.keepers.specs.Tokens.{IsHistory};
 ghost use Rattle.system.specs.Halves.{CanCut, CannotTake, Gives, IsFullFor, with_receipt};
 ghost use Rattle.waiting.specs.Places.{names};
 ghost use Rattle.waiting.specs.Waiting.{Wakes};
@@ -122,7 +122,6 @@ impl<L: Founding> KernelCore<L> {
         ensures full { IsErrOf result.1 SessionFault.EpochFull → IsFullFor self.old.half space call.now }
         ensures apart { IsErrOf result.1 SessionFault.Apart → IsApart self.old.past seen }
         ensures err { OnErr result.1 (Learns L.base seen.entries result.0.entries × (self.new ≡ self.old)) }
-        ensures reads { KeepsRead seen result.0 }
     {
         let Some(kept) = self.past.take() else {
             unreachable!()
@@ -139,6 +138,19 @@ impl<L: Founding> KernelCore<L> {
         );
         self.past = Some(kept);
         (mine, made)
+    }
+
+    /// Makes a session learn all of the history. Nothing else changes.
+    pub(crate) fn show(&mut self, seen: &mut Past<L>) -> Result<(), SessionFault>
+        requires { IsHistory L.base seen.old.entries }
+        ensures same { self.new ≡ self.old }
+        ensures level { OnOk result (entries_in self.old ≡ Some seen.new.entries) }
+        ensures learns { Learns L.base seen.old.entries seen.new.entries }
+    {
+        let Some(past) = &mut self.past else {
+            unreachable!()
+        };
+        level(seen, past)
     }
 
     /// Takes records that wait to be stored, with the history up to them. `None` while a load is out, or if no record
@@ -310,7 +322,6 @@ fn apply_with_witness<L: Founding>(
         ++ entries_of_call number space call.now ticket) }
     ensures seen { OnOk result.2 (result.1.entries ≡ result.0.entries) }
     ensures begins { Begins seen.entries result.1.entries }
-    ensures reads { KeepsRead seen result.1 }
     ensures more { OnOk result.2 (Begins seen.entries kept.entries) }
     ensures full { IsErrOf result.2 SessionFault.EpochFull → IsFullFor half.old space call.now }
     ensures apart { IsErrOf result.2 SessionFault.Apart → IsApart (Some kept) seen }
@@ -388,7 +399,6 @@ fn level<L: Founding>(mine: &mut Past<L>, kept: &mut Past<L>) -> Result<(), Sess
     ensures blocks { OnOk result (mine.new.blocks ≡ kept.old.blocks) }
     ensures level { OnOk result (mine.new.entries ≡ kept.old.entries) }
     ensures begins { Begins mine.old.entries mine.new.entries }
-    ensures reads { KeepsRead mine.old mine.new }
     ensures full { IsErrOf result SessionFault.EpochFull → ⊥ }
     ensures apart { IsErrOf result SessionFault.Apart → IsApart (Some kept.old) mine.old }
     ensures err { OnErr result ((mine.new.entries ≡ mine.old.entries) ⊎ (mine.new.entries ≡ kept.old.entries)) }

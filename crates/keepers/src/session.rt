@@ -1,18 +1,17 @@
-ghost use Rattle.std.specs.Prelude.{◌≡◌, ◌≢◌, ◌⊎◌, ◌+◌, ◌≤◌, ◌<◌, ◌-◌, Some, length, option_map, slice_get, IfOk, IfErr, IsErrOf, MatchOption, OnOk, OnErr};
+ghost use Rattle.std.specs.Prelude.{◌≡◌, ◌≢◌, ◌⊎◌, ◌+◌, ◌≤◌, ◌<◌, Some, true, is_some, length, option_map, slice_get, IfOk, IfErr, IsErrOf, MatchOption, OnOk, OnErr};
 ghost use Rattle.codes.specs.declared.limits.TheConstants.{MAX_FRAME_CONTENT};
 ghost use Rattle.ipc_model.specs.history.History.{detached, looked, redemption};
 ghost use Rattle.ipc_model.specs.encodings.Encodings.{reply_encoding};
-ghost use Rattle.keepers.specs.Destroying.{WasIn};
-ghost use Rattle.keepers.specs.Tokens.{Did, HasRead, IsAfter, KeepsRead, attached_to};
+ghost use Rattle.keepers.specs.Destroying.{IsGoneSince, WasIn};
+ghost use Rattle.keepers.specs.Tokens.{Did, IsAfter, attached_to};
 
 use crate::acknowledged::Acknowledged;
 use crate::latest::Latest;
 use crate::meeting::is_after;
 use boxcar::tag::Tag;
 use codes::NO_SPACE;
-use history::{CatchUpFault, Founding, Mark, Past, Stored};
+use history::{CatchUpFault, EntryNote, Founding, Mark, Past, Stored};
 use ipc_model::{Record, Reply};
-use std::alloc::AllocError;
 use std::marker::Model;
 use std::sync::ledger::Share;
 use system::Ticket;
@@ -102,7 +101,6 @@ impl<L: Founding> Session<L> {
         ensures fits { IfOk result.1 (λ reply. length (reply_encoding reply) ≤ MAX_FRAME_CONTENT) }
         ensures back { IfErr result.1 (λ kept. (kept ≡ ticket) × (result.0 ≡ self)) }
         ensures early { OnErr result.1 ((self.task.seen < ticket.seen) ⊎ (stored < ticket.seen)) }
-        ensures reads { KeepsRead self.past result.0.past }
     {
         let mut session = self;
         let seen = ticket.seen();
@@ -125,11 +123,11 @@ impl<L: Founding> Session<L> {
         let _ = &self.own_state;
     }
 
-    /// Its space has gone: its task is attached to none from then on, also where a new space gets the number.
+    /// Its space was destroyed: its task is attached to none from then on, also where a new space gets the number.
     pub(crate) fn detach(self) -> Self
+        requires { IsGoneSince 0 self.task.space (Some self.past.entries) }
         ensures detached { Did L.base self detached result }
         ensures past { result.past ≡ self.past }
-        ensures reads { KeepsRead self.past result.past }
     {
         let mut session = self;
         session.own_state.space = NO_SPACE;
@@ -166,23 +164,24 @@ impl<L: Founding> Session<L> {
         self.past.catch_up(&mut latest.past)
     }
 
-    /// Reads the records of the entry block that it saw last. It takes no lock. If an allocation fails, what was read
-    /// stays.
-    pub fn read(&mut self) -> Result<(), AllocError>
-        ensures ok { OnOk result (HasRead self.old (length self.old.past.entries - self.old.past.start) self.new) }
-        ensures err { OnErr result (HasRead self.old self.new.past.read self.new
-            × (self.old.past.read ≤ self.new.past.read)) }
+    /// Returns what it knows of the record at a place of the entry block that it saw last, or `None` if it has seen none
+    /// there. It takes neither lock nor memory.
+    pub fn note(&mut self, at: usize) -> Option<EntryNote>
+        ensures same { self.new ≡ self.old }
+        ensures note { MatchOption result (length self.old.past.entries ≤ self.old.past.start + at)
+            (λ note. (slice_get self.old.past.block.cells at ≡ Some note.cell)
+            × (slice_get self.old.past.entries (self.old.past.start + at) ≡ note.known)
+            × (is_some note.known ≡ true)) }
     {
-        self.past.read()
+        self.past.note(at)
     }
 
-    /// The record at a place of the entry block that it saw last, if it was read. It takes neither lock nor memory.
-    pub fn record(&self, at: usize) -> Option<&Record>
-        ensures { MatchOption result (self.now.past.read ≤ at)
-            (λ r. (at < self.now.past.read)
-            × (option_map (λ e. e.record) (slice_get self.now.past.entries (self.now.past.start + at))
-            ≡ Some r.now)) }
+    /// Returns the record of which it has this note. It takes neither lock nor memory.
+    pub fn record(&self, at: usize, note: EntryNote) -> &Record
+        requires cell { slice_get self.now.past.block.cells at ≡ Some note.cell }
+        requires known { is_some note.known ≡ true }
+        ensures { option_map (λ e. e.record) note.known ≡ Some result.now }
     {
-        self.past.record(at)
+        self.past.record(at, note)
     }
 }

@@ -4,7 +4,7 @@ use Rattle.disk.specs.Moments.{View, MayLeave}
 use Rattle.disk.specs.Slots.{Slots}
 use Rattle.history.specs.Entries.{records_of}
 use Rattle.history.specs.declared.entry.Entry.{Entry}
-use Rattle.ipc_model.specs.calls.Step.{Run}
+use Rattle.ipc_model.specs.calls.Step.{Steps}
 use Rattle.ipc_model.specs.history.History.{Sessions, IsLegalHistory}
 use Rattle.ipc_model.specs.history.Once.{Once}
 use Rattle.ipc_model.specs.state.State.{State}
@@ -21,7 +21,7 @@ pub record AreLegal (base : State) (entries : List Entry) (sessions : List Sessi
 -- A history in which numbered calls are made once.
 pub record IsMadeOnce (base : State) (entries : List Entry) : Type 0 where
   pub end : State
-  pub run : Run base (records_of entries) end
+  pub run : Steps base (records_of entries) end
   pub once : Once base (records_of entries) end
 
 -- A crash leaves the state after a prefix of a history's records, no fewer than are stored.

@@ -43,7 +43,7 @@ pub fn close<L: Founding, D: Disk, G: Drop>(
     admissions: Admissions<L>,
 ) -> Result<Book<L, D>, Unmatched<D>>
     ensures history { IfOk result (λ book. IsHistory L.base book.past.entries) }
-    ensures once { IfOk result (λ book. LawfulState L.base → IsMadeOnce L.base book.past.entries) }
+    ensures once { IfOk result (λ book. IsMadeOnce L.base book.past.entries) }
     ensures seen { IfOk result (λ book. All (λ session. Begins session.past.entries book.past.entries) sessions.items) }
     ensures ascend { IfOk result (λ book. AllPairs (λ one other. one.number < other.number) sessions.items) }
     ensures apart { IfOk result (λ book. AreApart (tasks_of sessions.items)) }

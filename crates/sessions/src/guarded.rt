@@ -1,7 +1,7 @@
 ghost use Rattle.std.specs.Prelude.{◌≡◌, IfOk, OnErr};
 ghost use Rattle.ipc_model.specs.history.History.{looked};
 ghost use Rattle.keepers.specs.Destroying.{MadeSince};
-ghost use Rattle.keepers.specs.Tokens.{Did, KeepsRead};
+ghost use Rattle.keepers.specs.Tokens.{Did};
 
 use crate::seat::Worker;
 use crate::waiters::{Waiter, Waiters};
@@ -67,7 +67,6 @@ impl<L: Founding> KernelGuarded<L> {
     ) -> (Session<L>, Result<Ticket, SubmitFault>)
         ensures made { IfOk result.1 (λ ticket. MadeSince L.base since session call.now ticket result.0) }
         ensures err { OnErr result.1 (Did L.base session looked result.0) }
-        ensures reads { KeepsRead session.past result.0.past }
     {
         let waiter = self.waiters.take(session.number());
         // If no call waits, no place needs to be looked for.

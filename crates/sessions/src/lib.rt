@@ -19,7 +19,7 @@ pub use closing::{Book, Unmatched, close};
 pub use gate::{Gate, LoopStep, OpenGate};
 pub use history::NewMark;
 pub use keepers::{
-    Admission, Admissions, CatchUpFault, EntryBlock, Founding, Latest, MOST_SESSIONS, MeetFault,
+    Admission, Admissions, CatchUpFault, EntryBlock, EntryNote, Founding, Latest, MOST_SESSIONS, MeetFault,
     Session, Unmet, meet,
 };
 pub use replies::Report;

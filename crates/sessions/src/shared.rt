@@ -4,7 +4,7 @@ ghost use Rattle.codes.specs.declared.limits.TheConstants.{MAX_FRAME_CONTENT};
 ghost use Rattle.codes.specs.declared.name.TheConstants.{FIRST_SPACE};
 ghost use Rattle.ipc_model.specs.history.History.{called, looked, redemption};
 ghost use Rattle.ipc_model.specs.encodings.Encodings.{reply_encoding};
-ghost use Rattle.keepers.specs.Tokens.{Did, KeepsRead};
+ghost use Rattle.keepers.specs.Tokens.{Did};
 
 use crate::guarded::KernelGuarded;
 use crate::replies::{Replies, Report};
@@ -150,7 +150,6 @@ impl<L: Founding, D: Disk, G: Drop> Shared<L, D, G> {
         ensures given { IfOk result.1 (λ ticket. Did L.base session (called call.now ticket.answer) result.0
             × (ticket.seen ≡ result.0.task.seen)) }
         ensures err { OnErr result.1 (Did L.base session looked result.0) }
-        ensures reads { KeepsRead session.past result.0.past }
     {
         let mut turn = self.begin_turn(rt);
         let (session, made) = turn.guarded.submit(session, None, call, None);
@@ -282,7 +281,6 @@ impl<L: Founding, D: Disk, G: Drop> Shared<L, D, G> {
             (λ reply. (reply ≡ ticket.answer) × Did L.base session (redemption session.task ticket.seen) result.0) }
         ensures fits { IfOk result.1 (λ reply. length (reply_encoding reply) ≤ MAX_FRAME_CONTENT) }
         ensures err { OnErr result.1 (result.0 ≡ session) }
-        ensures reads { KeepsRead session.past result.0.past }
     {
         let mut session = session;
         let stored = self.stored_for(rt, &mut session, ticket.seen());
@@ -327,7 +325,6 @@ impl<L: Founding, D: Disk, G: Drop> Shared<L, D, G> {
             (λ reply. (reply ≡ ticket.answer) × Did L.base session (redemption session.task ticket.seen) result.0) }
         ensures fits { IfOk result.1 (λ reply. length (reply_encoding reply) ≤ MAX_FRAME_CONTENT) }
         ensures err { OnErr result.1 (result.0 ≡ session) }
-        ensures reads { KeepsRead session.past result.0.past }
     {
         let stored = report.stored(&self.mark);
         self.redeem_by(rt, session, ticket, stored)
@@ -345,7 +342,6 @@ impl<L: Founding, D: Disk, G: Drop> Shared<L, D, G> {
             (λ reply. (reply ≡ ticket.answer) × Did L.base session (redemption session.task ticket.seen) result.0) }
         ensures fits { IfOk result.1 (λ reply. length (reply_encoding reply) ≤ MAX_FRAME_CONTENT) }
         ensures err { OnErr result.1 (result.0 ≡ session) }
-        ensures reads { KeepsRead session.past result.0.past }
     {
         let (session, acknowledged) = session.redeem(ticket, stored);
         match acknowledged {

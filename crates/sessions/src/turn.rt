@@ -2,7 +2,7 @@
 ghost use Rattle.std.specs.Prelude.{IfOk, OnErr};
 ghost use Rattle.ipc_model.specs.history.History.{looked};
 ghost use Rattle.keepers.specs.Destroying.{MadeSince};
-ghost use Rattle.keepers.specs.Tokens.{Did, KeepsRead};
+ghost use Rattle.keepers.specs.Tokens.{Did};
 
 use crate::guarded::KernelGuarded;
 use crate::seat::{Peer, Seat, Worker};
@@ -100,7 +100,6 @@ impl<'a, L: Founding> Turn<'a, L> {
     ) -> (Session<L>, Result<Ticket, NotMade>)
         ensures made { IfOk result.1 (λ ticket. MadeSince L.base since session call.now ticket result.0) }
         ensures err { OnErr result.1 (Did L.base session looked result.0) }
-        ensures reads { KeepsRead session.past result.0.past }
     {
         // With the lock held, since whatever is sent now is sent after this check.
         if is_receive(call) && seat.peer().is_gone() {

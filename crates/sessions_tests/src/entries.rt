@@ -35,9 +35,10 @@ pub(crate) fn add_to_both<L: FirstBlock>(
     Some(past.add_to_both(other, entry_of(space)))
 }
 
-/// The space of the call at a place of the entry block, if it was read.
-pub(crate) fn space_at<L: FirstBlock>(past: &Past<L>, at: usize) -> Option<u32> {
-    Some(past.record(at)?.space)
+/// Returns the space of the call at a place of the entry block, if it has one there.
+pub(crate) fn space_at<L: FirstBlock>(past: &mut Past<L>, at: usize) -> Option<u32> {
+    let note = past.note(at)?;
+    Some(past.record(at, note).space)
 }
 
 /// An entry block of `capacity` cells.

@@ -19,7 +19,6 @@ fn tried<L: FirstBlock>(mut past: Past<L>, space: u32) -> (bool, Past<L>) {
 /// The space of the first call that one learns of another.
 fn first_of<L: FirstBlock>(shorter: &mut Past<L>, longer: &mut Past<L>) -> Option<u32> {
     let _ = shorter.catch_up(longer);
-    let _ = shorter.read();
     space_at(shorter, 0)
 }
 

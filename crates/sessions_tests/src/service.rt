@@ -88,8 +88,8 @@ impl<L: Founding + Send + Sync, D: Disk + Drop, G: Gate> Service for Admitting<L
     }
 
     fn name_read(session: &mut Session<L>, at: usize) -> Option<u32> {
-        session.read().ok()?;
-        match session.record(at)?.reply {
+        let note = session.note(at)?;
+        match session.record(at, note).reply {
             Reply::Plain(PlainReply::Allocate { name }) => Some(name),
             _ => None,
         }

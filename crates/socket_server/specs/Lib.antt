@@ -1,3 +1,4 @@
+pub mod Closing
 pub mod Confining
 pub mod Connecting
 pub mod Reporting

@@ -1,15 +1,17 @@
 //! One connection, as a worker sees it.
+ghost use Rattle.std.specs.Prelude.{◌≡◌, true, is_some, length};
+ghost use Rattle.frame_service.specs.Conversing.{Kept, over_of};
+ghost use Rattle.socket_server.specs.Closing.{IsOver};
+
 use crate::replies::ReplyFrame;
-use crate::standing::{Awaits, Progress, Standing};
+use crate::standing::{Awaits, Failure, Progress, Standing};
 use crate::{Asked, Connected, Stream};
 use disk::Disk;
 use frame_service::{Asker, Conversation};
-use mio::unix::SourceFd;
-use mio::{Interest, Registry, Token};
+use mio::{Registry, Token};
 use sessions::{Founding, OpenGate, Peer};
 use std::alloc::Global;
 use std::collections::BTreeMap;
-use std::os::fd::AsRawFd;
 use std::sync::Wait;
 
 /// How many times a connection is read in one round, at most.
@@ -70,7 +72,9 @@ pub(crate) struct Client<T> {
 
 impl<A: Served> Client<Talk<A>> {
     /// Creates a connection and registers it with `registry`.
-    pub(crate) fn new(talk: Talk<A>, registry: &Registry) -> Self {
+    pub(crate) fn new(talk: Talk<A>, registry: &Registry) -> Self
+        ensures { result.talk ≡ talk }
+    {
         let mut client = Client {
             talk,
             standing: Standing::new(),
@@ -89,31 +93,33 @@ impl<A: Served> Client<Talk<A>> {
         self.talk.asker().stream()
     }
 
-    fn register(&mut self, registry: &Registry) {
-        let descriptor = self.stream().socket().as_raw_fd();
+    fn register(&mut self, registry: &Registry)
+        ensures { self.new.talk ≡ self.old.talk }
+    {
         let token = Token(self.number() as usize);
-        let registered = registry.register(&mut SourceFd(&descriptor), token, Interest::READABLE);
-        self.standing.note_outcome(registered.is_ok());
+        if self.stream().register(registry, token).is_err() {
+            self.standing.note_failure(Failure::Registration);
+        }
     }
 
     /// Has room reported, or no longer.
-    fn report_room(&mut self, registry: &Registry, awaits_room: bool) {
+    fn report_room(&mut self, registry: &Registry, awaits_room: bool)
+        ensures { self.new.talk ≡ self.old.talk }
+    {
         if !self.standing.note_room(awaits_room) {
             return;
         }
-        let descriptor = self.stream().socket().as_raw_fd();
         let token = Token(self.number() as usize);
-        let interest = if awaits_room {
-            Interest::READABLE | Interest::WRITABLE
-        } else {
-            Interest::READABLE
-        };
-        let registered = registry.reregister(&mut SourceFd(&descriptor), token, interest);
-        self.standing.note_outcome(registered.is_ok());
+        if self.stream().report_room(registry, token, awaits_room).is_err() {
+            self.standing.note_failure(Failure::Registration);
+        }
     }
 
     /// Reads what there is.
-    pub(crate) fn read(&mut self) {
+    pub(crate) fn read(&mut self)
+        ensures keeps { Kept ⟦<Stream as Read>⟧.remaining ⟦<Stream as Write>⟧.contents A.answer A.makes A.lacks
+            A.acknowledges A.fails A.looks self.old.talk self.new.talk }
+    {
         self.note_gone();
         for _ in 0..MOST_READS {
             if !self.standing.may_read(self.talk.ahead()) {
@@ -124,10 +130,11 @@ impl<A: Served> Client<Talk<A>> {
     }
 
     /// After an event, notes whether the peer has gone while a call of it waits.
-    fn note_gone(&mut self) {
-        if self.standing.take_event() && self.waits() {
-            let is_gone = self.stream().is_gone();
-            self.standing.note_outcome(!is_gone);
+    fn note_gone(&mut self)
+        ensures { self.new.talk ≡ self.old.talk }
+    {
+        if self.standing.take_event() && self.waits() && self.stream().is_gone() {
+            self.standing.note_failure(Failure::HungUp);
         }
     }
 
@@ -137,7 +144,11 @@ impl<A: Served> Client<Talk<A>> {
     }
 
     /// Returns how far its conversation has come.
-    fn progress(&self) -> Progress {
+    fn progress(&self) -> Progress
+        ensures unsent { result.unsent ≡ length self.now.talk.outbox.bytes }
+        ensures ended { result.has_ended ≡ is_some (over_of self.now.talk.fault self.now.talk.pending.frames.items
+            self.now.talk.input_end) }
+    {
         let awaited = match self.talk.awaited() {
             Some(ticket) => Some(A::seen(ticket)),
             None => None,
@@ -157,7 +168,10 @@ impl<A: Served> Client<Talk<A>> {
     }
 
     /// Makes the calls that can be made now, in this turn, which it gives back if it is still held.
-    pub(crate) fn work(&mut self, alloc: Global, turn: A::Turn) -> Option<A::Turn> {
+    pub(crate) fn work(&mut self, alloc: Global, turn: A::Turn) -> Option<A::Turn>
+        ensures keeps { Kept ⟦<Stream as Read>⟧.remaining ⟦<Stream as Write>⟧.contents A.answer A.makes A.lacks
+            A.acknowledges A.fails A.looks self.old.talk self.new.talk }
+    {
         let turn = self.make_calls(alloc, turn);
         let is_in_line = match &turn {
             Some(turn) => A::is_waiting(turn, self.number()),
@@ -168,7 +182,10 @@ impl<A: Served> Client<Talk<A>> {
         turn
     }
 
-    fn make_calls(&mut self, alloc: Global, turn: A::Turn) -> Option<A::Turn> {
+    fn make_calls(&mut self, alloc: Global, turn: A::Turn) -> Option<A::Turn>
+        ensures keeps { Kept ⟦<Stream as Read>⟧.remaining ⟦<Stream as Write>⟧.contents A.answer A.makes A.lacks
+            A.acknowledges A.fails A.looks self.old.talk self.new.talk }
+    {
         if !self.waits() {
             return self.talk.take(alloc, turn);
         }
@@ -184,16 +201,17 @@ impl<A: Served> Client<Talk<A>> {
         reply: &mut ReplyFrame,
         known: &mut A::Known,
         registry: &Registry,
-    ) {
-        if self.standing.has_failed() {
-            return;
-        }
+    )
+        ensures keeps { Kept ⟦<Stream as Read>⟧.remaining ⟦<Stream as Write>⟧.contents A.answer A.makes A.lacks
+            A.acknowledges A.fails A.looks self.old.talk self.new.talk }
+    {
         let earlier = self.talk.unsent();
         let answered = reply.answer(&mut self.talk, known);
-        self.standing.note_outcome(answered.is_ok());
         let before = self.talk.unsent();
         let flushed = self.talk.flush();
-        self.standing.note_outcome(flushed.is_ok());
+        if answered.is_err() || flushed.is_err() {
+            self.standing.note_failure(Failure::Step);
+        }
         let left = self.talk.unsent();
         self.standing
             .note_sent(earlier == 0 || left != before, left != 0);
@@ -201,7 +219,10 @@ impl<A: Served> Client<Talk<A>> {
     }
 
     /// Brings its session up to date with the history. It makes no call.
-    pub(crate) fn look(&mut self, latest: &mut A::Latest) {
+    pub(crate) fn look(&mut self, latest: &mut A::Latest)
+        ensures keeps { Kept ⟦<Stream as Read>⟧.remaining ⟦<Stream as Write>⟧.contents A.answer A.makes A.lacks
+            A.acknowledges A.fails A.looks self.old.talk self.new.talk }
+    {
         self.talk.look(latest);
     }
 
@@ -210,8 +231,23 @@ impl<A: Served> Client<Talk<A>> {
         self.standing.awaits(self.progress())
     }
 
-    /// Closes its socket.
-    pub(crate) fn close(&self) {
+    /// Returns true if it may be closed: its conversation has ended and the peer accepted all output; it failed; or the
+    /// peer accepted nothing for too long.
+    pub(crate) fn is_over(&self) -> bool
+        ensures { result ≡ true → IsOver self.now.talk self.now.standing }
+    {
+        match self.standing.awaits(self.progress()) {
+            Awaits::End => true,
+            _ => false,
+        }
+    }
+
+    /// Closes a connection that is over.
+    pub(crate) fn end(self)
+    where
+        A: Drop,
+        requires { IsOver self.talk self.standing }
+    {
         self.stream().close();
     }
 }

@@ -1,6 +1,7 @@
 //! Where a worker encodes replies.
 ghost use Rattle.std.specs.Prelude.{◌≤◌};
 ghost use Rattle.codes.specs.declared.limits.TheConstants.{MAX_FRAME_CONTENT};
+ghost use Rattle.frame_service.specs.Conversing.{Kept};
 
 use codes::MAX_FRAME_CONTENT;
 use frame_service::{Asker, Conversation, ServeFault};
@@ -27,7 +28,10 @@ impl ReplyFrame {
         &mut self,
         talk: &mut Conversation<S, W, A>,
         known: &mut A::Known,
-    ) -> Result<(), ServeFault> {
+    ) -> Result<(), ServeFault>
+        ensures keeps { Kept S.remaining W.contents A.answer A.makes A.lacks A.acknowledges A.fails A.looks talk.old
+            talk.new }
+    {
         talk.answer(&mut self.frame, known)
     }
 }

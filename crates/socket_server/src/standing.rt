@@ -1,4 +1,6 @@
 //! What a worker knows of a connection, besides its conversation.
+ghost use Rattle.std.specs.Prelude.{◌≡◌, Some};
+ghost use Rattle.socket_server.specs.Closing.{MayClose};
 
 use frame_service::{Filled, Tried};
 use std::mem;
@@ -51,6 +53,17 @@ impl Awaits {
     }
 }
 
+/// Why a connection is closed though its conversation hasn't ended.
+#[derive(Clone, Copy, PartialEq, Eq)]
+pub(crate) enum Failure {
+    /// A step of the conversation failed.
+    Step,
+    /// Its socket can't be registered.
+    Registration,
+    /// Its peer hung up while a call waited.
+    HungUp,
+}
+
 /// How far a conversation has come.
 #[derive(Clone, Copy)]
 pub(crate) struct Progress {
@@ -76,16 +89,17 @@ pub(crate) struct Standing {
     lacks_memory: bool,
     awaits_room: bool,
 
-    // Whether its call's turn has come, whether the call waits in no line, since an allocation failed, and whether the
-    // connection failed.
+    // Whether its call's turn has come, and whether the call waits in no line, since an allocation failed.
     has_turn: bool,
     has_no_line: bool,
-    has_failed: bool,
+
+    /// Why it failed, if it did.
+    pub(crate) failure: Option<Failure>,
 
     // The deadline of its timer; what its time is over for; and whether what it waits for has just begun, so that the
     // timer is set anew.
     timer: Option<(u64, Timed)>,
-    over: Option<Timed>,
+    pub(crate) over: Option<Timed>,
     begins: bool,
 
     /// Whether it is among the runnable sessions, and among those that ran in this round.
@@ -103,7 +117,7 @@ impl Standing {
             awaits_room: false,
             has_turn: false,
             has_no_line: false,
-            has_failed: false,
+            failure: None,
             timer: None,
             over: None,
             begins: false,
@@ -160,7 +174,7 @@ impl Standing {
 
     /// Returns true if there is a call to be made.
     pub(crate) fn has_work(&self, progress: Progress) -> bool {
-        if self.has_failed || progress.unsent != 0 {
+        if self.failure.is_some() || progress.unsent != 0 {
             return false;
         }
         if progress.waits.is_some() {
@@ -181,7 +195,11 @@ impl Standing {
     pub(crate) fn note_tried(&mut self, tried: Tried, may_wait: bool) {
         match tried {
             Tried::Settled => {}
-            Tried::Waits => self.note_outcome(may_wait),
+            Tried::Waits => {
+                if !may_wait {
+                    self.note_failure(Failure::Step);
+                }
+            }
             Tried::WaitsForReceive => self.begins = true,
         }
     }
@@ -191,14 +209,11 @@ impl Standing {
         self.has_no_line = waits && !is_in_line;
     }
 
-    /// Notes whether a step was done. The connection ends if one wasn't.
-    pub(crate) fn note_outcome(&mut self, is_done: bool) {
-        self.has_failed = self.has_failed || !is_done;
-    }
-
-    /// Returns true if a step of it failed.
-    pub(crate) fn has_failed(&self) -> bool {
-        self.has_failed
+    /// Notes why the connection is to be closed. The first reason stays.
+    pub(crate) fn note_failure(&mut self, failure: Failure) {
+        if self.failure.is_none() {
+            self.failure = Some(failure);
+        }
     }
 
     /// Notes output. The time in which the peer has to accept some begins if it accepted some, or had none before, and
@@ -243,8 +258,10 @@ impl Standing {
     }
 
     /// Returns what it waits for now.
-    pub(crate) fn awaits(&self, progress: Progress) -> Awaits {
-        if self.has_failed {
+    pub(crate) fn awaits(&self, progress: Progress) -> Awaits
+        ensures { result ≡ Awaits.End → MayClose self.now progress }
+    {
+        if self.failure.is_some() {
             return Awaits::End;
         }
         if progress.unsent != 0 {
@@ -263,7 +280,9 @@ impl Standing {
     }
 
     /// Returns what it waits for with output that the peer hasn't accepted.
-    fn awaits_peer(&self) -> Awaits {
+    fn awaits_peer(&self) -> Awaits
+        ensures { result ≡ Awaits.End → self.now.over ≡ Some Timed.Room }
+    {
         if self.over == Some(Timed::Room) {
             Awaits::End
         } else {
@@ -272,7 +291,9 @@ impl Standing {
     }
 
     /// Returns what it waits for with no frame in hand.
-    fn awaits_input(&self, has_next: bool) -> Awaits {
+    fn awaits_input(&self, has_next: bool) -> Awaits
+        ensures { result ≡ Awaits.End → ⊥ }
+    {
         if self.lacks_memory {
             return Awaits::Memory(RETRY_MILLISECONDS);
         }

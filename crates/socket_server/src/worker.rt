@@ -130,9 +130,7 @@ impl<'a, R: Wait + Clock + AllocGlobal, C: Serves<A>, A: Served + Drop> Work<'a,
     fn add(&mut self, talk: Talk<A>) {
         let client = Client::new(talk, self.tools.poll.registry());
         let number = client.number();
-        if let Ok(former) = self.clients.insert(number, client) {
-            end(former);
-        }
+        let _ = self.clients.insert(number, client);
         self.lists.note_event(&mut self.clients, number);
     }
 
@@ -262,24 +260,23 @@ impl<'a, R: Wait + Clock + AllocGlobal, C: Serves<A>, A: Served + Drop> Work<'a,
         }
     }
 
-    /// Removes a connection.
+    /// Removes a connection that is over.
     fn remove(&mut self, session: u32) {
-        if let Some(client) = self.clients.get(&session) {
-            if let Some(end) = client.standing.timer() {
-                self.tools.timers.clear(end, session);
-            }
-            if client.waits() {
-                self.context.leave_line(session);
-            }
+        let Some(client) = self.clients.get(&session) else {
+            return;
+        };
+        if !client.is_over() {
+            return;
         }
-        end(self.clients.remove(&session));
-    }
-}
-
-/// Closes a connection's socket, if there is one.
-fn end<A: Served + Drop>(client: Option<Client<Talk<A>>>) {
-    if let Some(client) = client {
-        client.close();
+        if let Some(end) = client.standing.timer() {
+            self.tools.timers.clear(end, session);
+        }
+        if client.waits() {
+            self.context.leave_line(session);
+        }
+        if let Some(client) = self.clients.remove(&session) {
+            client.end();
+        }
     }
 }
 

@@ -3,6 +3,7 @@ use Rattle.std.proofs.Common.{◌≡◌, inl, inr, ℕ, ◌+◌, ◌-◌, ◌≤
 use Rattle.std.specs.Prelude.{max, is_none}
 use Rattle.disk.specs.Moments.{View, Passes}
 use Rattle.epoch_log.specs.Logs.{next_log}
+use Rattle.ipc_laws.specs.RunLaws.{steps_run}
 use Rattle.ipc_laws.specs.RunsKeep.{one_run}
 use Rattle.ipc_model.specs.calls.Step.{Run}
 use Rattle.ipc_model.specs.declared.record.Record.{Record}
@@ -819,7 +820,8 @@ module _ {D : Type 0} (honest : Type 0) (view : D → View) (base : State) where
               after = kept.after;
               mid = old.core.kernel;
               cut =
-                  subst (λ (l : List Record). Run base l old.core.kernel) (sym (take_end w.applied)) stands.applied.run;
+                  subst (λ (l : List Record). Run base l old.core.kernel) (sym (take_end w.applied))
+                  (steps_run base old.core.kernel w.applied stands.applied.run);
               kept =
                   begin_keeps (view old.store.disk) old.store.segment old.core.kernel kept.state cut
                   (subst (λ (c : Option CheckpointValue). Keeps

@@ -3,7 +3,7 @@ use Rattle.std.proofs.Common.{◌≡◌, ℕ, zero, suc, ◌+◌, ◌-◌, ◌�
 use Rattle.std.specs.Prelude.{max, map, if◌then◌else◌}
 use Rattle.std.proofs.lemmas.List.{append-nil}
 use Rattle.epoch_log.specs.Logs.{EpochLogValue, entry_of, with_record}
-use Rattle.ipc_laws.specs.RunLaws.{run-push}
+use Rattle.ipc_laws.specs.RunLaws.{run-push, steps-push}
 use Rattle.ipc_laws.specs.NumberedSteps.{kept_fits}
 use Rattle.ipc_laws.specs.RunsKeep.{FitCalls}
 use Rattle.ipc_model.specs.calls.Step.{Run, has_record}
@@ -168,7 +168,7 @@ module _ (base : State) (opened earlier taken stored : ℕ) (applied : List Reco
             λ k s le run. subst (λ (l : List Record). Run s l new.kernel) (sym (drop_more k applied (entry ∷ []) le))
             (run-push s old.kernel new.kernel (drop k applied) entry run gives.step);
         all = record {
-          run = run-push base old.kernel new.kernel applied entry all.run gives.step;
+          run = steps-push base old.kernel new.kernel applied entry all.run gives.step;
           fit = fit_push applied entry all.fit ((gives.fits, kept_fits entry.reply (gives.kept recorded).reply.fits), tt);
           records = are_push applied entry all.records (gives.kept recorded);
           made_is = omega (arith, ap (λ (r : EpochLogValue). r.made) log, all.made_is, long);

@@ -101,6 +101,12 @@ Step old space (Numbered numbered) answer new = MakesNumbered old space numbered
 Step old space Unnumberable answer new =
     IsRefused old (if is_gone old space then InvalidTask else InvalidArgument) answer new
 
+-- these calls, made one after another with these replies, lead the machine from old to new
+abbrev pub Steps : State → List Record → State → Type 0
+Steps old [] new = new ≡ old
+Steps old (first ∷ records) new =
+    (mid : State) × Step old first.space first.call first.reply mid × Steps mid records new
+
 -- a step that leaves the state as it is
 abbrev pub Answer : State → ℕ → Call → Reply → Type 0
 Answer state space c answer = Step state space c answer state

@@ -8,7 +8,7 @@ use Rattle.ipc_model.specs.declared.plain_call.PlainCall.TheVariants as call
 use Rattle.ipc_model.specs.declared.reply.Reply.{Reply}
 use Rattle.ipc_model.specs.declared.record.Record.{Record}
 use Rattle.ipc_model.specs.state.State.{State}
-use Rattle.ipc_model.specs.calls.Step.{Run, Answer, has_record, succeeded}
+use Rattle.ipc_model.specs.calls.Step.{Steps, Answer, has_record, succeeded}
 
 -- The history begins in the state that the opening found, and is the list of records made since. A record's place is
 -- the number of records before it. Records that the opening read are not part of it: they led to the state it begins
@@ -26,8 +26,8 @@ pub record Session : Type 0 where
 
 -- What a session does: a call of its task is answered with a ticket; one of its tickets is redeemed, whose reply saw
 -- this many records; a ticket of another session is redeemed; the session only sees more of the history, as where a
--- call isn't taken, or where two sessions meet; or its space has gone, and its task is attached to none from then on,
--- also where a new space gets the number.
+-- call isn't taken, or where two sessions meet; or its space was destroyed, and its task is attached to none from then
+-- on, also where a new space gets the number.
 pub data Operation : Type 0 where
   called : Call → Reply → Operation
   redeemed : (seen : ℕ) → Operation
@@ -66,7 +66,7 @@ pub record IsAnswered (base : State) (history : List Record) (old : Session) (c 
   pub beginning : ℕ
   pub unseen : old.seen ≤ beginning
   pub state : State
-  pub run : Run base (take beginning history) state
+  pub run : Steps base (take beginning history) state
   pub answered : Answer state old.space c answer
   pub seen : beginning ≤ new.seen
   pub after : new ≡ record old {
@@ -88,6 +88,24 @@ abbrev pub IsAcknowledgedUpTo : Session → ℕ → Session → Type 0
 IsAcknowledgedUpTo old seen new =
     (seen ≤ new.seen) × (new ≡ record old { seen = new.seen; acknowledged = max old.acknowledged seen })
 
+-- a call that destroys the space of its task
+abbrev pub is_destruction : Call → Bool
+is_destruction (Plain call.SpaceDestroy) = true
+is_destruction c = false
+
+-- a record by which the space of this number was destroyed
+abbrev pub Destroys : ℕ → Record → Type 0
+Destroys space entry = (is_destruction entry.call ≡ true) × (entry.space ≡ space)
+
+-- The session's space was destroyed by a record that the session has then seen. Its task is attached to no space.
+pub record IsDetached (history : List Record) (old new : Session) : Type 0 where
+  pub place : ℕ
+  pub entry : Record
+  pub there : slice_get history place ≡ Some entry
+  pub destroys : Destroys old.space entry
+  pub seen : place < new.seen
+  pub after : new ≡ record old { space = NO_SPACE; seen = new.seen }
+
 -- what an operation makes of a session; no reply is redeemed that saw more than the session has then seen
 abbrev pub Leads : State → List Record → Session → Operation → Session → Type 0
 Leads base history old (called c answer) new =
@@ -95,7 +113,7 @@ Leads base history old (called c answer) new =
 Leads base history old (redeemed seen) new = (has_ticket old seen ≡ true) × IsAcknowledgedUpTo old seen new
 Leads base history old (redeemed_for_another seen) new = IsAcknowledgedUpTo old seen new
 Leads base history old looked new = new ≡ record old { seen = new.seen }
-Leads base history old detached new = new ≡ record old { space = NO_SPACE; seen = new.seen }
+Leads base history old detached new = IsDetached history old new
 
 -- A session after one more operation: it forgets nothing that it saw, and sees no more than there is.
 pub record After (base : State) (history : List Record) (old : Session) (operation : Operation)
@@ -140,10 +158,10 @@ places_of sessions = flat_map (λ session. session.places) sessions
 abbrev pub AreApart : List Session → Type 0
 AreApart sessions = AllPairs (λ place other. place ≢ other) (places_of sessions)
 
--- A legal history: its records are a run from the base, each session is legal, and no place belongs to two.
+-- A legal history: its records are steps from the base, each session is legal, and no place belongs to two.
 pub record IsLegalHistory (base : State) (history : List Record) (sessions : Sessions) : Type 0 where
   pub end : State
-  pub run : Run base history end
+  pub run : Steps base history end
   pub legal : AllLegal base history sessions
   pub apart : AreApart (map (λ session. session.1) sessions)
 

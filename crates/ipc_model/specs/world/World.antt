@@ -9,7 +9,7 @@ use Rattle.ipc_model.specs.encodings.Images.{image_encoding}
 use Rattle.ipc_model.specs.state.State.{State}
 use Rattle.ipc_model.specs.store.Faults as fault
 use Rattle.ipc_model.specs.store.Faults.{StoreFault}
-use Rattle.ipc_model.specs.calls.Step.{Step, Run, has_record}
+use Rattle.ipc_model.specs.calls.Step.{Step, Steps, has_record}
 
 -- What can happen: a call is submitted; records are taken as a batch and appended, and their receipt is handed in; a
 -- ticket's reply is requested; and the steps of a checkpoint, which take the core to the next epoch.
@@ -205,10 +205,10 @@ after_submit world space call answer =
       tickets = world.tickets ++ (record { answer = answer; seen = length applied; answered = false }) ∷ [];
     }
 
--- the machine may give a call this reply in the state after all that was applied, which is a run from this base
+-- the machine may give a call this reply in the state after all that was applied, which are steps from this base
 abbrev pub IsStep : State → World → ℕ → Call → Reply → Type 0
 IsStep base world space call answer =
-    (old : State) × (new : State) × Run base world.applied old × Step old space call answer new
+    (old : State) × (new : State) × Steps base world.applied old × Step old space call answer new
 
 -- a ticket keeps such a reply; and a full epoch log takes no record
 abbrev pub MayGive : State → World → ℕ → Call → Reply → Type 0
@@ -289,7 +289,7 @@ after_cut world state = record world {
 }
 
 abbrev pub AfterCut : State → World → Outcome → World → Type 0
-AfterCut base world done new = (state : State) × Run base world.applied state × (new ≡ after_cut world state)
+AfterCut base world done new = (state : State) × Steps base world.applied state × (new ≡ after_cut world state)
 AfterCut base world no_memory new = new ≡ world
 AfterCut base world _ new = ⊥
 

@@ -3,8 +3,7 @@ use Rattle.std.specs.Prelude.{IfOk, OnOk, OnErr, ◌++◌}
 use Rattle.history.specs.Entries.{Begins}
 use Rattle.history.specs.Pasts.{PastValue}
 use Rattle.keepers.specs.Keeping.{BothPastsValue, entries_of_call}
-use Rattle.keepers.specs.Tokens.{KeepsRead}
-use Rattle.keepers.proofs.Cores.{both_back, both_begin, both_kept, both_reads, both_seen}
+use Rattle.keepers.proofs.Cores.{both_back, both_begin, both_kept, both_seen}
 use Rattle.keepers.proofs.making.apply_with_witness.Goals as goal
 
 pub returns-clause-seen : goal.returns-clause-seen
@@ -46,12 +45,3 @@ returns-clause-kept g c =
     (both_kept old c.submit_with_both-both_pasts.result.0 c.args.space c.args.call.now
     c.submit_with_both-both_pasts.result.1 c.args.kept c.level.ensures.same
     c.submit_with_both-both_pasts.ensures.learned c.submit_with_both-both_pasts.ensures.unlearned)
-
-pub returns-clause-reads : goal.returns-clause-reads
-returns-clause-reads g c =
-    let old : BothPastsValue = record { number = c.args.number; kept = c.level.new.kept; mine = c.level.new.mine } in
-    subst (λ (v : BothPastsValue). KeepsRead c.args.seen v.mine) (sym c.both_pasts.view_is)
-    (both_reads old c.submit_with_both-both_pasts.result.0 c.args.space c.args.call.now _
-    c.submit_with_both-both_pasts.result.1 c.args.seen c.level.ensures.reads
-    c.submit_with_both-both_pasts.ensures.learned c.submit_with_both-both_pasts.ensures.unlearned
-    c.submit_with_both-both_pasts.ensures.err)

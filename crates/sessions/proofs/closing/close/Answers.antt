@@ -1,5 +1,6 @@
 use Rattle.std.proofs.Common.{◌≤◌, ℕ, List, sym, subst}
 use Rattle.ipc_laws.specs.OnceLaws.{made_once}
+use Rattle.ipc_laws.specs.RunLaws.{steps_run}
 use Rattle.history.specs.Entries.{Begins, records_of}
 use Rattle.history.specs.declared.entry.Entry.{Entry}
 use Rattle.keepers.specs.Tokens.{SessionValue}
@@ -20,12 +21,14 @@ returns-in_default-clause-unmatched g c honest =
     }
 
 pub returns-clause-once : goal.returns-clause-once
-returns-clause-once g c lawful =
+returns-clause-once g c =
     let history = c.in-Some.ensures.matched.history in
+    let lawful = c.into_parts-disk.ensures.recorded.lawful in
     record {
       end = history.state;
       run = history.run;
-      once = made_once g.L.Founding.base (records_of c.in-Some.past.entries) history.state lawful history.run;
+      once = made_once g.L.Founding.base (records_of c.in-Some.past.entries) history.state lawful
+          (steps_run g.L.Founding.base history.state (records_of c.in-Some.past.entries) history.run);
     }
 
 pub returns-clause-seen : goal.returns-clause-seen

@@ -1,3 +1,4 @@
+use Rattle.std.proofs.Common.{refl}
 use Rattle.frame_service.proofs.Steps.{took}
 use Rattle.frame_service.proofs.conversation.Conversation.take_all.Goals as goal
 
@@ -9,4 +10,5 @@ returns g c = record {
       c.take_frames-taken.new.all_pending.items c.args.self.now.input_end c.end_of-self.result _ _ _
       c.take_frames-taken.result c.requires.none.0 c.requires.more c.end_of-self.ensures c.take_frames-taken.ensures.took
       so_far;
+  fault = refl;
 }

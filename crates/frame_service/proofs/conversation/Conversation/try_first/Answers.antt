@@ -1,3 +1,4 @@
+use Rattle.std.proofs.Common.{refl}
 use Rattle.frame_service.proofs.Steps.{tries}
 use Rattle.frame_service.proofs.conversation.Conversation.try_first.Goals as goal
 
@@ -9,4 +10,5 @@ returns g c = record {
       c.args.self.now.pending.frames.items c.pop_front.new.self.items c.push_front_reserved.new.self.items
       c.args.self.now.input_end _ _ c.in-Some.ensures.items c.push_front_reserved.ensures.items c.retry-pending.ensures
       so_far;
+  fault = refl;
 }

@@ -1,4 +1,4 @@
-use Rattle.std.proofs.Common.{◌≡◌, ℕ, ◌==◌, Bool, false, length, take, drop, sym, ap, ◌∙◌}
+use Rattle.std.proofs.Common.{◌≡◌, ℕ, ◌==◌, false, length, take, drop, sym, ap, ◌∙◌}
 use Rattle.frame_service.specs.Boxes.{InboxValue}
 use Rattle.frame_service.proofs.Boxes.{reads_front}
 use Rattle.frame_service.proofs.inbox.InboxRead.read.Goals as goal

@@ -1,4 +1,4 @@
-use Rattle.std.proofs.Common.{◌≡◌, ℕ, List, take, drop, ap, subst, ◌∙◌}
+use Rattle.std.proofs.Common.{ℕ, List, take, drop, ap, subst, ◌∙◌}
 use Rattle.std.specs.Io.KnownBytes.{Appends}
 use Rattle.frame_service.specs.Boxes.{OutboxValue}
 use Rattle.frame_service.proofs.Boxes.{gives_some}

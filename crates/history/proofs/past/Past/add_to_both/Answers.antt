@@ -129,8 +129,7 @@ invariant_of-other-in-Ok g c =
     ))) in
     rw c.agree.ensures.same.0 (learned (λ n. n.cell)
     (λ n. n.known) g.L.FirstBlock.first c.other.inside.place c.self.inside.place items all
-    c.copy_rest.new.notes.items c.other.inside.seen.items c.self.inside.seen.items
-    c.other.invariant c.self.invariant links less begins more).0
+    c.copy_rest.new.notes.items c.other.invariant c.self.invariant links less begins more).0
 
 pub returns-in-Ok-clause-ok : goal.returns-in-Ok-clause-ok
 returns-in-Ok-clause-ok g c =
@@ -172,8 +171,7 @@ returns-in-Ok-clause-ok g c =
     ))) in
     let whole =
     (learned (λ n. n.cell) (λ n. n.known) g.L.FirstBlock.first c.other.inside.place c.self.inside.place items all
-    c.copy_rest.new.notes.items c.other.inside.seen.items c.self.inside.seen.items
-    c.other.invariant c.self.invariant links less begins more).1 in
+    c.copy_rest.new.notes.items c.other.invariant c.self.invariant links less begins more).1 in
     let kept =
     ap (λ l. known_entries (map (λ n. n.known) l))
     (c.copy_rest.ensures.same ∙ c.compare_last.ensures.same_theirs) in
@@ -191,6 +189,6 @@ returns-in-Ok-clause-ok g c =
     ap (λ (v : PlaceValue). length v.links) c.agree.ensures.same.0 ∙ ap (λ (v : PastValue). v.blocks) old in
     let start' = ap (λ (v : PlaceValue). v.start) c.agree.ensures.same.0 ∙ ap (λ (v : PastValue). v.start) old in
     let block' = ap (λ (v : PlaceValue). v.block) c.agree.ensures.same.0 ∙ ap (λ (v : PastValue). v.block) old in (
-      λ i. record { entries = entries i; blocks = blocks i; start = start i; block = block i; read = (now i).read },
-      λ i. record { entries = entries' i; blocks = blocks' i; start = start' i; block = block' i; read = (old i).read },
+      λ i. record { entries = entries i; blocks = blocks i; start = start i; block = block i },
+      λ i. record { entries = entries' i; blocks = blocks' i; start = start' i; block = block' i },
     )

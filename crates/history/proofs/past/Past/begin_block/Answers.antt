@@ -6,17 +6,17 @@ use Rattle.history.specs.Pasts.{PastValue}
 use Rattle.history.proofs.Knowing.{past_next, known_long}
 use Rattle.history.proofs.past.Past.begin_block.Goals as goal
 
-pub invariant_of-self : goal.invariant_of-self
-invariant_of-self g c =
+pub invariant_of-self-2 : goal.invariant_of-self-2
+invariant_of-self-2 g c =
     let long : c.len.result ≡ length (map (λ n. n.cell) c.self.inside.notes.items) =
     omega (arith, c.self.inside.notes.ok, length-map c.self.inside.notes.items (λ n. n.cell)) in
-    rw (c.in-Ok.ensures.ok, c.clear.ensures.items)
+    rw c.in_ok-begin.ensures.ok
     (past_next g.L.FirstBlock.first
-    (arc_value c.args.block) c.self.inside.place _ _ _ c.len.result c.self.invariant long)
+    (arc_value c.args.block) c.self.inside.place _ _ c.len.result c.self.invariant long)
 
-pub returns-in-Ok-clause-ok : goal.returns-in-Ok-clause-ok
-returns-in-Ok-clause-ok g c =
-    let moved = c.in-Ok.ensures.ok in
+pub returns-clause-ok : goal.returns-clause-ok
+returns-clause-ok g c =
+    let moved = c.in_ok-begin.ensures.ok in
     let old = c.self.view_is in
     let entries = ap (λ (v : PastValue). v.entries) old in
     let long : c.len.result ≡ length c.args.self.now.entries =
@@ -32,5 +32,4 @@ returns-in-Ok-clause-ok g c =
     ∙ (length_push c.self.inside.place.links _ ∙ ap (λ (v : PastValue). v.blocks + 1) old) in
     let start = ap (λ (v : PlaceValue). v.start) moved ∙ long in
     let block = ap (λ (v : PlaceValue). v.block) moved in
-    let read = ap length c.clear.ensures.items in
-    λ i. record { entries = entries i; blocks = blocks i; start = start i; block = block i; read = read i }
+    λ i. record { entries = entries i; blocks = blocks i; start = start i; block = block i }

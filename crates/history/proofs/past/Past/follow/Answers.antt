@@ -13,9 +13,9 @@ invariant_of-self-2 g c =
     let same = c.begin_in_block_before.ensures.same in
     let more : c.copy_rest.new.notes.items ≡ mine ++ drop (length mine) theirs =
     cc (c.copy_rest.ensures.new, c.in_ok-reserve.ensures.items, same.2, same.3) in
-    rw (c.in_ok-place.ensures.place ∙ same.1, c.clear.ensures.items)
+    rw (c.in_ok-place.ensures.place ∙ same.1)
     (followed (λ n. n.cell) (λ n. n.known) g.L.FirstBlock.first c.other.inside.place mine theirs
-    c.copy_rest.new.notes.items c.other.inside.seen.items c.self.invariant.notes.entries c.other.invariant
+    c.copy_rest.new.notes.items c.self.invariant.notes.entries c.other.invariant
     (c.begin_in_block_before.ensures.cells answered) (c.begin_in_block_before.ensures.begins answered) more).0
 
 pub returns-clause-moved : goal.returns-clause-moved
@@ -28,16 +28,15 @@ returns-clause-moved g c = λ done.
     cc (c.copy_rest.ensures.new, c.in_ok-reserve.ensures.items, same.2, same.3) in
     let all =
     (followed (λ n. n.cell) (λ n. n.known) g.L.FirstBlock.first c.other.inside.place mine theirs
-    c.copy_rest.new.notes.items c.other.inside.seen.items c.self.invariant.notes.entries c.other.invariant
+    c.copy_rest.new.notes.items c.self.invariant.notes.entries c.other.invariant
     (c.begin_in_block_before.ensures.cells answered) (c.begin_in_block_before.ensures.begins answered) more).1 in
     let old = c.other.view_is in
     let place = c.in_ok-place.ensures.place ∙ same.1 in
     let entries = all ∙ ap (λ (v : PastValue). v.entries) old in
     let blocks = ap (λ (v : PlaceValue). length v.links) place ∙ ap (λ (v : PastValue). v.blocks) old in
     let start = ap (λ (v : PlaceValue). v.start) place ∙ ap (λ (v : PastValue). v.start) old in
-    let block = ap (λ (v : PlaceValue). v.block) place ∙ ap (λ (v : PastValue). v.block) old in
-    let read = ap length c.clear.ensures.items in (
-      λ i. record { entries = entries i; blocks = blocks i; start = start i; block = block i; read = read i },
+    let block = ap (λ (v : PlaceValue). v.block) place ∙ ap (λ (v : PastValue). v.block) old in (
+      λ i. record { entries = entries i; blocks = blocks i; start = start i; block = block i },
       rw (← c.self.view_is, ← c.other.view_is)
           (omega (
             arith,

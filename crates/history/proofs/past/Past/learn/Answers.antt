@@ -26,8 +26,7 @@ invariant_of-self-then-own-theirs g c =
     ) in
     let begins = c.compare_last.ensures.begins (omega (arith, c.self.inside.notes.ok, c.other.inside.notes.ok)) in
     rw c.agree.ensures.same.0 (learned (λ n. n.cell)
-    (λ n. n.known) g.L.FirstBlock.first place other mine theirs c.copy_rest.new.notes.items c.self.inside.seen.items
-    c.other.inside.seen.items c.self.invariant c.other.invariant links
+    (λ n. n.known) g.L.FirstBlock.first place other mine theirs c.copy_rest.new.notes.items c.self.invariant c.other.invariant links
     (omega (arith, c.self.inside.notes.ok, c.other.inside.notes.ok)) begins more).0
 
 pub returns-in_ok-reserve-clause-ok : goal.returns-in_ok-reserve-clause-ok
@@ -49,8 +48,7 @@ returns-in_ok-reserve-clause-ok g c =
     ) in
     let begins = c.compare_last.ensures.begins (omega (arith, c.self.inside.notes.ok, c.other.inside.notes.ok)) in
     let all =
-    (learned (λ n. n.cell) (λ n. n.known) g.L.FirstBlock.first place other mine theirs c.copy_rest.new.notes.items
-    c.self.inside.seen.items c.other.inside.seen.items c.self.invariant c.other.invariant links
+    (learned (λ n. n.cell) (λ n. n.known) g.L.FirstBlock.first place other mine theirs c.copy_rest.new.notes.items c.self.invariant c.other.invariant links
     (omega (arith, c.self.inside.notes.ok, c.other.inside.notes.ok)) begins more).1 in
     let own = ap (λ (v : PastValue). v.entries) c.self.view_is in
     let others = ap (λ (v : PastValue). v.entries) c.other.view_is in
@@ -62,7 +60,7 @@ returns-in_ok-reserve-clause-ok g c =
     let blocks = ap (λ (v : PlaceValue). length v.links) moved ∙ ap (λ (v : PastValue). v.blocks) old in
     let start = ap (λ (v : PlaceValue). v.start) moved ∙ ap (λ (v : PastValue). v.start) old in
     let block = ap (λ (v : PlaceValue). v.block) moved ∙ ap (λ (v : PastValue). v.block) old in
-    λ i. record { entries = entries i; blocks = blocks i; start = start i; block = block i; read = (old i).read }
+    λ i. record { entries = entries i; blocks = blocks i; start = start i; block = block i }
 
 pub returns-in_ok-reserve-clause-begins : goal.returns-in_ok-reserve-clause-begins
 returns-in_ok-reserve-clause-begins g c =
@@ -83,8 +81,7 @@ returns-in_ok-reserve-clause-begins g c =
     ) in
     let begins = c.compare_last.ensures.begins (omega (arith, c.self.inside.notes.ok, c.other.inside.notes.ok)) in
     let all =
-    (learned (λ n. n.cell) (λ n. n.known) g.L.FirstBlock.first place other mine theirs c.copy_rest.new.notes.items
-    c.self.inside.seen.items c.other.inside.seen.items c.self.invariant c.other.invariant links
+    (learned (λ n. n.cell) (λ n. n.known) g.L.FirstBlock.first place other mine theirs c.copy_rest.new.notes.items c.self.invariant c.other.invariant links
     (omega (arith, c.self.inside.notes.ok, c.other.inside.notes.ok)) begins more).1 in
     rw (all, ← c.self.view_is, ← c.other.view_is) (begins, begins_itself _)
 
@@ -115,7 +112,7 @@ returns-else-own-theirs-clause-ok g c =
     let blocks = ap (λ (v : PlaceValue). length v.links) moved ∙ ap (λ (v : PastValue). v.blocks) old in
     let start = ap (λ (v : PlaceValue). v.start) moved ∙ ap (λ (v : PastValue). v.start) old in
     let block = ap (λ (v : PlaceValue). v.block) moved ∙ ap (λ (v : PastValue). v.block) old in
-    λ i. record { entries = entries i; blocks = blocks i; start = start i; block = block i; read = (old i).read }
+    λ i. record { entries = entries i; blocks = blocks i; start = start i; block = block i }
 
 pub returns-else-own-theirs-clause-begins : goal.returns-else-own-theirs-clause-begins
 returns-else-own-theirs-clause-begins g c =

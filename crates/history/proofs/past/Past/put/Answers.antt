@@ -18,7 +18,6 @@ invariant_of-self-in-Ok g c =
     let set : slice_get place.block.cells (length items - place.start) ≡ Some c.in-Ok.note.cell =
     cc (c.block.ensures.block, long, c.start.ensures, c.in-Ok.ensures.cell) in
     past_more (λ n. n.cell) (λ n. n.known) first place items c.push_reserved.new.self.items c.in-Ok.note c.args.held.value
-    c.self.inside.seen.items
     c.self.invariant (c.push_reserved.ensures.items ∙ ap (λ l. l ++ c.in-Ok.note ∷ []) c.in_ok-reserve.ensures.items)
     (sym same ∙ set) c.in-Ok.ensures.known
     (c.requires ∙ ap (λ (v : PastValue). numbers_of v.entries) (sym c.self.view_is))
@@ -37,7 +36,6 @@ returns-in-Ok-clause-ok g c =
       blocks = (old i).blocks;
       start = (old i).start;
       block = (old i).block;
-      read = (old i).read;
     }
 
 pub returns-in-Err-clause-full : goal.returns-in-Err-clause-full

@@ -30,7 +30,7 @@ attach_to-requires g c =
     was_in g.L.Founding.base old mid own_state.share.amount c.session.invariant.0
     (subst (λ (s : SessionValue). Strays g.L.Founding.base s mid) (sym c.session.view_is)
     (strays g.L.Founding.base c.args.since (entries_in c.args.self.now.core) c.args.session settled mid
-    c.settle_since-session.ensures.settled c.settle_since-session.ensures.past did.0))
+    c.SETTLED did.0))
 
 pub returns-in-Err-clause-err : goal.returns-in-Err-clause-err
 returns-in-Err-clause-err g c =
@@ -45,7 +45,7 @@ returns-in-Err-clause-err g c =
     c.in-Err.is c.submit-session.ensures.err in
     let strayed =
     strays g.L.Founding.base c.args.since (entries_in c.args.self.now.core) c.args.session settled mid
-    c.settle_since-session.ensures.settled c.settle_since-session.ensures.past did.0 in (
+    c.SETTLED did.0 in (
       subst (λ (s : SessionValue). Did g.L.Founding.base c.args.session looked s) (sym c.attach_to.ensures)
           (subst (λ (s : SessionValue). Did g.L.Founding.base s looked (attached_to own_state.space mid))
           c.session.view_is

@@ -1,5 +1,6 @@
-use Rattle.std.proofs.Common.{ap, subst}
+use Rattle.std.proofs.Common.{Some, ap, subst, sym}
 use Rattle.ipc_model.specs.history.History.{detached}
+use Rattle.keepers.specs.Destroying.{IsGoneSince}
 use Rattle.keepers.specs.Tokens.{Did, SessionValue, session_of}
 use Rattle.keepers.proofs.Histories.{detaches, detaching, did_detach}
 use Rattle.keepers.proofs.session.Session.detach.Goals as goal
@@ -11,7 +12,12 @@ invariant_of-session g c =
     let old : SessionValue =
     session_of own_state.number own_state.space own_state.acknowledged own_state.tickets.numbers
     own_state.places.numbers past in
-    (detaches g.L.Founding.base old own_state.share.amount c.session.invariant.0, c.session.invariant.1)
+    (
+      detaches g.L.Founding.base old own_state.share.amount
+          (subst (λ (s : SessionValue). IsGoneSince 0 s.task.space (Some s.past.entries)) (sym c.session.view_is)
+          c.requires) c.session.invariant.0,
+      c.session.invariant.1,
+    )
 
 pub returns-clause-detached : goal.returns-clause-detached
 returns-clause-detached g c =
@@ -21,7 +27,8 @@ returns-clause-detached g c =
     session_of own_state.number own_state.space own_state.acknowledged own_state.tickets.numbers
     own_state.places.numbers past in
     subst (λ (s : SessionValue). Did g.L.Founding.base s detached (detaching old)) c.session.view_is
-    (did_detach g.L.Founding.base old c.session.invariant.0.seen)
+    (did_detach g.L.Founding.base old c.session.invariant.0.seen
+    (subst (λ (s : SessionValue). IsGoneSince 0 s.task.space (Some s.past.entries)) (sym c.session.view_is) c.requires))
 
 pub returns-clause-past : goal.returns-clause-past
 returns-clause-past g c = ap (λ (s : SessionValue). s.past) c.session.view_is

@@ -1,4 +1,4 @@
-use Rattle.frame_service.proofs.conversation.Conversation.answer.Goals as goal
+use Rattle.frame_service.proofs.conversation.Conversation.answer_all.Goals as goal
 
 pub returns-in-Err-clause-ends : goal.returns-in-Err-clause-ends
 returns-in-Err-clause-ends g c = λ start input before so_far.
