@@ -1,88 +1,73 @@
-.PHONY: demo test quick bin bench load mutants gate-cost stress shortage power failing soak clients examples install uninstall deb package-test
+# `make help` prints one line for each target, from the comments after `##`.
+.PHONY: demo help test quick bin bench load mutants gate-cost stress shortage power failing soak clients examples install uninstall deb package-test
 
-# The main job on a new folder, with its bytes explained. It proves nothing: the program runs checked, and where bin/ has
-# the proved one, that.
-demo:
+# Runs the proved program if bin/ has it, and otherwise one that is compiled with checks.
+demo: ## serves a new store twice, with each frame and byte explained (1 to 2 minutes)
 	./demo/run
 
-# The gate, from nothing: every proof, named mutant, test and stored run, a round of stress and shortage, and the tests of the
-# clients.
-test:
+help: ## prints this list
+	@awk '/^[a-z][a-z -]*:.* ## / { name = $$0; sub(/:.*/, "", name); sub(/.* ## /, ""); printf "%-18s %s\n", name, $$0 }' Makefile
+
+# Also runs a round of stress and shortage, and the tests of the clients.
+test: ## the gate: every proof, named mutant, test and stored run, from nothing (35 to 125 minutes)
 	.ci/run
 
-# The tests and the shortest scripts checked and not proved: for a first change, and while one is made.
-quick:
+quick: ## the tests and the shortest scripts, checked and not proved (3 to 5 minutes)
 	.ci/quick
 
-# The programs, proved and built, in bin/.
-bin:
+bin: ## proves the programs and leaves them in bin/ (up to 40 minutes)
 	.ci/bin
 
-# Every mutant, or with CRATES="NAME .." those of some crates: each has to be refused.
-mutants:
+mutants: ## tries every mutant, or with CRATES="NAME .." those of some crates; each has to be refused
 	.ci/mutants $(CRATES)
 
-# What the gate costs, as a multiple of one crate's check. It wants nothing beside it, and takes as long as the gate.
-gate-cost:
+# Nothing else may run on the machine meanwhile.
+gate-cost: ## what the gate costs, as a multiple of one crate's check; takes as long as the gate
 	.ci/cost
 
-# What calls, messages, deaths, batches, openings and checkpoints cost, in a new folder: it proves the program first.
-bench:
+bench: ## costs of calls, messages, deaths, batches, openings and checkpoints; proves its program first
 	@folder=$$(mktemp -d) && (cd crates/bench && rt run -- "$$folder") && rm -r "$$folder"
 
-# How many calls a second a server on a socket answers, for several numbers of connections and of frames that are written at once,
-# in a new folder, and what those who wait cost: it proves the programs first. With REDIS=1 the server is measured interleaved
-# with Redis, where that is installed, and nothing else is; ROUNDS=N sets how often (3). docs/draw-load draws that table.
-load:
+# ROUNDS=N sets how often the server is measured interleaved with Redis (3). docs/draw-load draws that table.
+load: ## calls a second of a server on a socket, and costs of waiting; with REDIS=1 interleaved with Redis
 	@[ -z "$(REDIS)" ] || demo/load-redis --check
 	.ci/bin machipcd
 	@demo/load
 	@[ -n "$(REDIS)" ] || demo/waiting
 
-# Calls at random, to servers that are killed amid them, compared with the machine written down a second time; and clients that
-# wait; and what idle connections cost in memory. It proves the programs first.
-stress: bin
+stress: bin ## random calls to servers that are killed, waiting clients, idle connections; compared with a model
 	@stress/run
 	@stress/waiting
 	@stress/idle
 
-# Each allocation of a server, alone and on a socket, and of the lister refused in turn, with the same machine. It proves the
-# programs first, and wants a C compiler.
-shortage: bin
+# Needs a C compiler.
+shortage: bin ## refuses each allocation of a server and of the lister in turn (4 minutes)
 	@stress/shortage
 
-# Losses of power below servers under load, at 1,000 moments on each file system that the kernel has: an hour. SHORT=1 takes two
-# minutes. As root on Linux; it proves the programs first, and wants a C compiler.
-power: bin
+# Needs a C compiler, and root on Linux.
+power: bin ## 1,000 losses of power on each file system (an hour); with SHORT=1 two minutes
 	@stress/power $(if $(SHORT),--short)
 
-# Disks that fail, hang, fill up and can't be written to. It proves the programs first, and wants a C compiler, and root for all
-# of it.
-failing: bin
+# Needs a C compiler, and root for all of it.
+failing: bin ## disks that fail, hang, fill up and can't be written to; with SHORT=1 shorter
 	@stress/failing $(if $(SHORT),--short)
 
-# Servers under load for so many HOURS (1), which are killed and lose power. It proves the programs first.
-soak: bin
+soak: bin ## servers under load for HOURS=N (1), killed and without power at times
 	@stress/soak $(or $(HOURS),1)
 
-# The tests of the clients in C and Python, against the server in bin/, or against a stand-in where there is none.
-clients:
+clients: ## the tests of the clients, against bin/ or a stand-in
 	@clients/test
 
-# Programs that use the clients, for a minute while their server is killed once a second. It proves the programs first, and
-# fetches the Mach Interface Generator with apt-get where it isn't installed.
-examples: bin
+# Fetches the Mach Interface Generator with apt-get if it isn't installed.
+examples: bin ## programs that use the clients, for a minute while their server is killed once a second
 	@examples/run
 
-# The programs of bin/, the clients, manual pages and the unit, below PREFIX (/usr/local). It proves the programs only where
-# bin/ lacks one. contrib/install says what else can be set; `make uninstall` wants the same words.
-install uninstall:
+# Proves the programs only if bin/ lacks one. contrib/install says what else can be set.
+install uninstall: ## installs or removes programs, clients, manual and unit below PREFIX (/usr/local)
 	@contrib/install $@
 
-# The same as a package of Debian, wannikol_VERSION_ARCHITECTURE.deb, in this folder.
-deb:
+deb: ## makes a package of Debian in this folder
 	@contrib/deb
 
-# Installs that package in a fresh root, where its server is killed, upgraded and removed. As root, on Debian.
-package-test:
+package-test: ## installs, kills, upgrades and removes that package in a fresh root; as root, on Debian
 	@contrib/test-package
