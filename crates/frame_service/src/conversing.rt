@@ -18,8 +18,7 @@ use crate::{Filled, Inbox, Outbox, Source};
 use calls::{MessageRequest, reply_frame};
 use codes::MAX_FRAME_CONTENT;
 use ipc_model::Reply;
-use std::alloc::{AllocError, Global};
-use std::collections::VecDeque;
+use std::alloc::Global;
 use std::io::{Read, Write};
 use store_fault::StoreFault;
 use wire::{Frame, WireFault, write_frame};
@@ -36,33 +35,26 @@ pub enum Tried {
 }
 
 impl<S: Read, W: Write, A: Asker> Conversation<S, W, A> {
-    /// A conversation that begins.
+    /// A conversation that begins, with no frame in hand.
     pub fn new(
-        alloc: Global,
         inbox: Inbox<S>,
         outbox: Outbox<W>,
         asker: A,
-    ) -> Result<Self, AllocError>
-    where
-        S: Drop,
-        W: Drop,
-        A: Drop,
-        ensures asker { IfOk result (λ c. c.asker ≡ asker) }
-        ensures begins { IfOk result (λ c.
-            Begins S.remaining W.contents A.answer A.makes A.lacks A.acknowledges A.fails A.looks asker inbox outbox
-            c) }
+        pending: PendingFrames<A::Ticket>,
+    ) -> Self
+        requires { pending.frames.items ≡ [] }
+        ensures asker { result.asker ≡ asker }
+        ensures begins { Begins S.remaining W.contents A.answer A.makes A.lacks A.acknowledges A.fails A.looks asker inbox
+            outbox result }
     {
-        let Ok(frames) = VecDeque::with_capacity(alloc, MOST_PENDING_FRAMES) else {
-            return Err(AllocError);
-        };
-        Ok(Conversation {
+        Conversation {
             inbox,
             outbox,
             asker,
-            pending: PendingFrames { frames },
+            pending,
             input_end: None,
             fault: None,
-        })
+        }
     }
 
     /// Asks once for more of the input.

@@ -23,6 +23,7 @@ pub use conversation::Conversation;
 pub use conversing::Tried;
 pub use inbox::{Filled, Inbox, Source};
 pub use outbox::Outbox;
+pub use pending::PendingFrames;
 pub use rounds::MOST_PENDING_FRAMES;
 pub use service::{ServeFault, serve};
 pub use short_reply::ShortReply;

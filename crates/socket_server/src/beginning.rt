@@ -1,9 +1,9 @@
-ghost use Rattle.std.specs.Prelude.{IfSome};
+ghost use Rattle.std.specs.Prelude.{◌≡◌, IfErr, IfOk};
 ghost use Rattle.socket_server.specs.Serving.{BeginsNew};
 
 use crate::connected::Connected;
 use disk::Disk;
-use frame_service::{Conversation, Inbox, Outbox};
+use frame_service::{Conversation, Inbox, Outbox, PendingFrames};
 use sessions::{Admission, Founding, Peer, Seat, Shared, Worker};
 use std::alloc::{AllocGlobal, Global};
 use std::io::{Read, Write};
@@ -16,7 +16,7 @@ pub type Talk<'a, L, D, G, R, P, S, W> = Conversation<S, W, Connected<'a, L, D, 
 /// space 1. Its calls wait for turns that this worker takes. All calls of the session are those of the frames that the
 /// conversation takes, and all that is written are their replies, in their order (`Conversation`).
 ///
-/// `None`: no session or memory is left for it. Then nothing was read or written.
+/// If no session or memory is left for it, the two streams come back as they were.
 pub fn begin<
     'a,
     L: Founding,
@@ -34,19 +34,20 @@ pub fn begin<
     peer: P,
     reader: S,
     writer: W,
-) -> Option<Talk<'a, L, D, G, R, P, S, W>>
-    ensures begins { IfSome result (λ talk. BeginsNew S.remaining W.contents L.base reader writer talk) }
+) -> Result<Talk<'a, L, D, G, R, P, S, W>, (S, W)>
+    ensures begins { IfOk result (λ talk. BeginsNew S.remaining W.contents L.base reader writer talk) }
+    ensures back { IfErr result (λ back. back ≡ (reader, writer)) }
 {
-    let Ok(session) = shared.session(rt, admission) else {
-        return None;
-    };
     let alloc = rt.alloc();
+    let Ok(pending) = PendingFrames::new(alloc) else {
+        return Err((reader, writer));
+    };
+    let Ok(session) = shared.session(rt, admission) else {
+        return Err((reader, writer));
+    };
     let seat = Seat::new(worker, peer);
     let asker = Connected::new(alloc, rt, shared, seat, session);
     let inbox = Inbox::new(alloc, reader);
     let outbox = Outbox::new(alloc, writer);
-    let Ok(talk) = Conversation::new(alloc, inbox, outbox, asker) else {
-        return None;
-    };
-    Some(talk)
+    Ok(Conversation::new(inbox, outbox, asker, pending))
 }

@@ -86,6 +86,7 @@ impl<'a, L: Founding, D: Disk, R: Wait + AllocGlobal> Serves<Caller<'a, L, D, R>
             reader,
             writer,
         )
+        .ok()
     }
 
     fn hold(&self) -> Held<'a, L, D, R> {

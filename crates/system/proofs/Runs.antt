@@ -1,5 +1,5 @@
 -- A core at first, and events one after another.
-use Rattle.std.proofs.Common.{◌≡◌, ℕ, ◌≤◌, List, [], ◌∷◌, ◌++◌, refl, subst, ◌∙◌, arith}
+use Rattle.std.proofs.Common.{◌≡◌, ℕ, ◌≤◌, List, [], ◌∷◌, ◌++◌, length, refl, subst, ◌∙◌, arith}
 use Rattle.disk.specs.Moments.{View, MayLeave, Passes}
 use Rattle.disk.specs.Slots.{Slots}
 use Rattle.ipc_model.specs.state.Circular.{Acyclic}
@@ -9,10 +9,11 @@ use Rattle.ipc_model.specs.declared.reply.Reply.{Reply}
 use Rattle.ipc_model.specs.world.World.{World, After, first_world, acknowledged}
 use Rattle.journal.specs.declared.segment.Segment.{Segment}
 use Rattle.checkpoint_phases.specs.Passed.{IsKept}
-use Rattle.system.specs.Core.{Runs, RunsThrough, StandsFor, StandsFrom, Steps, SystemValue, first_system}
+use Rattle.system.specs.Core.{HasNextNumber, IsNumbered, Runs, RunsThrough, StandsFor, StandsFrom, Steps, SystemValue, first_system}
 use Rattle.system.specs.Events.{event_of, outcome_of}
 use Rattle.system.specs.declared.event.Event.{Event}
 use Rattle.system.specs.declared.event.Outcome.{Outcome}
+use Rattle.system.specs.declared.event.Outcome.TheVariants as outcome
 use Rattle.system.proofs.Tickets.{none_fresh}
 
 module _ {D : Type 0} (honest : Type 0) (view : D → View) (base : State) where
@@ -64,21 +65,22 @@ module _ (honest : Type 0) (base : State) where
   runs_within w [] (answered ∷ outcomes) from last end runs is_honest = absurd runs
   runs_within w (event ∷ events) [] from last end runs is_honest = absurd runs
   runs_within w (event ∷ events) (answered ∷ outcomes) from last end runs is_honest =
-      let rest = runs_within runs.1 events outcomes runs.2 last end runs.5 is_honest in
-      omega (arith, rest, (runs.4 is_honest).later)
+      let rest = runs_within runs.1 events outcomes runs.2 last end runs.6 is_honest in
+      omega (arith, rest, (runs.5 is_honest).later)
 
   pub runs_push : (w : World) (events : List Event) (outcomes : List Outcome) (from : ℕ) (last later : View)
       (end next : World) (event : Event) (answered : Outcome) (kept : Reply)
       → Runs honest base w events outcomes from last end
-      → After base end (event_of event) (outcome_of answered kept) next
+      → After base end (event_of event) (outcome_of answered kept) next → HasNextNumber end answered
       → (honest → Passes last later (StandsFrom base (acknowledged end) next))
       → (honest → (c : Slots) → MayLeave later c → StandsFrom base (acknowledged next) next c)
       → Runs honest base w (events ++ event ∷ []) (outcomes ++ answered ∷ []) from later next
-  runs_push w [] [] from last later end next event answered kept runs after passes left = (
+  runs_push w [] [] from last later end next event answered kept runs after numbered passes left = (
     kept,
     next,
     later.moment,
     subst (λ (v : World). After base v (event_of event) (outcome_of answered kept) next) runs.0 after,
+    subst (λ (v : World). HasNextNumber v answered) runs.0 numbered,
     λ is_honest. record {
       later = omega (arith, runs.1 is_honest, (passes is_honest).later);
       during =
@@ -89,17 +91,20 @@ module _ (honest : Type 0) (base : State) where
     },
     (refl, λ _. refl),
   )
-  runs_push w [] (other ∷ outcomes) from last later end next event answered kept runs after passes left = absurd runs
-  runs_push w (first ∷ events) [] from last later end next event answered kept runs after passes left = absurd runs
-  runs_push w (first ∷ events) (other ∷ outcomes) from last later end next event answered kept runs after passes
-      left = (
+  runs_push w [] (other ∷ outcomes) from last later end next event answered kept runs after numbered passes left =
+      absurd runs
+  runs_push w (first ∷ events) [] from last later end next event answered kept runs after numbered passes left =
+      absurd runs
+  runs_push w (first ∷ events) (other ∷ outcomes) from last later end next event answered kept runs after
+      numbered passes left = (
         runs.0,
         runs.1,
         runs.2,
         runs.3,
+        runs.4,
         λ is_honest.
-            let bounded = runs.4 is_honest in
-            let within = runs_within runs.1 events outcomes runs.2 last end runs.5 is_honest in
+            let bounded = runs.5 is_honest in
+            let within = runs_within runs.1 events outcomes runs.2 last end runs.6 is_honest in
             record {
               later = bounded.later;
               during =
@@ -107,19 +112,29 @@ module _ (honest : Type 0) (base : State) where
                   (((passes is_honest).past k c (omega (arith, until, within))).0 left_at);
               after = λ c left_at. bounded.after c (((passes is_honest).past runs.2 c within).0 left_at);
             },
-        runs_push runs.1 events outcomes runs.2 last later end next event answered kept runs.5 after passes left,
+        runs_push runs.1 events outcomes runs.2 last later end next event answered kept runs.6 after numbered passes left,
       )
+
+next_number : {D : Type 0} (system : SystemValue D) (world : World) (answered : Outcome)
+    → system.tickets.given ≡ length world.tickets → IsNumbered system answered → HasNextNumber world answered
+next_number system world (outcome.Ticket number) given is = is ∙ given
+next_number system world (outcome.Reply said) given is = tt
+next_number system world outcome.Done given is = tt
+next_number system world outcome.NotNow given is = tt
+next_number system world outcome.EpochFull given is = tt
+next_number system world (outcome.Store fault) given is = tt
+next_number system world outcome.NoMemory given is = tt
 
 pub through_push : {D : Type 0} (honest : Type 0) (view : D → View) (base : State) (w : World) (events : List Event)
     (outcomes : List Outcome) (old mid new : SystemValue D) (event : Event) (answered : Outcome)
     (through : RunsThrough honest view base w events outcomes old mid)
-    → Steps honest view base through.end event answered mid new
+    → Steps honest view base through.end event answered mid new → IsNumbered mid answered
     → RunsThrough honest view base w (events ++ event ∷ []) (outcomes ++ answered ∷ []) old new
-through_push honest view base w events outcomes old mid new event answered through steps = record {
+through_push honest view base w events outcomes old mid new event answered through steps numbered = record {
   end = steps.next;
   stands = steps.stands;
   runs =
       runs_push honest base w events outcomes (view old.store.disk).moment (view mid.store.disk)
-      (view new.store.disk) through.end steps.next event answered steps.kept through.runs steps.after steps.passes
-      steps.left;
+      (view new.store.disk) through.end steps.next event answered steps.kept through.runs steps.after
+      (next_number mid through.end answered through.stands.tickets.given_is numbered) steps.passes steps.left;
 }

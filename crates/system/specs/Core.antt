@@ -261,12 +261,18 @@ pub record AreBounded (base : State) (least_before least_after : ℕ) (next : Wo
   pub during : (k : ℕ) (c : Slots) → from < k → k ≤ until → last.left_at k c → StandsFrom base least_before next c
   pub after : (c : Slots) → last.left_at until c → StandsFrom base least_after next c
 
+-- the same, where the core stands for a world
+abbrev pub HasNextNumber : World → Outcome → Type 0
+HasNextNumber world (outcome.Ticket number) = number ≡ length world.tickets
+HasNextNumber world answered = Unit {0}
+
 -- Events one after another, with what they answered. There are moments of the disk's clock, one before the events and
 -- one after each of them, such that a crash between two of them leaves what it may leave within that event.
 abbrev pub Runs : Type 0 → State → World → List Event → List Outcome → ℕ → View → World → Type 0
 Runs honest base world [] [] from last end = (end ≡ world) × (honest → from ≡ last.moment)
 Runs honest base world (event ∷ events) (answered ∷ outcomes) from last end =
     (kept : Reply) × (next : World) × (until : ℕ) × After base world (event_of event) (outcome_of answered kept) next
+    × HasNextNumber world answered
     × (honest → AreBounded base (acknowledged world) (acknowledged next) next from until last)
     × Runs honest base next events outcomes until last end
 Runs honest base world _ _ from last end = ⊥

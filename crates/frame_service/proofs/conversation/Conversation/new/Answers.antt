@@ -7,5 +7,5 @@ returns-clause-begins g c = record {
   none_failed = refl;
   goes = λ input before read written.
       begins g.A.Asker.answer g.A.Asker.makes g.A.Asker.lacks g.A.Asker.acknowledges g.A.Asker.fails g.A.Asker.looks
-      c.args.asker input before c.in-Ok.frames.items _ _ c.in-Ok.ensures.items read written;
+      c.args.asker input before c.args.pending.frames.items _ _ c.requires read written;
 }

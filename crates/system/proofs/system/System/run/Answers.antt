@@ -23,7 +23,7 @@ loop-event-preserved g c = (
       (before ++ c.event-item.result ∷ []) l c.args.self.now c.step.new.self) (sym c.push_reserved.ensures.items)
       (through_push g.D.Disk.honest g.D.Disk.view base w before c.loop-event.outcomes.items c.args.self.now
       c.loop-event.self c.step.new.self c.event-item.result c.step.result through
-      (c.step.ensures.steps base through.end through.stands))),
+      (c.step.ensures.steps base through.end through.stands) c.step.ensures.number)),
   omega (arith, c.push_reserved.ensures.len, c.loop-event.invariant.1),
   omega (arith, c.push_reserved.ensures.capacity, c.loop-event.invariant.2),
   subst (λ (l : List Outcome). g.D.Disk.failed_calls c.step.new.self.store.disk
