@@ -3,6 +3,7 @@ use Rattle.std.proofs.Common.{◌≡◌, ℕ, ◌+◌, ◌-◌, ◌≤◌, true,
 use Rattle.std.specs.Prelude.{max}
 use Rattle.history.specs.Entries.{records_of}
 use Rattle.history.specs.declared.entry.Entry.{Entry}
+use Rattle.ipc_laws.specs.RunLaws.{steps_run}
 use Rattle.ipc_model.specs.calls.Step.{Run}
 use Rattle.ipc_model.specs.declared.record.Record.{Record}
 use Rattle.ipc_model.specs.state.State.{State}

@@ -1,4 +1,4 @@
-ghost use Rattle.std.specs.Prelude.{◌≡◌, ℕ, ◌+◌, ◌<◌, ◌≤◌, ◌∷◌, [], ◌++◌, Some, false, length, IfOk, IfErr, IfSome, IfNone, IsErrOf, MatchBool, MatchOption, OnErr};
+ghost use Rattle.std.specs.Prelude.{◌≡◌, ℕ, ◌+◌, ◌<◌, ◌≤◌, ◌∷◌, [], ◌++◌, Some, false, length, IfOk, IfErr, IfSome, IfNone, IsErrOf, MatchBool, MatchOption, OnErr, OnOk};
 ghost use Rattle.codes.specs.declared.name.TheConstants.{FIRST_SPACE};
 ghost use Rattle.ipc_model.specs.history.History.{called, looked, space_after};
 ghost use Rattle.ipc_model.specs.state.Circular.{Acyclic};

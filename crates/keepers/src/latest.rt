@@ -28,7 +28,7 @@ impl<L: Founding> Latest<L> {
     /// Returns the same prefix once more.
     pub fn again(&mut self) -> Result<Self, AllocError>
         ensures same { self.new ≡ self.old }
-        ensures latest { IfOk result (λ latest. latest ≡ record self.old { read = 0 }) }
+        ensures latest { IfOk result (λ latest. latest ≡ self.old) }
     {
         let past = self.past.again()?;
         Ok(Latest { past })

@@ -6,7 +6,8 @@ use Rattle.codes.specs.declared.limits.TheConstants.{MAX_RECORDS}
 use Rattle.disk.specs.Moments.{View, MayLeave, Passes}
 use Rattle.disk.specs.Slots.{Slots}
 use Rattle.epoch_log.specs.Logs.{TakenValue}
-use Rattle.ipc_model.specs.calls.Step.{Run, Steps}
+use Rattle.ipc_model.specs.calls.Step as calls
+use Rattle.ipc_model.specs.calls.Step.{Run}
 use Rattle.ipc_model.specs.declared.record.Record.{Record}
 use Rattle.ipc_model.specs.declared.reply.Reply.{Reply}
 use Rattle.ipc_model.specs.state.Circular.{Acyclic}
@@ -59,7 +60,7 @@ first_system kernel disk segment = record {
 
 -- What was applied: steps from the base to the core's state, of calls and replies that records can hold.
 pub record IsApplied (base : State) (applied : List Record) (kernel : State) (made : ℕ) : Type 0 where
-  pub run : Steps base applied kernel
+  pub run : calls.Steps base applied kernel
   pub fit : FitCalls applied
   pub records : AreRecords (map canonical_record applied)
   pub made_is : made ≡ length applied
