@@ -72,7 +72,7 @@ const LONGEST: Times = Times {
     pairs: u64::MAX,
 };
 
-/// The kind of these lines.
+/// Returns the kind of these lines.
 fn kind_of(
     alloc: Global,
     calls: &[Line<'_>],
@@ -195,7 +195,7 @@ fn end_turn<C: CostCore + Maker>(core: &mut C, kind: &Kind) -> Result<(), Fault>
     make_checkpoint(core)
 }
 
-/// The shortest times of all turns.
+/// Returns the shortest times of all turns.
 fn time_turns<C: CostCore + Maker>(
     context: &Context<'_>,
     core: &mut C,
@@ -296,12 +296,12 @@ fn print_kind<F: Folder>(
     Ok(())
 }
 
-/// The batches of names that are allocated.
+/// Returns the batches of names that are allocated.
 fn allocations(alloc: Global) -> Result<Kind, Fault> {
     kind_of(alloc, &ALLOCATE, &TWO_SPACES, &NEW_SPACES)
 }
 
-/// The batches of messages of 1 KiB.
+/// Returns the batches of messages of 1 KiB.
 fn messages(alloc: Global) -> Result<Kind, Fault> {
     let send = send_line(alloc, "send make_send_once 0x100 id 7", 1_024, 0)?;
     let calls = [(HERE, send.as_str(), 0, 2)];

@@ -30,7 +30,7 @@ impl<'a> Context<'a> {
         })
     }
 
-    /// The nanoseconds since the program began; 0 if the clock can't be read.
+    /// Returns the nanoseconds since the program began; 0 if the clock can't be read.
     pub(crate) fn nanos(&self) -> u64 {
         match self.start.elapsed(self.rt) {
             Ok(duration) => u64::try_from(duration.as_nanos()).unwrap_or(u64::MAX),
@@ -38,12 +38,12 @@ impl<'a> Context<'a> {
         }
     }
 
-    /// The nanoseconds since then.
+    /// Returns the nanoseconds since then.
     pub(crate) fn since(&self, start: u64) -> u64 {
         self.nanos().saturating_sub(start)
     }
 
-    /// A path in the folder that wasn't given before.
+    /// Returns a path in the folder that wasn't given before.
     fn new_path(&self) -> Result<String, Fault> {
         let (folder, number) = (self.folder, self.made.get());
         self.made.set(number.saturating_add(1));
@@ -53,13 +53,13 @@ impl<'a> Context<'a> {
         }
     }
 
-    /// A new file.
+    /// Returns a new file.
     pub(crate) fn new_file(&self) -> Result<File, Fault> {
         let path = self.new_path()?;
         Ok(File::create(self.rt, path.as_str())?)
     }
 
-    /// A figure of this process in kilobytes, as the system gives it after a label; 0 if it doesn't.
+    /// Returns a figure of this process in kilobytes, as the system gives it after a label; 0 if it doesn't.
     pub(crate) fn memory(&self, label: &str) -> u64 {
         match fs::read_to_string(self.rt, "/proc/self/status") {
             Ok(status) => figure_after(status.as_str(), label),
@@ -86,7 +86,7 @@ impl<'a> Context<'a> {
 pub(crate) trait Folder {
     type Files: Disk + Drop;
 
-    /// The files of a new folder.
+    /// Returns the files of a new folder.
     fn new_files(&self) -> Result<Self::Files, Fault>;
 }
 
@@ -103,7 +103,7 @@ impl<'a> Folder for Context<'a> {
     }
 }
 
-/// The number after the label that a line begins with; 0 if there is none.
+/// Returns the number after the label that a line begins with; 0 if there is none.
 fn figure_after(encoding: &str, label: &str) -> u64 {
     for line in encoding.lines() {
         if let Some(rest) = line.strip_prefix(label) {
@@ -113,7 +113,7 @@ fn figure_after(encoding: &str, label: &str) -> u64 {
     0
 }
 
-/// The first word of a line, as a number.
+/// Returns the first word of a line, as a number.
 fn first_number(line: &str) -> u64 {
     match line.split_whitespace().next() {
         Some(word) => word.parse().unwrap_or(0),
@@ -121,7 +121,7 @@ fn first_number(line: &str) -> u64 {
     }
 }
 
-/// A figure as hundredths of another one.
+/// Returns a figure as hundredths of another one.
 pub(crate) fn hundredths(figure: u64, of: u64) -> u64 {
     figure.saturating_mul(100).checked_div(of).unwrap_or(0)
 }

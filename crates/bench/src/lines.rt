@@ -29,7 +29,7 @@ fn read_line(alloc: Global, line: &str) -> Result<Call, Fault> {
     }
 }
 
-/// The call of a line, with this number for its `#`.
+/// Returns the call of a line, with this number for its `#`.
 pub(crate) fn call_of(alloc: Global, line: &str, number: u32) -> Result<Call, Fault> {
     let Some((front, beyond)) = line.split_once('#') else {
         return read_line(alloc, line);
@@ -81,7 +81,7 @@ pub(crate) fn make_lines<M: Maker>(
     Ok(())
 }
 
-/// Adds the calls of a line.
+/// Appends the calls of a line.
 fn push_steps(alloc: Global, steps: &mut Vec<CostStep>, line: Line<'_>) -> Result<(), Fault> {
     let (space, encoding, first, count) = line;
     for number in first..first.saturating_add(count) {
@@ -93,7 +93,7 @@ fn push_steps(alloc: Global, steps: &mut Vec<CostStep>, line: Line<'_>) -> Resul
     Ok(())
 }
 
-/// The calls of lines.
+/// Returns the calls of lines.
 pub(crate) fn steps_of(alloc: Global, lines: &[Line<'_>]) -> Result<Vec<CostStep>, Fault> {
     let mut steps = Vec::new(alloc);
     for line in lines {

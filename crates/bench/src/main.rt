@@ -106,7 +106,7 @@ fn run(rt: &HostRuntime, folder: &str) -> Result<(), Fault> {
     print_all::<Context<'_>, Kernel>(&context, &context)
 }
 
-/// The word after the program's name, if it is the only one.
+/// Returns the word after the program's name, if it is the only one.
 fn only_argument(rt: &HostRuntime) -> Option<String> {
     let mut words = env::args(rt).ok()?.skip(1);
     let word = words.next()?;

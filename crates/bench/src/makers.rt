@@ -50,7 +50,7 @@ pub(crate) trait CostCore {
     fn answer(&mut self, ticket: u64, is_done: bool) -> bool;
 }
 
-/// The event that is a piece of work.
+/// Returns the event that is a piece of work.
 fn event_of(work: Work) -> Event {
     match work {
         Work::Take => Event::Take,
@@ -147,7 +147,7 @@ fn make_stored<C: CostCore>(core: &mut C, space: u32, call: &Call, is_done: bool
     core.answer(ticket, is_done)
 }
 
-/// The core of a store on a disk.
+/// Returns the core of a store on a disk.
 pub(crate) fn open_core<D: Disk + Drop>(alloc: Global, disk: D) -> Result<System<D>, Fault> {
     match open(alloc, disk) {
         Ok(opened) => Ok(System::new(alloc, opened)),
@@ -155,7 +155,7 @@ pub(crate) fn open_core<D: Disk + Drop>(alloc: Global, disk: D) -> Result<System
     }
 }
 
-/// A single caller of a store on a disk.
+/// Returns a single caller of a store on a disk.
 pub(crate) fn open_alone<D: Disk + Drop>(alloc: Global, disk: D) -> Result<Alone<D>, Fault> {
     match open(alloc, disk) {
         Ok(opened) => Ok(Alone::new(alloc, opened)),

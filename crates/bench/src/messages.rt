@@ -53,7 +53,7 @@ static SMALL: [CostLine<'static>; 2] = [
 /// How a message goes to the port 0x100, by a send right that is made for it.
 pub(crate) const BY_SEND: &str = "send make_send 0x100 id 7";
 
-/// Adds an item of `count` bytes.
+/// Appends an item of `count` bytes.
 fn push_item(line: &mut String, count: u32) -> Result<(), AllocError> {
     line.push_str(" item bytes ")?;
     for _ in 0..count {
@@ -62,7 +62,7 @@ fn push_item(line: &mut String, count: u32) -> Result<(), AllocError> {
     Ok(())
 }
 
-/// Adds items of `count` bytes in all, each of at most 4,000 bytes after its descriptor.
+/// Appends items of `count` bytes in all, each of at most 4,000 bytes after its descriptor.
 fn push_bytes(line: &mut String, count: u32) -> Result<(), AllocError> {
     for _ in 0..count / 4_004 {
         push_item(line, 4_000)?;
@@ -74,7 +74,7 @@ fn push_bytes(line: &mut String, count: u32) -> Result<(), AllocError> {
     Ok(())
 }
 
-/// Adds what a message of this size has after its header, with this many send rights, which are moved.
+/// Appends what a message of this size has after its header, with this many send rights, which are moved.
 fn push_body(line: &mut String, size: u32, rights: u32) -> Result<(), AllocError> {
     let mut left = size.saturating_sub(24);
     if rights > 0 {
@@ -87,7 +87,7 @@ fn push_body(line: &mut String, size: u32, rights: u32) -> Result<(), AllocError
     push_bytes(line, left)
 }
 
-/// The line that sends a message in this way, of this size and with this many send rights.
+/// Returns the line that sends a message in this way, of this size and with this many send rights.
 pub(crate) fn send_line(alloc: Global, how: &str, size: u32, rights: u32) -> Result<String, Fault> {
     let mut line = String::new(alloc);
     if line.push_str(how).is_err() || push_body(&mut line, size, rights).is_err() {

@@ -45,7 +45,7 @@ struct Nanos {
     numbered: u64,
 }
 
-/// The lines of a pair, with this before each.
+/// Returns the lines of a pair, with this before each.
 fn lines_of(
     alloc: Global,
     before: &str,
@@ -62,7 +62,7 @@ fn lines_of(
     Ok([send_line(alloc, first.as_str(), size, 0)?, second])
 }
 
-/// The calls of a turn, with numbers from this on where the lines have one.
+/// Returns the calls of a turn, with numbers from this on where the lines have one.
 fn calls_of(alloc: Global, lines: &[String; 2], from: u32) -> Result<Vec<CostStep>, Fault> {
     let mut steps = Vec::new(alloc);
     for place in 0..CALLS {
@@ -88,7 +88,7 @@ fn time_calls<M: Machine>(
     Ok(context.since(start))
 }
 
-/// The shortest times of a pair of calls.
+/// Returns the shortest times of a pair of calls.
 fn time_pair<M: Machine>(
     context: &Context<'_>,
     machine: &mut M,

@@ -70,7 +70,7 @@ pub(crate) fn time_opening<D: Disk + Drop>(
     }
 }
 
-/// The shortest of three times to open a store, and the store's disk.
+/// Returns the shortest of three times to open a store, and the store's disk.
 pub(crate) fn shortest_opening<D: Disk + Drop>(
     context: &Context<'_>,
     disk: D,
@@ -92,7 +92,7 @@ fn micros_of_small<D: Disk + Drop>(
     Ok(nanos / 1_000)
 }
 
-/// A store of 8 KiB messages and their receives, on a disk that has none.
+/// Returns a store of 8 KiB messages and their receives, on a disk that has none.
 fn store_of_messages<D: Disk + Drop>(context: &Context<'_>, disk: D) -> Result<D, Fault> {
     let line = send_line(context.alloc, BY_SEND, 8_192, 0)?;
     make_store(context.alloc, disk, (line.as_str(), RECEIPT), ALL)

@@ -19,7 +19,7 @@ pub(crate) struct Plain {
 }
 
 impl Plain {
-    /// A new file.
+    /// Returns a new file.
     pub(crate) fn create(context: &Context<'_>) -> Result<Plain, Fault> {
         let file = context.new_file()?;
         match Vec::from_elem(context.alloc, 0x61, MOST) {

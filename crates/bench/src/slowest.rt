@@ -48,7 +48,7 @@ impl Times {
         self.sum = self.sum.saturating_add(nanos);
     }
 
-    /// The microseconds of the longest, and the mean.
+    /// Returns the microseconds of the longest, and the mean.
     fn micros(&self) -> (u64, u64) {
         let mean = self.sum.checked_div(self.count).unwrap_or(0);
         (self.longest / 1_000, mean / 1_000)
@@ -92,7 +92,7 @@ fn prepare<M: Maker>(
     make_line(alloc, maker, (HERE, RECORDED, 0, count))
 }
 
-/// A new store in which this was made.
+/// Returns a new store in which this was made.
 fn prepared<D: Disk + Drop>(
     alloc: Global,
     disk: D,

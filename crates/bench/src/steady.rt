@@ -68,7 +68,7 @@ const NOTHING: Most = Most {
     bytes: 0,
 };
 
-/// The bytes after a reply with code 0.
+/// Returns the bytes after a reply with code 0.
 fn after_done(replies: &[u8]) -> Option<&[u8]> {
     let (length, reply) = take_word(replies)?;
     let (_, results) = take_word(reply)?;
@@ -79,7 +79,7 @@ fn after_done(replies: &[u8]) -> Option<&[u8]> {
     reply.get(length as usize..)
 }
 
-/// Whether bytes are `count` replies, each with code 0.
+/// Returns true if bytes are `count` replies, each with code 0.
 fn are_done(replies: &[u8], count: u64) -> bool {
     let mut rest = replies;
     for _ in 0..count {
@@ -91,7 +91,7 @@ fn are_done(replies: &[u8], count: u64) -> bool {
     rest.is_empty()
 }
 
-/// The frames that are sent at once.
+/// Returns the frames that are sent at once.
 fn frames_at_once(alloc: Global) -> Result<Vec<u8>, Fault> {
     let mut frames = Vec::new(alloc);
     for _ in 0..AT_ONCE {

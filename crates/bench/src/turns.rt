@@ -54,7 +54,7 @@ fn place<M: Machine + Drop>(alloc: Global, alongside: Alongside) -> Result<Place
     })
 }
 
-/// A machine in the state of each way, with at most this many extra names.
+/// Returns a machine in the state of each way, with at most this many extra names.
 pub(crate) fn place_all<M: Machine + Drop>(
     alloc: Global,
     most_names: u32,
@@ -69,7 +69,7 @@ pub(crate) fn place_all<M: Machine + Drop>(
     Ok(machines)
 }
 
-/// The calls of each part.
+/// Returns the calls of each part.
 fn parts_of(alloc: Global, row: &CostLine<'_>) -> Result<Vec<Vec<CostStep>>, Fault> {
     let mut parts = Vec::new(alloc);
     for (_, space, line, first, count) in row.parts {
@@ -153,7 +153,7 @@ fn time_ways<M: Machine>(
     Ok(())
 }
 
-/// The shortest times of each part in each way.
+/// Returns the shortest times of each part in each way.
 fn time_row<M: Machine>(
     context: &Context<'_>,
     machines: &mut [Placed<M>],
@@ -167,7 +167,7 @@ fn time_row<M: Machine>(
     Ok(least)
 }
 
-/// The times of a part in each way.
+/// Returns the times of a part in each way.
 fn times_of(least: &[Nanos; WAYS], place: usize) -> [u64; WAYS] {
     let mut times = [0; WAYS];
     for (time, nanos) in times.iter_mut().zip(least) {
@@ -176,7 +176,7 @@ fn times_of(least: &[Nanos; WAYS], place: usize) -> [u64; WAYS] {
     times
 }
 
-/// The times of all parts together in each way.
+/// Returns the times of all parts together in each way.
 fn sums_of(least: &[Nanos; WAYS]) -> [u64; WAYS] {
     let mut sums = [0u64; WAYS];
     for (sum, nanos) in sums.iter_mut().zip(least) {

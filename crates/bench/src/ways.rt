@@ -70,7 +70,7 @@ pub(crate) static ALL_WAYS: [Alongside; WAYS] = [
 ];
 
 impl Alongside {
-    /// The number of the space that is made next.
+    /// Returns the number of the space that is made next.
     pub(crate) fn next_space(&self) -> u32 {
         self.spaces.saturating_add(3)
     }

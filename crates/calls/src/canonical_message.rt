@@ -20,7 +20,7 @@ fn clear_ignored(message: &mut [u8])
     }
 }
 
-/// Makes the message that stands at this place, up to the end, what a record keeps of it. It takes no memory.
+/// Makes the message that stands at this place, up to the end, what a record keeps of it. It allocates nothing.
 pub(crate) fn make_canonical(out: &mut Vec<u8>, at: usize)
     requires { at ≤ length out.old.items }
     ensures message { out.new.items ≡ take at out.old.items ++ canonical_message (drop at out.old.items) }
@@ -30,7 +30,7 @@ pub(crate) fn make_canonical(out: &mut Vec<u8>, at: usize)
     clear_ignored(message);
 }
 
-/// The message as a record keeps it.
+/// Returns the message as a record keeps it.
 pub(crate) fn canonical_message_of(alloc: Global, message: &[u8]) -> Result<Vec<u8>, AllocError>
     ensures { IfOk result (λ kept. kept.items ≡ canonical_message message.now) }
 {

@@ -84,7 +84,7 @@ fn start_status(frame: &mut Frame, front: &[u32], status: &ReceiveStatus)
     );
 }
 
-/// Writes a plain reply into a frame, after the numbers that stand in front. It takes no memory.
+/// Writes a plain reply into a frame, after the numbers that stand in front. It allocates nothing.
 #[tactic(auto, unfolding(ipc_model::specs::encodings::PlainCalls::reply_encoding))]
 pub(crate) fn put_plain_reply(front: &[u32], reply: &PlainReply, frame: &mut Frame)
     requires room { MAX_FRAME_CONTENT ≤ frame.old.room }

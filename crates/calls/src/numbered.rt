@@ -21,7 +21,8 @@ const RECEIVE_ATTEMPT: u32 = 0x102;
 
 const LARGE_ATTEMPT: u32 = 0x902;
 
-/// The one attempt at a send or a receive that a `mach_msg` with a timeout of 0 asks for, if it may be numbered.
+/// Returns the one attempt at a send or a receive that a `mach_msg` with a timeout of 0 asks for, if it may be
+/// numbered.
 fn attempt_of(
     alloc: Global,
     option: u32,
@@ -47,7 +48,7 @@ fn attempt_of(
     }
 }
 
-/// The attempt that these arguments of `mach_msg` ask for, if it may be numbered.
+/// Returns the attempt that these arguments of `mach_msg` ask for, if it may be numbered.
 fn read_attempt(alloc: Global, arguments: &[u8]) -> Result<Option<PlainCall>, AllocError>
     ensures found { IfOk result (λ found. IfSome found (AsksAttempt arguments.now)) }
     ensures only { (c : PlainCall) → AsksAttempt arguments.now c → IfOk result (λ found. found ≡ Some c) }
@@ -62,7 +63,7 @@ fn read_attempt(alloc: Global, arguments: &[u8]) -> Result<Option<PlainCall>, Al
     attempt_of(alloc, option, limit, name, message)
 }
 
-/// The call other than `mach_msg` with this number and these arguments, if it may be numbered.
+/// Returns the call other than `mach_msg` with this number and these arguments, if it may be numbered.
 fn read_other(number: u32, arguments: &[u8]) -> Option<PlainCall>
     requires { number ≢ MACH_MSG }
     ensures found { IfSome result (Numbers (word number ++ arguments.now)) }
@@ -77,7 +78,7 @@ fn read_other(number: u32, arguments: &[u8]) -> Option<PlainCall>
     Some(call)
 }
 
-/// The call that this content of a frame asks for, if it may be numbered.
+/// Returns the call that this content of a frame asks for, if it may be numbered.
 fn read_numberable(alloc: Global, content: &[u8]) -> Result<Option<PlainCall>, AllocError>
     ensures found { IfOk result (λ found. IfSome found (Numbers content.now)) }
     ensures only { (c : PlainCall) → Numbers content.now c → IfOk result (λ found. found ≡ Some c) }

@@ -5,7 +5,8 @@ ghost use Rattle.ipc_model.specs.encodings.PlainCalls.{receive_option};
 use bitflags::Flags;
 use codes::MessageOptions;
 
-/// The options of a receive in a record: `RECEIVE`, and `LARGE` as well if a message that is too large stays queued.
+/// Returns the options of a receive in a record: `RECEIVE`, and `LARGE` as well if a message that is too large stays
+/// queued.
 pub(crate) fn receive_options(large: bool) -> MessageOptions
     ensures { bits_of result ≡ receive_option large }
 {

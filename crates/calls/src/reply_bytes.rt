@@ -23,7 +23,7 @@ use std::alloc::{AllocError, Global};
 use wire::Frame;
 use words::take_word;
 
-/// Writes a reply into a frame. It takes no memory.
+/// Writes a reply into a frame. It allocates nothing.
 pub fn reply_frame(reply: &Reply, frame: &mut Frame)
     requires room { MAX_FRAME_CONTENT ≤ frame.old.room }
     // The names of a space and of a set's members fit, and so does a message of the greatest size.
@@ -39,8 +39,8 @@ pub fn reply_frame(reply: &Reply, frame: &mut Frame)
     }
 }
 
-/// Adds the reply to a numbered call. If an allocation fails, some of it may have been added. It takes no memory if there
-/// is room.
+/// Appends the reply to a numbered call. If an allocation fails, some of it may have been added. It allocates nothing
+/// if there is room.
 pub fn push_numbered_reply(out: &mut Vec<u8>, answer: &NumberedReply) -> Result<(), AllocError>
     requires { length (numbered_encoding answer.now) < 2 ^ 32 }
     ensures ok { OnOk result (out.new.items ≡ out.old.items ++ numbered_encoding answer.now) }
@@ -51,8 +51,8 @@ pub fn push_numbered_reply(out: &mut Vec<u8>, answer: &NumberedReply) -> Result<
     push_plain_reply(out, &answer.reply)
 }
 
-/// Adds the number, the code and the results of a reply. If an allocation fails, some of them may have been added. It
-/// takes no memory if there is room.
+/// Appends the number, the code and the results of a reply. If an allocation fails, some of them may have been added.
+/// It allocates nothing if there is room.
 pub fn push_reply(out: &mut Vec<u8>, reply: &Reply) -> Result<(), AllocError>
     requires { length (reply_encoding reply.now) < 2 ^ 32 }
     ensures ok { OnOk result (out.new.items ≡ out.old.items ++ reply_encoding reply.now) }
@@ -65,7 +65,7 @@ pub fn push_reply(out: &mut Vec<u8>, reply: &Reply) -> Result<(), AllocError>
     }
 }
 
-/// The request that a reply to a numbered call has, and what encodes the reply to the call that is numbered.
+/// Returns the request that a reply to a numbered call has, and what encodes the reply to the call that is numbered.
 fn take_numbered(content: &[u8]) -> Option<(u32, &[u8])>
     ensures found { IfSome result (λ r. (content.now ≡ done_encoding NUMBERED (word r.0 ++ r.1.now))
         × (r.0 < 2 ^ 32)) }
@@ -83,7 +83,7 @@ fn take_numbered(content: &[u8]) -> Option<(u32, &[u8])>
     }
 }
 
-/// The reply to this numbered call that these bytes encode, if they encode one in its record.
+/// Returns the reply to this numbered call that these bytes encode, if they encode one in its record.
 fn read_recorded_numbered(
     alloc: Global,
     numbered: &NumberedCall,
@@ -109,8 +109,8 @@ fn read_recorded_numbered(
     Ok(Some(NumberedReply { request, reply }))
 }
 
-/// The reply that these bytes encode, if they encode a reply in a record of this call. It can run out of memory only
-/// for a received message.
+/// Returns the reply that these bytes encode, if they encode a reply in a record of this call. It can run out of memory
+/// only for a received message.
 pub fn read_recorded_reply(
     alloc: Global,
     call: &Call,
@@ -140,7 +140,8 @@ pub fn read_recorded_reply(
     }
 }
 
-/// The reply to a numbered call of this request that was made, if this encodes the reply to the call that is numbered.
+/// Returns the reply to a numbered call of this request that was made, if this encodes the reply to the call that is
+/// numbered.
 fn read_made(alloc: Global, request: u32, inner: &[u8]) -> Result<Option<Reply>, AllocError>
     ensures found { IfOk result (λ found. IfSome found
         (Answers NUMBERED (done_encoding NUMBERED (word request ++ inner.now)))) }
@@ -156,7 +157,7 @@ fn read_made(alloc: Global, request: u32, inner: &[u8]) -> Result<Option<Reply>,
     Ok(Some(Reply::Numbered(NumberedReply { request, reply })))
 }
 
-/// The reply to a call with this number that was not made by a number of its task's.
+/// Returns the reply to a call with this number that was not made by a number of its task's.
 fn read_own_reply(alloc: Global, number: u32, content: &[u8]) -> Result<Option<Reply>, AllocError>
     ensures found { IfOk result (λ found. IfSome found (Answers number content.now)) }
     ensures only { (answer : PlainReply) → Answers number content.now (reply.Plain answer)
@@ -169,8 +170,8 @@ fn read_own_reply(alloc: Global, number: u32, content: &[u8]) -> Result<Option<R
     }
 }
 
-/// The reply to a call with this number that a frame's content encodes, if it encodes one. It can run out of memory
-/// only for a message, for names or for members.
+/// Returns the reply to a call with this number that a frame's content encodes, if it encodes one. It can run out of
+/// memory only for a message, for names or for members.
 pub fn read_reply(alloc: Global, number: u32, content: &[u8]) -> Result<Option<Reply>, AllocError>
     ensures found { IfOk result (λ found. IfSome found (Answers number content.now)) }
     ensures only { (answer : Reply) → Answers number content.now answer → IfOk result (λ found. found ≡ Some answer) }

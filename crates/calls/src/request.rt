@@ -49,7 +49,7 @@ pub enum CallFault {
     NoMemory = 2,
 }
 
-/// Whether the options ask for a send or a receive.
+/// Returns true if the options ask for a send or a receive.
 fn asks_for_some(options: MessageOptions) -> bool
     ensures { result ≡ (requests.has_option (bits_of options) requests.send_msg || requests.has_option
         (bits_of options) requests.rcv_msg) }
@@ -57,7 +57,7 @@ fn asks_for_some(options: MessageOptions) -> bool
     options.contains(MessageOptions::SEND) || options.contains(MessageOptions::RECEIVE)
 }
 
-/// The send that the options ask for.
+/// Returns the send that the options ask for.
 fn asked_send(
     alloc: Global,
     options: MessageOptions,
@@ -73,7 +73,7 @@ fn asked_send(
     Ok(Some(Call::Plain(PlainCall::Send { message })))
 }
 
-/// The receive that the options ask for.
+/// Returns the receive that the options ask for.
 fn asked_receive(options: MessageOptions, limit: u32, name: u32) -> Option<Call>
     ensures { result ≡ requests.asked_receive (bits_of options) limit name }
 {
@@ -88,7 +88,7 @@ fn asked_receive(options: MessageOptions, limit: u32, name: u32) -> Option<Call>
     }))
 }
 
-/// The bound on a wait, if the options have this one.
+/// Returns the bound on a wait, if the options have this one.
 fn asked_timeout(options: MessageOptions, bound: MessageOptions, timeout: u32) -> Option<u32>
     ensures { result ≡ requests.asked_timeout (bits_of options) (bits_of bound) timeout }
 {
@@ -133,7 +133,7 @@ fn request_of(
     }))
 }
 
-/// The four numbers that stand in front, and the bytes after them.
+/// Returns the four numbers that stand in front, and the bytes after them.
 pub(crate) fn take_four(bytes: &[u8]) -> Option<(u32, u32, u32, u32, &[u8])>
     ensures found { IfSome result (λ r. bytes.now ≡ word r.0 ++ (word r.1 ++ (word r.2 ++ (word r.3 ++ r.4.now)))) }
     ensures fits { IfSome result (λ r. (r.0 < 2 ^ 32) × (r.1 < 2 ^ 32) × (r.2 < 2 ^ 32) × (r.3 < 2 ^ 32)) }

@@ -70,7 +70,7 @@ pub(crate) fn pieces_in(encoding: &[u8]) -> u64
     encoding.len().div_ceil(PIECE) as u64
 }
 
-/// A piece of an encoding, by how many come before it.
+/// Returns a piece of an encoding, by how many come before it.
 pub(crate) fn piece_at(encoding: &[u8], before: u64) -> &[u8]
     ensures { first_pieces before encoding.now ++ result.now ≡ first_pieces (before + 1) encoding.now }
 {

@@ -34,7 +34,7 @@ pub fn release_receive(
     }
 }
 
-/// The target that a released receive right goes to, if it goes to one.
+/// Returns the target that a released receive right goes to, if it goes to one.
 fn taker(state: &IpcState, serial: u64, request: Option<u64>) -> Option<u64>
     ensures { result ≡ taker state.now.current serial request }
 {

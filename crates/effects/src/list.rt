@@ -26,7 +26,7 @@ impl Model for Effects {
 }
 
 impl Effects {
-    /// No effects. It takes no memory.
+    /// No effects. It allocates nothing.
     pub fn new(alloc: Global) -> Self
         ensures { result ≡ [] }
     {

@@ -54,7 +54,7 @@ impl Model for EpochLog {
 }
 
 impl EpochLog {
-    /// The log of an epoch whose segment holds `length` records. It takes no memory.
+    /// Returns the log of an epoch whose segment holds `length` records. It allocates nothing.
     pub fn new(alloc: Global, length: u64) -> Self
         ensures { result ≡ record { length = length; made = 0; waiting = empty_batch } }
     {
@@ -141,7 +141,7 @@ impl EpochLog {
         Taken { epoch, batch }
     }
 
-    /// Takes the records that wait, which are of this epoch, and becomes the next epoch's log. It takes no memory.
+    /// Takes the records that wait, which are of this epoch, and becomes the next epoch's log. It allocates nothing.
     pub fn end(&mut self, epoch: u64) -> Taken
         ensures taken { result ≡ record { epoch = epoch; batch = self.old.waiting } }
         ensures left { self.new ≡ next_log self.old }

@@ -40,7 +40,7 @@ impl Taken {
         }
     }
 
-    /// The epoch in whose segment they are stored.
+    /// Returns the epoch in whose segment they are stored.
     pub fn epoch(&self) -> u64
         ensures { result ≡ self.now.epoch }
     {
@@ -54,14 +54,14 @@ impl Taken {
         self.batch.count()
     }
 
-    /// The records, as they are stored.
+    /// Returns the records, as they are stored.
     pub fn batch(&self) -> &Batch
         ensures { result.now ≡ self.now.batch }
     {
         &self.batch
     }
 
-    /// An empty batch, with the room of this one.
+    /// Returns an empty batch, with the room of this one.
     pub fn into_empty(self) -> Batch
         ensures { result ≡ empty_batch }
     {

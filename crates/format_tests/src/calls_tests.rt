@@ -38,7 +38,7 @@ fn call_of_line(alloc: Global, line: &str) -> Option<Call> {
     read_request_line(alloc, line.as_bytes()).ok()
 }
 
-// The call of a record, if this is its encoding.
+// Returns the call of a record, if this is its encoding.
 fn call_of_record(alloc: Global, encoding: &[u8]) -> Option<Option<Call>> {
     read_call(alloc, encoding).ok()
 }
@@ -340,7 +340,7 @@ fn number_23_confines_and_has_no_arguments(rt: HostRuntime) {
     same(&rt, seen, [Some(true), Some(false), None, None]);
 }
 
-// The code with which a request is answered at once.
+// Returns the code with which a request is answered at once.
 fn answer_of(request: &Request) -> Option<KernReturn> {
     match request {
         Request::Answered(code) => Some(*code),
@@ -348,7 +348,7 @@ fn answer_of(request: &Request) -> Option<KernReturn> {
     }
 }
 
-// The code with which a `mach_msg` with this option is answered at once.
+// Returns the code with which a `mach_msg` with this option is answered at once.
 fn answer_at_once(alloc: Global, option: u32) -> Option<KernReturn> {
     let request = asked(alloc, &[19, option, 28, 0x100, 0], b"ab")?;
     let answer = answer_of(&request);
@@ -580,12 +580,12 @@ fn rows_as_bytes(rt: HostRuntime) {
     same(&rt, seen, [ENCODED; 3]);
 }
 
-// The reply to a call of a record, if this is its encoding.
+// Returns the reply to a call of a record, if this is its encoding.
 fn reply_of_record(alloc: Global, call: &Call, encoding: &[u8]) -> Option<Option<Reply>> {
     read_recorded_reply(alloc, call, encoding).ok()
 }
 
-// The name that was allocated.
+// Returns the name that was allocated.
 fn allocated_name(reply: &Option<Reply>) -> Option<u32> {
     match reply {
         Some(Reply::Plain(PlainReply::Allocate { name })) => Some(*name),
@@ -593,7 +593,7 @@ fn allocated_name(reply: &Option<Reply>) -> Option<u32> {
     }
 }
 
-// The name of an allocation's reply.
+// Returns the name of an allocation's reply.
 fn name_of_record(alloc: Global, encoding: &[u8]) -> Option<u32> {
     let reply = reply_of_record(
         alloc,
@@ -647,7 +647,7 @@ fn replies_of_records(rt: HostRuntime) {
     }
 }
 
-// The encoding of a reply to `mach_msg`: code, size and member, and a message of `length` bytes.
+// Returns the encoding of a reply to `mach_msg`: code, size and member, and a message of `length` bytes.
 fn message_reply(alloc: Global, results: &[u32; 3], length: usize) -> Option<Vec<u8>> {
     let [code, size, member] = *results;
     let mut encoding = encoding_of(alloc, &[19, code, size, member])?;

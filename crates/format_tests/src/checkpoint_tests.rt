@@ -35,13 +35,13 @@ const CALLS: u64 = 18;
 
 /// A disk that crashes as planned. No method has a clause, so that a test's proof carries nothing of one.
 trait Store: Disk {
-    /// A disk whose slots of odd epochs hold what stood there before, and whose calls fail from this one on.
+    /// Returns a disk whose slots of odd epochs hold what stood there before, and whose calls fail from this one on.
     fn former(alloc: Global, stop_at: u64, torn: Torn) -> Option<Self>;
 
     /// What a crash leaves.
     fn stop(self) -> Option<Self>;
 
-    /// The bytes of a slot.
+    /// Returns the bytes of a slot.
     fn bytes(&self, slot: Slot) -> &[u8];
 }
 
@@ -61,7 +61,7 @@ impl Store for MemDisk {
     }
 }
 
-/// The image of epoch 1 that has the encoding of one port.
+/// Returns the image of epoch 1 that has the encoding of one port.
 fn image_of_one_port(alloc: Global) -> Option<Image> {
     let snapshot = read(alloc, StoreVersion::Two, &ONE_PORT).ok()?;
     let image = Image::of(alloc, 1, &snapshot);
@@ -83,14 +83,14 @@ fn make<D: Disk>(image: &Image, disk: &mut D) -> Result<(), DiskFault> {
     image.write(disk)
 }
 
-/// The whole image of epoch 1.
+/// Returns the whole image of epoch 1.
 fn whole_image(alloc: Global) -> Option<Vec<u8>> {
     let mut whole = Vec::from_slice(alloc, &HEADER).ok()?;
     whole.extend_from_slice(&ONE_PORT).ok()?;
     Some(whole)
 }
 
-/// Whether a slot isn't open, is as it was, or holds all that was made.
+/// Returns true if a slot isn't open, is as it was, or holds all that was made.
 fn is_left(slot: &[u8], header: usize, whole: &[u8]) -> bool {
     if slot.len() < header {
         return true;
@@ -116,7 +116,7 @@ fn stopped_well<S: Store + Drop>(
     Some(failed && segment && is_left(left.bytes(Slot::Image1), 24, whole))
 }
 
-/// The first crash that doesn't, by its call and by what it leaves of what isn't synced.
+/// Returns the first crash that doesn't, by its call and by what it leaves of what isn't synced.
 fn stopped_badly<S: Store + Drop>(
     alloc: Global,
     image: &Image,

@@ -40,7 +40,7 @@ struct Ended {
     errors: Vec<u8>,
 }
 
-/// Whether a run ended with this status, and wrote this to each of the two.
+/// Returns true if a run ended with this status, and wrote this to each of the two.
 fn has_ended(ended: &Ended, status: u8, output: &[u8], errors: &str) -> bool {
     ended.status == status
         && ended.output.as_slice() == output

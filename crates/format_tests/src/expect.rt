@@ -19,7 +19,7 @@ pub(crate) fn same_in_row<T: PartialEq + Debug + Drop>(
     assert_eq!(rt; seen, wanted, "{row:?}");
 }
 
-/// Whether there is a value, which isn't needed after this.
+/// Returns true if there is a value, which isn't needed after this.
 pub(crate) fn is_there<T: Drop>(value: Option<T>) -> bool {
     value.is_some()
 }

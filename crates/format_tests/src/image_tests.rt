@@ -78,7 +78,7 @@ static OTHERWISE: [(usize, u8); 17] = [
     (227, 1),
 ];
 
-/// An encoding of a version that is read, and written again in the current one.
+/// Returns an encoding of a version that is read, and written again in the current one.
 fn again(alloc: Global, version: StoreVersion, encoding: &[u8]) -> Result<Vec<u8>, ImageFault> {
     let snapshot = read(alloc, version, encoding)?;
     let mut out = Vec::new(alloc);
@@ -86,7 +86,7 @@ fn again(alloc: Global, version: StoreVersion, encoding: &[u8]) -> Result<Vec<u8
     Ok(out)
 }
 
-/// Whether an encoding of a version is read, and written again in these bytes.
+/// Returns true if an encoding of a version is read, and written again in these bytes.
 fn is_written(alloc: Global, version: StoreVersion, encoding: &[u8], bytes: &[u8]) -> bool {
     match again(alloc, version, encoding) {
         Ok(out) => out.as_slice() == bytes,
@@ -94,7 +94,7 @@ fn is_written(alloc: Global, version: StoreVersion, encoding: &[u8], bytes: &[u8
     }
 }
 
-/// Whether bytes are no image of a version.
+/// Returns true if bytes are no image of a version.
 fn is_none_of(alloc: Global, version: StoreVersion, encoding: &[u8]) -> bool {
     match again(alloc, version, encoding) {
         Ok(_) => false,

@@ -92,7 +92,7 @@ fn receive_bytes(alloc: Global) -> Option<Vec<u8>> {
     written
 }
 
-// The record holds a send without what it ignores: unused bits, a size and a sequence number.
+// Returns the record holds a send without what it ignores: unused bits, a size and a sequence number.
 #[tactic(auto, unfolding(ipc_model::specs::encodings::PlainCalls::call_encoding, ipc_model::specs::encodings::PlainCalls::reply_encoding))]
 fn raw_send_bytes(alloc: Global) -> Option<Vec<u8>> {
     let sent = b"\x13\0\xff\x7f\xff\xff\xff\xff\0\x01\0\0\0\0\0\0\xff\xff\xff\xff\

@@ -44,7 +44,7 @@ fn spaces(alloc: Global) -> Option<Sequence<Space>> {
     Some(Sequence::new(Vec::from_array(alloc, [space]).ok()?))
 }
 
-/// A message with the receive right of port 2, and a send right of port 1 and one of a dead port.
+/// Returns a message with the receive right of port 2, and a send right of port 1 and one of a dead port.
 fn message(alloc: Global) -> Option<Message> {
     let rights = [
         CarriedRight {

@@ -171,7 +171,7 @@ fn number_at(lines: &[Line], index: usize) -> Option<usize> {
     Some(lines.get(index)?.number)
 }
 
-// The numbers of a script's first three lines.
+// Returns the numbers of a script's first three lines.
 fn numbers_of_script(alloc: Global, encoding: &[u8]) -> Option<[Option<usize>; 3]> {
     let lines = read_script(alloc, encoding).ok()?;
     let numbers = [

@@ -129,7 +129,7 @@ fn places_are_filled(rt: HostRuntime) {
     );
 }
 
-/// A body of one item with 257 ports.
+/// Returns a body of one item with 257 ports.
 fn many_ports(alloc: Global) -> Option<Vec<u8>> {
     let mut body = Vec::from_slice(alloc, &[0x11, 0x20, 1, 0x11]).ok()?;
     body.resize(4 + 4 * 257, 0).ok()?;

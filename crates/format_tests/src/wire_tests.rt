@@ -53,7 +53,7 @@ fn frame_from(alloc: Global, input: &mut impl Read) -> Option<Frame> {
     read_frame(alloc, input).ok()?
 }
 
-/// A frame's number and its arguments.
+/// Returns a frame's number and its arguments.
 fn parts_of(frame: &Option<Frame>) -> Option<(u32, &[u8])> {
     let frame = frame.as_ref()?;
     Some((frame.number(), frame.arguments()))

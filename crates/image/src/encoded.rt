@@ -16,7 +16,7 @@ pub(crate) trait Encoded: Drop {
     /// An image can encode it.
     ghost fits: { Self → Type 0 };
 
-    /// The value that stands in front, and the bytes after it.
+    /// Returns the value that stands in front, and the bytes after it.
     fn take(
         alloc: Global,
         version: StoreVersion,
@@ -57,8 +57,8 @@ pub(crate) fn take_rows<T: Encoded>(
     Ok(Some((Sequence::new(rows), rest)))
 }
 
-/// Adds a number of rows or bytes. One that doesn't fit its word is of more than any memory holds, so it is refused as
-/// out of memory; then nothing changed.
+/// Appends a number of rows or bytes. One that doesn't fit its word is of more than any memory holds, so it is refused
+/// as out of memory; then nothing changed.
 pub(crate) fn push_length(out: &mut Vec<u8>, length: usize) -> Result<(), AllocError>
     ensures { OnOk result (out.new.items ≡ out.old.items ++ word length) }
 {
@@ -68,7 +68,7 @@ pub(crate) fn push_length(out: &mut Vec<u8>, length: usize) -> Result<(), AllocE
     push_word(out, length)
 }
 
-/// Adds the bytes of values, one after another. If an allocation fails, some of them may have been added.
+/// Appends the bytes of values, one after another. If an allocation fails, some of them may have been added.
 pub(crate) fn push_rows<T: Encoded>(out: &mut Vec<u8>, rows: &[T]) -> Result<(), AllocError>
     ensures { OnOk result (out.new.items ≡ out.old.items ++ flat_map (T.encoding current) rows.now) }
 {

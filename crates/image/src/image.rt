@@ -16,7 +16,7 @@ use snapshot::{IpcSnapshot, LivePort, Snapshot, Space, ascends};
 use std::alloc::{AllocError, Global};
 use words::{push_long_word, take_long_word, take_word};
 
-/// The spaces in front, after their number, with what they keep, and the bytes after them.
+/// Returns the spaces in front, after their number, with what they keep, and the bytes after them.
 fn take_spaces(
     alloc: Global,
     version: StoreVersion,
@@ -44,7 +44,7 @@ fn take_spaces(
     Ok(Some((spaces, kept, rest)))
 }
 
-/// The live ports in front, after their number, and the bytes after them.
+/// Returns the live ports in front, after their number, and the bytes after them.
 fn take_ports(
     alloc: Global,
     version: StoreVersion,
@@ -71,14 +71,14 @@ fn take_ports(
     Ok(Some((ports, rest)))
 }
 
-/// Whether nothing is left.
+/// Returns true if nothing is left.
 fn is_end(rest: &[u8]) -> bool
     ensures { MatchBool result (rest.now ≡ []) (rest.now ≢ []) }
 {
     rest.is_empty()
 }
 
-/// The snapshot that these bytes encode.
+/// Returns the snapshot that these bytes encode.
 fn read_snapshot(
     alloc: Global,
     version: StoreVersion,
@@ -109,8 +109,8 @@ fn read_snapshot(
     Ok(Some(Snapshot { ipc, kept }))
 }
 
-/// The snapshot that bytes encode in a version: its numbers fit their words, and its spaces, their names and its ports
-/// ascend.
+/// Returns the snapshot that bytes encode in a version: its numbers fit their words, and its spaces, their names and
+/// its ports ascend.
 ///
 /// `NotCanonical`: they encode none. `NoMemory`: an allocation failed.
 pub fn read(alloc: Global, version: StoreVersion, bytes: &[u8]) -> Result<Snapshot, ImageFault>

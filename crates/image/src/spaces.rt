@@ -57,7 +57,7 @@ fn take_request(
     Ok(Some((Some(kept), rest)))
 }
 
-/// The names of a space, and the bytes after them.
+/// Returns the names of a space, and the bytes after them.
 fn take_names(
     alloc: Global,
     version: StoreVersion,
@@ -83,7 +83,7 @@ fn take_names(
     Ok(Some((names, rest)))
 }
 
-/// The space in front with what it keeps, and the bytes after it.
+/// Returns the space in front with what it keeps, and the bytes after it.
 pub(crate) fn take_space(
     alloc: Global,
     version: StoreVersion,
@@ -138,7 +138,7 @@ pub(crate) fn take_all(
     Ok(Some((Sequence::new(spaces), Sequence::new(all_kept), rest)))
 }
 
-/// Adds what a space keeps, in the current version.
+/// Appends what a space keeps, in the current version.
 fn push_kept(out: &mut Vec<u8>, kept: Option<&NumberedReply>) -> Result<(), AllocError>
     ensures { OnOk result (out.new.items ≡ out.old.items ++ kept_encoding current (option_copied kept.entry)) }
 {
@@ -151,7 +151,7 @@ fn push_kept(out: &mut Vec<u8>, kept: Option<&NumberedReply>) -> Result<(), Allo
     }
 }
 
-/// Adds a space with what it keeps, in the current version.
+/// Appends a space with what it keeps, in the current version.
 fn push_space(
     out: &mut Vec<u8>,
     space: &Space,
@@ -179,7 +179,7 @@ fn first_kept(kept: &[Option<NumberedReply>]) -> (Option<&NumberedReply>, &[Opti
     }
 }
 
-/// Adds spaces, each with what it keeps: nothing, where too few are listed.
+/// Appends spaces, each with what it keeps: nothing, where too few are listed.
 pub(crate) fn push_all(
     out: &mut Vec<u8>,
     spaces: &[Space],

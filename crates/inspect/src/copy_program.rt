@@ -27,8 +27,8 @@ pub enum CopyEnd {
 }
 
 impl CopyEnd {
-    /// The status to end with: 0 without a fault, 1 after a fault, 2 if there aren't exactly two words or the words
-    /// can't be read.
+    /// Returns the status to end with: 0 without a fault, 1 after a fault, 2 if there aren't exactly two words or the
+    /// words can't be read.
     pub fn status(self) -> u8
         ensures { result ≡ copy_status_of self }
     {
@@ -68,8 +68,8 @@ impl CopyEnd {
     }
 }
 
-/// The whole of `machcp`: the words of its command line, or none if they can't be read as text, and its errors. It
-/// returns the status to end with.
+/// Returns the whole of `machcp`: the words of its command line, or none if they can't be read as text, and its errors.
+/// It returns the status to end with.
 ///
 /// The first word is the store's folder, whose files are opened only for reading; the second one is that of the copy,
 /// which must not exist. 0: the copy was made, and is on the disk. 1: after a fault, with a line of errors. 2: there
@@ -134,7 +134,7 @@ fn copy_folder<F: Files>(
     }
 }
 
-/// Whether no file has this name.
+/// Returns true if no file has this name.
 fn is_free<F: Files>(files: &F, path: &str) -> bool {
     match fs::symlink_metadata(files, path) {
         Ok(_) => false,

@@ -58,7 +58,7 @@ impl From<DiskFault> for CopyStoreFault {
     }
 }
 
-/// The segment of epoch 0 without a record: an open gate, the version, the epoch, and a closed gate.
+/// Returns the segment of epoch 0 without a record: an open gate, the version, the epoch, and a closed gate.
 fn first_segment() -> [u8; 17]
     ensures { result ≡ empty_segment 0 }
 {
@@ -68,7 +68,7 @@ fn first_segment() -> [u8; 17]
     ]
 }
 
-/// The image of the state with these rows, of epoch 0.
+/// Returns the image of the state with these rows, of epoch 0.
 ///
 /// `NoMemory`: an allocation failed.
 fn image_of(alloc: Global, rows: Snapshot) -> Result<Image, StoreFault>

@@ -105,7 +105,7 @@ pub(crate) fn print<D: Disk, F: Form, W: Write>(
     send(writer, &text)
 }
 
-/// The text of a store in a form.
+/// Returns the text of a store in a form.
 fn text_of<D: Disk, F: Form>(alloc: Global, disk: &mut D, form: &F) -> Result<Vec<u8>, ListFault>
     ensures text { IfOk result (λ text. IsTextOf F.text_of D.honest (D.view disk.old).seen text.items) }
     ensures reads_only { D.honest → ReadsOnly (D.view disk.old) (D.view disk.new) }

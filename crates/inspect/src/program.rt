@@ -25,8 +25,8 @@ pub enum ShowEnd {
 }
 
 impl ShowEnd {
-    /// The status to end with: 0 without a fault, 1 after a fault, 2 if there isn't exactly one word or the words can't
-    /// be read.
+    /// Returns the status to end with: 0 without a fault, 1 after a fault, 2 if there isn't exactly one word or the
+    /// words can't be read.
     pub fn status(self) -> u8
         ensures { result ≡ status_of self }
     {
@@ -76,8 +76,8 @@ pub(crate) fn write_line<E: Write>(errors: &mut E, name: &str, words: &str) -> R
     write_bytes(errors, words.as_bytes())
 }
 
-/// The whole of `machls`: the words of its command line, or none if they can't be read as text, its output and errors.
-/// It returns the status to end with.
+/// Returns the whole of `machls`: the words of its command line, or none if they can't be read as text, its output and
+/// errors. It returns the status to end with.
 ///
 /// The one word is the store's folder; its files are opened only for reading. 0: its lines were written. 1: after a
 /// fault, with a line of errors. 2: there isn't exactly one word or the words can't be read, with a line of errors too.
@@ -113,7 +113,7 @@ pub fn run_show<'a, F: Files, W: Write>(
     run(alloc, files, words, &Lines, output)
 }
 
-/// The whole of `machmap`, which is `machls` with a drawing in place of the lines.
+/// Returns the whole of `machmap`, which is `machls` with a drawing in place of the lines.
 pub fn show_drawing<'a, F: Files, W: Write, E: Write>(
     alloc: Global,
     files: &'a F,

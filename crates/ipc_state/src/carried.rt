@@ -40,7 +40,7 @@ impl IpcState {
         }
     }
 
-    /// The port in whose queue the receive right of a port travels, if it does.
+    /// Returns the port in whose queue the receive right of a port travels, if it does.
     pub fn carrier(&self, serial: u64) -> Option<u64>
         ensures { result ≡ carrier_of self.now.current serial }
     {
@@ -60,7 +60,7 @@ impl IpcState {
         Ok(())
     }
 
-    /// The oldest message of a port as it was sent, if it has one. `seen` says what its rights are now.
+    /// Returns the oldest message of a port as it was sent, if it has one. `seen` says what its rights are now.
     pub fn oldest(&self, serial: u64) -> Option<&Message>
         ensures { IsOldest (lives_in self.now.current.ports) (messages_at self.now.current.ports serial) result }
     {
@@ -101,7 +101,7 @@ impl IpcState {
     }
 }
 
-/// The oldest message of a port as it was sent, if it has one.
+/// Returns the oldest message of a port as it was sent, if it has one.
 fn oldest_in(ports: &Ports, serial: u64) -> Option<&Message>
     ensures { IsOldest (lives_in ports.now.current.ports) (messages_at ports.now.current.ports serial) result }
 {
@@ -147,7 +147,7 @@ fn count_on(numbers: PortNumbers) -> PortNumbers
     }
 }
 
-/// The number after a sequence number. The last one is followed by 0.
+/// Returns the number after a sequence number. The last one is followed by 0.
 fn next_number(number: u32) -> u32
     ensures { result ≡ next_count number }
 {

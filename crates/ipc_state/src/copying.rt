@@ -13,14 +13,14 @@ use ports::Ports;
 use std::alloc::{AllocError, Global};
 
 impl IpcState {
-    /// The least number from `from` on that a space has.
+    /// Returns the least number from `from` on that a space has.
     pub fn next_space(&self, from: u64) -> Option<u32>
         ensures { IsNextSpace self.now.current.spaces from result }
     {
         self.spaces.next_space(from)
     }
 
-    /// The least name of a space from `from` on, with what it stands for.
+    /// Returns the least name of a space from `from` on, with what it stands for.
     pub fn next_entry(&self, space: u32, from: u64) -> Option<(u32, Entry)>
         ensures next { IsNextEntry (names_in self.now.current space) from result }
         ensures fits { IfSome result (λ e. e.0 < 2 ^ 32) }
@@ -28,7 +28,7 @@ impl IpcState {
         self.spaces.next_entry(space, from)
     }
 
-    /// The least serial from `from` on under which a port lives.
+    /// Returns the least serial from `from` on under which a port lives.
     pub fn next_port(&self, from: u64) -> Option<u64>
         ensures next { IsNextPort self.now.current.ports from result }
         ensures fits { IfSome result (λ serial. serial < 2 ^ 64 - 1) }
@@ -36,7 +36,7 @@ impl IpcState {
         self.ports.next_port(from)
     }
 
-    /// A copy of all that a port has, if it lives, with the messages in its queue as they are seen.
+    /// Returns a copy of all that a port has, if it lives, with the messages in its queue as they are seen.
     pub fn port(&self, alloc: Global, serial: u64) -> Result<Option<PortState>, AllocError>
         ensures { IfOk result (λ port. port ≡ map.get self.now.current.ports serial) }
     {
@@ -44,7 +44,7 @@ impl IpcState {
     }
 }
 
-/// A copy of all that a port has, if it lives.
+/// Returns a copy of all that a port has, if it lives.
 fn copy_of_port(alloc: Global, ports: &Ports, serial: u64) -> Result<Option<PortState>, AllocError>
     ensures { IfOk result (λ port. port ≡ map.get ports.now.current.ports serial) }
 {
@@ -76,7 +76,7 @@ fn copy_of_messages(alloc: Global, ports: &Ports, serial: u64) -> Result<Vec<Mes
     Ok(copy)
 }
 
-/// A copy of a message as it is seen: with `MACH_PORT_DEAD` in place of ports that have died.
+/// Returns a copy of a message as it is seen: with `MACH_PORT_DEAD` in place of ports that have died.
 fn copy_as_seen(alloc: Global, ports: &Ports, message: &Message) -> Result<Message, AllocError>
     ensures { IfOk result (λ copy. copy ≡ seen_message (lives_in ports.now.current.ports) message.now) }
 {

@@ -19,7 +19,7 @@ impl IpcState {
         self.spaces.send_onces(serial) + self.ports.send_onces(serial)
     }
 
-    /// Whether there are send rights to a port, held or in messages.
+    /// Returns true if there are send rights to a port, held or in messages.
     pub fn has_senders(&self, serial: u64) -> bool
         ensures { result ≡ not (send_count self.now.current serial == 0) }
     {

@@ -18,7 +18,7 @@ use std::alloc::{AllocError, Global};
 
 /// Queries on the names of a space. A space that doesn't exist has none.
 impl IpcState {
-    /// Whether a space exists.
+    /// Returns true if a space exists.
     pub fn has_space(&self, space: u32) -> bool
         ensures { result ≡ is_some (map.get self.now.current.spaces space) }
     {
@@ -32,7 +32,7 @@ impl IpcState {
         self.spaces.name_count(space)
     }
 
-    /// The names that a space has in use, in ascending order, each with what it stands for.
+    /// Returns the names that a space has in use, in ascending order, each with what it stands for.
     pub fn entries(&self, alloc: Global, space: u32) -> Result<Vec<(u32, Entry)>, AllocError>
         ensures { IfOk result (λ entries. entries.items ≡ map.entries (names_in self.now.current space)) }
     {
@@ -48,29 +48,29 @@ impl IpcState {
         self.spaces.entry(space, name)
     }
 
-    /// The name under which a space holds a send or receive right of a port, if it does.
+    /// Returns the name under which a space holds a send or receive right of a port, if it does.
     pub fn name_of_port(&self, space: u32, serial: u64) -> Option<u32>
         ensures { result ≡ name_of_port (names_in self.now.current space) serial }
     {
         self.spaces.name_of_port(space, serial)
     }
 
-    /// Whether a space holds a send or receive right of a port under a name other than this one.
+    /// Returns true if a space holds a send or receive right of a port under a name other than this one.
     pub fn stands_elsewhere(&self, space: u32, name: u32, serial: u64) -> bool
         ensures { result ≡ stands_elsewhere (names_in self.now.current space) name serial }
     {
         self.spaces.stands_elsewhere(space, name, serial)
     }
 
-    /// Whether a name may be given out in a space: it is neither `MACH_PORT_NULL` nor `MACH_PORT_DEAD`, and isn't in
-    /// use.
+    /// Returns true if a name may be given out in a space: it is neither `MACH_PORT_NULL` nor `MACH_PORT_DEAD`, and
+    /// isn't in use.
     pub fn is_unused(&self, space: u32, name: u32) -> bool
         ensures { IsTrue result ↔ IsUnused (names_in self.now.current space) name }
     {
         self.spaces.is_unused(space, name)
     }
 
-    /// The least name from `FIRST_NAME` on that a space doesn't use. There always is one.
+    /// Returns the least name from `FIRST_NAME` on that a space doesn't use. There always is one.
     pub fn free_name(&self, space: u32) -> u32
         ensures unused { IsUnused (names_in self.now.current space) result }
         ensures from { FIRST_NAME ≤ result }
@@ -167,7 +167,7 @@ impl IpcState {
     }
 }
 
-/// The target of a name's dead-name request, if there is a request.
+/// Returns the target of a name's dead-name request, if there is a request.
 pub fn request_of(entry: Entry) -> Option<u64>
     ensures { result ≡ request_of entry }
 {

@@ -22,7 +22,7 @@ impl IpcState {
         self.ports.len()
     }
 
-    /// Whether a port lives.
+    /// Returns true if a port lives.
     pub fn has_port(&self, serial: u64) -> bool
         ensures { result ≡ lives self.now.current serial }
     {
@@ -36,14 +36,14 @@ impl IpcState {
         self.ports.numbers(serial)
     }
 
-    /// The serial that the next port gets.
+    /// Returns the serial that the next port gets.
     pub fn next_serial(&self) -> u64
         ensures { result ≡ self.now.current.next }
     {
         self.ports.next_serial()
     }
 
-    /// Whether no further port can be made: as many live as may, or the serials are used up.
+    /// Returns true if no further port can be made: as many live as may, or the serials are used up.
     pub fn is_out_of_ports(&self) -> bool
         ensures { result ≡ ports_are_used_up self.now.current }
     {
@@ -73,7 +73,7 @@ impl IpcState {
         }
     }
 
-    /// Sets the serial that the next port gets, one that was never given before. It takes no memory.
+    /// Sets the serial that the next port gets, one that was never given before. It allocates nothing.
     pub fn set_next_serial(&mut self, serial: u64)
         requires { self.old.current.next ≤ serial }
         ensures { self.new ≡ record self.old { current = record self.old.current { next = serial } } }

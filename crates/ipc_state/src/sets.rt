@@ -13,8 +13,8 @@ use ports::Ports;
 use std::alloc::{AllocError, Global};
 
 impl IpcState {
-    /// The members of a set of a space, in ascending order of names: each name with the port whose receive right it
-    /// holds.
+    /// Returns the members of a set of a space, in ascending order of names: each name with the port whose receive
+    /// right it holds.
     pub fn members(
         &self,
         alloc: Global,
@@ -33,7 +33,7 @@ impl IpcState {
         Ok(members)
     }
 
-    /// The first name from `from` on that the index lists as a member of the set.
+    /// Returns the first name from `from` on that the index lists as a member of the set.
     fn next_place(&self, space: u32, set: u32, from: u64) -> Option<u32>
         ensures { IsNextPlace self.now.current space set from result }
     {
@@ -68,7 +68,7 @@ impl IpcState {
         }
     }
 
-    /// The port whose receive right a name with this entry holds, if the port is a member of the set.
+    /// Returns the port whose receive right a name with this entry holds, if the port is a member of the set.
     fn member_port(&self, set: u32, entry: Option<Entry>) -> Option<u64>
         ensures { result ≡ member_port self.now.current set entry }
     {
@@ -81,15 +81,15 @@ impl IpcState {
     }
 }
 
-/// A name in a space as one number.
+/// Returns a name in a space as one number.
 pub(crate) fn place(space: u32, name: u32) -> u64
     ensures { result ≡ place space name }
 {
     u64::from(space) * (1 << 32) + u64::from(name)
 }
 
-/// The place of the set of the port whose receive right a name with this entry holds, if there is such a port and it is
-/// in a set.
+/// Returns the place of the set of the port whose receive right a name with this entry holds, if there is such a port
+/// and it is in a set.
 pub(crate) fn set_place(ports: &Ports, space: u32, entry: Option<Entry>) -> Option<u64>
     ensures { result ≡ set_place_of ports.now.current.ports space entry }
 {
@@ -97,7 +97,7 @@ pub(crate) fn set_place(ports: &Ports, space: u32, entry: Option<Entry>) -> Opti
     place_in(space, set_of(ports, serial))
 }
 
-/// The port whose receive right a name with this entry holds.
+/// Returns the port whose receive right a name with this entry holds.
 fn received(entry: Option<Entry>) -> Option<u64>
     ensures { result ≡ option_and_then received_port entry }
 {
@@ -107,7 +107,7 @@ fn received(entry: Option<Entry>) -> Option<u64>
     }
 }
 
-/// The name of the set that a port is a member of.
+/// Returns the name of the set that a port is a member of.
 fn set_of(ports: &Ports, serial: u64) -> Option<u32>
     ensures { result ≡ set_in ports.now.current.ports serial }
 {
@@ -117,7 +117,7 @@ fn set_of(ports: &Ports, serial: u64) -> Option<u32>
     }
 }
 
-/// The place of a set in a space.
+/// Returns the place of a set in a space.
 pub(crate) fn place_in(space: u32, set: Option<u32>) -> Option<u64>
     ensures { result ≡ option_map (place space) set }
 {

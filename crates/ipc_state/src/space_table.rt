@@ -17,14 +17,14 @@ impl IpcState {
         self.spaces.len()
     }
 
-    /// Whether a space may be made under a number: it is one from 1 to `MAX_SPACES`, and no space has it.
+    /// Returns true if a space may be made under a number: it is one from 1 to `MAX_SPACES`, and no space has it.
     pub fn is_unused_space(&self, number: u32) -> bool
         ensures { IsTrue result ↔ IsUnusedSpace self.now.current number }
     {
         0 < number && number as usize <= MAX_SPACES && !self.spaces.contains(number)
     }
 
-    /// The least number that no space has. There is one while there are fewer spaces than allowed.
+    /// Returns the least number that no space has. There is one while there are fewer spaces than allowed.
     pub fn free_space(&self) -> u32
         requires room { map.len self.now.current.spaces < MAX_SPACES }
         ensures unused { IsUnusedSpace self.now.current result }

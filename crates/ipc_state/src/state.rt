@@ -54,7 +54,7 @@ impl Model for IpcState {
 }
 
 impl IpcState {
-    /// No spaces and no ports; the first port gets the serial 1. It takes no memory.
+    /// No spaces and no ports; the first port gets the serial 1. It allocates nothing.
     pub fn new(alloc: Global) -> Self
         ensures { result ≡ at_rest (record { spaces = map.empty; ports = map.empty; next = 1 }) }
     {
@@ -65,7 +65,7 @@ impl IpcState {
         }
     }
 
-    /// The state of a new store: space 1 without names, and no port.
+    /// Returns the state of a new store: space 1 without names, and no port.
     pub fn opening(alloc: Global) -> Result<Self, AllocError>
         ensures { IfOk result (λ state. state ≡ at_rest opening_ipc) }
     {
@@ -82,7 +82,7 @@ impl IpcState {
         }
     }
 
-    /// Commits the changes. It takes no memory.
+    /// Commits the changes. It allocates nothing.
     pub fn commit(&mut self)
         ensures { self.new ≡ at_rest self.old.current }
     {
@@ -91,7 +91,7 @@ impl IpcState {
         self.members.commit();
     }
 
-    /// Rolls the changes back. It takes no memory.
+    /// Rolls the changes back. It allocates nothing.
     pub fn roll_back(&mut self)
         ensures { self.new ≡ at_rest self.old.before }
     {

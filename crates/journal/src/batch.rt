@@ -41,7 +41,7 @@ impl Model for Batch {
 }
 
 impl Batch {
-    /// An empty batch. It takes no memory.
+    /// Returns an empty batch. It allocates nothing.
     pub fn new(alloc: Global) -> Self
         ensures { result ≡ empty_batch }
     {
@@ -105,7 +105,7 @@ impl Batch {
         self.count = 0;
     }
 
-    /// The batch as it is written after its gate, with a closed gate at the end.
+    /// Returns the batch as it is written after its gate, with a closed gate at the end.
     pub(crate) fn encoding(&self) -> &[u8]
         requires { 0 < self.now.count }
         ensures { result.now ≡ content_of self.now ++ closed_gate ∷ [] }
@@ -126,7 +126,7 @@ fn write_front(encoding: &mut Vec<u8>) -> Result<(), AllocError>
     encoding.extend_from_slice(&[0; HEADER + 1])
 }
 
-/// Adds a record before the gate at the end, and returns how many bytes its encoding has. There must be room for the
+/// Appends a record before the gate at the end, and returns how many bytes its encoding has. There must be room for the
 /// longest.
 fn push_before_gate(
     encoding: &mut Vec<u8>,

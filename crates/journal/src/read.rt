@@ -67,7 +67,7 @@ fn batch_at(bytes: &[u8], left: u32, size: u64) -> Result<Option<(u32, u64, &[u8
     Ok(Some((count, length, content)))
 }
 
-/// The record with this number in front, in at most `size` bytes, and what stands after it.
+/// Returns the record with this number in front, in at most `size` bytes, and what stands after it.
 ///
 /// `Damaged`: there is none, or a segment holds no record with this number. `NoMemory`: out of memory.
 fn record_at(
@@ -120,7 +120,7 @@ impl Model for RecordReader {
 }
 
 impl RecordReader {
-    /// A reader of a segment's slot, whose first batch begins at this place. It holds at most `room` bytes.
+    /// Returns a reader of a segment's slot, whose first batch begins at this place. It holds at most `room` bytes.
     pub fn new<D: Disk>(
         alloc: Global,
         disk: &D,
@@ -146,7 +146,7 @@ impl RecordReader {
         })
     }
 
-    /// The place in the slot after the last record.
+    /// Returns the place in the slot after the last record.
     pub fn at(&self) -> u64
         ensures { result ≡ self.now.window.at }
     {

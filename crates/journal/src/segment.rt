@@ -40,7 +40,7 @@ fn store<D: Disk>(disk: &mut D, slot: Slot, encoding: &[u8]) -> Result<(), DiskF
 }
 
 impl Segment {
-    /// Stores a batch. At `Ok` it is on the disk. It takes no memory.
+    /// Stores a batch. At `Ok` it is on the disk. It allocates nothing.
     ///
     /// `Full`: the segment would hold more than `MAX_RECORDS` records; nothing changed. `Device`: the device failed,
     /// and whether the batch is stored isn't known until the store is opened again; the whole batch is there or nothing

@@ -43,8 +43,8 @@ impl Model for Window {
 }
 
 impl Window {
-    /// A window over a slot from a place on, which shows nothing yet. It has room for `room` bytes, or for the whole
-    /// slot if that has fewer.
+    /// Returns a window over a slot from a place on, which shows nothing yet. It has room for `room` bytes, or for the
+    /// whole slot if that has fewer.
     pub(crate) fn over<D: Disk>(
         alloc: Global,
         disk: &D,
@@ -71,14 +71,14 @@ impl Window {
         })
     }
 
-    /// The bytes that it shows.
+    /// Returns the bytes that it shows.
     pub(crate) fn front(&self) -> &[u8]
         ensures { result.now ≡ self.now.front }
     {
         &self.buffer[self.from..self.to]
     }
 
-    /// The place in the slot of the first byte that it shows.
+    /// Returns the place in the slot of the first byte that it shows.
     pub(crate) fn at(&self) -> u64
         ensures { result ≡ self.now.at }
     {

@@ -22,7 +22,7 @@ pub struct Shown {
 }
 
 impl Shown {
-    /// Nothing is shown: the least unused names and numbers are chosen. It takes no memory.
+    /// Nothing is shown: the least unused names and numbers are chosen. It allocates nothing.
     pub fn nothing(alloc: Global) -> Shown {
         Shown {
             name: None,
@@ -46,7 +46,7 @@ impl Shown {
     }
 }
 
-/// The name that was chosen, if the reply shows one.
+/// Returns the name that was chosen, if the reply shows one.
 fn name_shown(reply: &PlainReply) -> Option<u32>
     ensures { result ≡ choosing.name_shown reply.now }
 {
@@ -58,7 +58,7 @@ fn name_shown(reply: &PlainReply) -> Option<u32>
     }
 }
 
-/// The number of a new space and its name, if the reply shows them.
+/// Returns the number of a new space and its name, if the reply shows them.
 fn space_shown(reply: &PlainReply) -> Option<(u32, u32)>
     ensures { result ≡ choosing.space_shown reply.now }
 {
@@ -82,7 +82,7 @@ fn preferred_by(reply: &PlainReply) -> Preference
     }
 }
 
-/// The bytes of the message that was received.
+/// Returns the bytes of the message that was received.
 fn encoding_in(reply: &PlainReply) -> &[u8]
     ensures { result.now ≡ shows.encoding_in reply.now }
 {

@@ -15,8 +15,8 @@ use snapshot::{IpcSnapshot, LivePort, NamedEntry, Snapshot, Space};
 use std::alloc::{AllocError, Global};
 
 impl Kernel {
-    /// The state as plain rows: its spaces with their names and with the replies that they keep, and its live ports
-    /// with the messages in their queues, where `MACH_PORT_DEAD` stands in place of ports that have died. If an
+    /// Returns the state as plain rows: its spaces with their names and with the replies that they keep, and its live
+    /// ports with the messages in their queues, where `MACH_PORT_DEAD` stands in place of ports that have died. If an
     /// allocation fails, nothing changed.
     #[tactic(auto, unfolding(snapshot::specs::Snapshots::snapshot_of))]
     pub fn copy(&self, alloc: Global) -> Result<Snapshot, AllocError>
@@ -31,7 +31,7 @@ impl Kernel {
     }
 }
 
-/// The spaces and the live ports.
+/// Returns the spaces and the live ports.
 #[tactic(auto, unfolding(snapshot::specs::Snapshots::ipc_snapshot_of))]
 fn copy_ipc(alloc: Global, state: &IpcState) -> Result<IpcSnapshot, AllocError>
     requires { Lawful state.now.current }
@@ -79,7 +79,7 @@ fn copy_kept(
     Ok(Some(copy))
 }
 
-/// The spaces in ascending order, each with its names.
+/// Returns the spaces in ascending order, each with its names.
 fn spaces_of(alloc: Global, state: &IpcState) -> Result<Vec<Space>, AllocError>
     requires { Lawful state.now.current }
     ensures { IfOk result (λ spaces. spaces.items ≡ mapped space_row (map.entries state.now.current.spaces)) }
@@ -97,7 +97,7 @@ fn spaces_of(alloc: Global, state: &IpcState) -> Result<Vec<Space>, AllocError>
     Ok(spaces)
 }
 
-/// The names of a space, in ascending order.
+/// Returns the names of a space, in ascending order.
 fn names_of(alloc: Global, state: &IpcState, space: u32) -> Result<Vec<NamedEntry>, AllocError>
     ensures { IfOk result (λ names. names.items ≡ names_of (names_in state.now.current space)) }
 {
@@ -110,7 +110,7 @@ fn names_of(alloc: Global, state: &IpcState, space: u32) -> Result<Vec<NamedEntr
     Ok(names)
 }
 
-/// The live ports, in ascending order of serials.
+/// Returns the live ports, in ascending order of serials.
 fn ports_of(alloc: Global, state: &IpcState) -> Result<Vec<LivePort>, AllocError>
     ensures { IfOk result (λ ports. ports.items ≡ mapped port_row (map.entries state.now.current.ports)) }
 {
@@ -123,7 +123,7 @@ fn ports_of(alloc: Global, state: &IpcState) -> Result<Vec<LivePort>, AllocError
     Ok(ports)
 }
 
-/// Adds a port, if it lives.
+/// Appends a port, if it lives.
 fn push_port(
     alloc: Global,
     state: &IpcState,

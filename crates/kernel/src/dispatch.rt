@@ -16,7 +16,7 @@ use port_calls::{IpcState, NoticeRequest};
 use receiving::{Asked, receive};
 use std::alloc::{AllocError, Global};
 
-/// The reply to a call that only reads; `None` for other calls.
+/// Returns the reply to a call that only reads; `None` for other calls.
 pub fn read(
     alloc: Global,
     state: &IpcState,

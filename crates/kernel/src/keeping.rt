@@ -94,7 +94,7 @@ fn write_record<R: Recorder>(
     Ok(())
 }
 
-/// Has a space keep what it kept before, in place of what it keeps now. It takes no memory.
+/// Has a space keep what it kept before, in place of what it keeps now. It allocates nothing.
 fn put_back(kept: &mut NumberTable<NumberedReply>, space: u32, before: Option<NumberedReply>)
     requires { IsSome (map.get kept.old space) }
     ensures { kept.new ≡ put_back kept.old space before }

@@ -87,7 +87,7 @@ impl Model for Kernel {
 }
 
 impl Kernel {
-    /// The state of a new store: space 1 without names, and no port.
+    /// Returns the state of a new store: space 1 without names, and no port.
     pub fn opening(alloc: Global) -> Result<Self, AllocError>
         ensures { IfOk result (λ kernel. kernel ≡ opening_state) }
     {
@@ -231,7 +231,7 @@ impl Kernel {
     }
 
     /// What `apply` answers to `mach_port_type`, which changes nothing: the type bits of a name, or `InvalidTask` if
-    /// the space is gone, or `InvalidName` if the name isn't in use. It takes no memory.
+    /// the space is gone, or `InvalidName` if the name isn't in use. It allocates nothing.
     pub fn port_type(&self, space: u32, name: u32) -> Reply
         ensures { Step self.now space (Call.Plain (PlainCall.Type name)) result self.now }
     {
@@ -241,7 +241,7 @@ impl Kernel {
         Reply::Plain(port_calls::port_type(&self.state, space, name))
     }
 
-    /// What `apply` answers to `mach_port_get_refs`, which changes nothing. It takes no memory.
+    /// What `apply` answers to `mach_port_get_refs`, which changes nothing. It allocates nothing.
     pub fn get_refs(&self, space: u32, name: u32, right: u32) -> Reply
         ensures { Step self.now space (Call.Plain (PlainCall.GetRefs name right)) result self.now }
     {
@@ -251,7 +251,7 @@ impl Kernel {
         Reply::Plain(port_calls::get_refs(&self.state, space, name, right))
     }
 
-    /// What `apply` answers to `mach_port_get_receive_status`, which changes nothing. It takes no memory.
+    /// What `apply` answers to `mach_port_get_receive_status`, which changes nothing. It allocates nothing.
     pub fn receive_status(&self, space: u32, name: u32) -> Reply
         ensures { Step self.now space (Call.Plain (PlainCall.GetReceiveStatus name)) result self.now }
     {
@@ -294,7 +294,7 @@ impl Kernel {
     }
 }
 
-/// The refusal of a caller whose space is gone.
+/// Returns the refusal of a caller whose space is gone.
 fn gone(number: u32) -> Reply
     ensures { result ≡ Reply.Plain (PlainReply.Refused number KernReturn.InvalidTask) }
 {

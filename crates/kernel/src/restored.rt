@@ -13,7 +13,7 @@ use snapshot_loading::{SnapshotFault, restore};
 use std::alloc::{AllocError, Global};
 
 impl Kernel {
-    /// The kernel whose state a snapshot is of; `NotLawful` if it isn't that of a lawful state. The snapshot is
+    /// Returns the kernel whose state a snapshot is of; `NotLawful` if it isn't that of a lawful state. The snapshot is
     /// consumed.
     pub fn from_snapshot(alloc: Global, snapshot: Snapshot) -> Result<Kernel, SnapshotFault>
         ensures same { IfOk result (λ kernel. snapshot ≡ snapshot_of kernel) }
@@ -41,7 +41,7 @@ pub fn lawful(alloc: Global, snapshot: &Snapshot) -> Result<bool, AllocError>
     Ok(are_kept(snapshot.ipc.spaces.as_slice(), snapshot.kept.as_slice()))
 }
 
-/// Whether there is a row for each space, and each reply in the rows is one that a space may keep.
+/// Returns true if there is a row for each space, and each reply in the rows is one that a space may keep.
 fn are_kept(spaces: &[Space], rows: &[Option<NumberedReply>]) -> bool
     ensures { IsTrue result ↔ AreKept spaces.now rows.now }
 {
@@ -51,14 +51,14 @@ fn are_kept(spaces: &[Space], rows: &[Option<NumberedReply>]) -> bool
     may_all_stay(rows)
 }
 
-/// Whether each reply in the rows is one that a space may keep.
+/// Returns true if each reply in the rows is one that a space may keep.
 fn may_all_stay(rows: &[Option<NumberedReply>]) -> bool
     ensures { IsTrue result ↔ All MayStay rows.now }
 {
     rows.iter().all(may_stay)
 }
 
-/// Whether a space may keep this.
+/// Returns true if a space may keep this.
 fn may_stay(row: &Option<NumberedReply>) -> bool
     ensures { IsTrue result ↔ MayStay row.now }
 {

@@ -20,7 +20,7 @@ pub(crate) struct Tally {
     pub(crate) send_once: u64,
 }
 
-/// The next count. No memory holds more rights than 64 bits count.
+/// Returns the next count. No memory holds more rights than 64 bits count.
 fn one_more(count: u64) -> Result<u64, AllocError>
     ensures { IfOk result (λ more. more ≡ count + 1) }
 {
@@ -41,7 +41,7 @@ impl Tally {
         }
     }
 
-    /// The tally with one more right.
+    /// Returns the tally with one more right.
     fn with_right(self, kind: RightKind, standing: Standing) -> Result<Tally, AllocError>
         ensures { IfOk result (λ tally. tally ≡ with_right kind standing self) }
     {
@@ -77,7 +77,7 @@ impl Tallies {
         }
     }
 
-    /// The rights of a port.
+    /// Returns the rights of a port.
     pub(crate) fn tally(&self, serial: u64) -> Tally
         ensures { result ≡ tally_of self.now.by_port serial }
     {
@@ -107,7 +107,7 @@ impl Visitor for Tallies {
     }
 }
 
-/// The rights of a snapshot's ports, by one walk over it. It fails if memory runs out.
+/// Returns the rights of a snapshot's ports, by one walk over it. It fails if memory runs out.
 #[tactic(auto, unfolding(crate::specs::Gathering::gathered))]
 pub(crate) fn gather(alloc: Global, snapshot: &IpcSnapshot) -> Result<Tallies, AllocError>
     ensures { IfOk result (λ tallies. tallies.by_port ≡ gathered snapshot.now) }

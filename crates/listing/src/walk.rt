@@ -86,7 +86,7 @@ fn see_send<V: Visitor>(
     }
 }
 
-/// The target of a name's dead-name request.
+/// Returns the target of a name's dead-name request.
 fn request_target(entry: &Entry) -> Option<u64>
     ensures { result ≡ request_target entry.now }
 {

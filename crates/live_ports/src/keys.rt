@@ -36,7 +36,7 @@ impl Model for SerialKeys {
 }
 
 impl SerialKeys {
-    /// No keys. It takes no memory.
+    /// No keys. It allocates nothing.
     pub(crate) fn new(alloc: Global) -> Self
         ensures { result ≡ map.empty }
     {
@@ -48,7 +48,7 @@ impl SerialKeys {
         }
     }
 
-    /// The key of a serial.
+    /// Returns the key of a serial.
     pub(crate) fn get(&self, serial: u128) -> Option<usize>
         ensures { result ≡ map.get self.now serial }
     {
@@ -61,7 +61,7 @@ impl SerialKeys {
         self.keys.get(serial).copied()
     }
 
-    /// The key of a serial. From now on one look finds it, until another serial takes its place in the table.
+    /// Returns the key of a serial. From now on one look finds it, until another serial takes its place in the table.
     pub(crate) fn find(&mut self, serial: u128) -> Option<usize>
         ensures found { result ≡ map.get self.old serial }
         ensures same { self.new ≡ self.old }
@@ -76,7 +76,7 @@ impl SerialKeys {
         Some(key)
     }
 
-    /// The least serial from `from` on that has a key, with it.
+    /// Returns the least serial from `from` on that has a key, with it.
     pub(crate) fn next_from(&self, from: u128) -> Option<(u128, &usize)>
         ensures { MatchOption result ((serial : ℕ) → from ≤ serial → map.get self.now serial ≡ None)
             (λ e. (from ≤ e.0) × (map.get self.now e.0 ≡ Some e.1.now)
@@ -107,7 +107,7 @@ impl SerialKeys {
     }
 }
 
-/// The place of a serial.
+/// Returns the place of a serial.
 fn place(serial: u128) -> usize
     ensures { result ≡ place_of serial }
 {
@@ -122,7 +122,7 @@ fn noted(serial: u128, key: usize) -> Option<(u64, usize)>
     Some((short, key))
 }
 
-/// The key that stands at a serial's place, if it is the serial's.
+/// Returns the key that stands at a serial's place, if it is the serial's.
 fn noted_key(recent: &[Option<(u64, usize)>], serial: u128) -> Option<usize>
     ensures { IfSome result (λ key. at recent.now (place_of serial) ≡ Some (serial, key)) }
 {
@@ -145,7 +145,7 @@ fn make_places(recent: &mut Vec<Option<(u64, usize)>>, alloc: Global)
     }
 }
 
-/// A table of free places; empty if an allocation fails.
+/// Returns a table of free places; empty if an allocation fails.
 fn free_places(alloc: Global) -> Vec<Option<(u64, usize)>>
     ensures { (place : ℕ) → at result.items place ≡ None }
 {

@@ -9,7 +9,8 @@ use crate::slots::PortSlots;
 use crate::tables::Tables;
 
 impl LivePorts {
-    /// The least serial from `from` on under which a port lives. Ports that died since the last commit are passed over.
+    /// Returns the least serial from `from` on under which a port lives. Ports that died since the last commit are
+    /// passed over.
     pub fn next_port(&self, from: u64) -> Option<u64>
         ensures next { IsNextPort self.now.current.ports from result }
         ensures fits { IfSome result (λ serial. serial < 2 ^ 64 - 1) }
@@ -21,7 +22,7 @@ impl LivePorts {
 }
 
 impl Tables {
-    /// The least serial of a word from `from` on under which a port lives.
+    /// Returns the least serial of a word from `from` on under which a port lives.
     pub(crate) fn next_port(&self, from: u64) -> Option<u64>
         ensures { IsNextWord (present_ports self.now.slots) from result }
     {
@@ -36,7 +37,7 @@ impl Tables {
     }
 }
 
-/// The least serial of a word from `from` on that may have a slot; none before it has one.
+/// Returns the least serial of a word from `from` on that may have a slot; none before it has one.
 fn next_slot(slots: &PortSlots, from: u128) -> Option<u64>
     ensures slot { MatchOption result ((serial : ℕ) → from ≤ serial → serial < 2 ^ 64 → map.get slots.now serial ≡ None)
         (λ next. (from ≤ next) × ((serial : ℕ) → from ≤ serial → serial < next → map.get slots.now serial ≡ None)) }

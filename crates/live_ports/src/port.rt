@@ -54,8 +54,8 @@ impl Model for Port {
 }
 
 impl Port {
-    /// A new port, which didn't live before: an empty queue with the default limit, in no set, with no requests. It
-    /// takes no memory.
+    /// Returns a new port, which didn't live before: an empty queue with the default limit, in no set, with no
+    /// requests. It allocates nothing.
     pub(crate) fn new(alloc: Global) -> Self
         ensures { result ≡ record { before = None; current = Some new_port } }
     {
@@ -76,14 +76,14 @@ impl Port {
         }
     }
 
-    /// Whether the port lives.
+    /// Returns true if the port lives.
     pub(crate) fn is_there(&self) -> bool
         ensures { result ≡ is_some self.now.current }
     {
         self.lives
     }
 
-    /// Whether the port lived before.
+    /// Returns true if the port lived before.
     pub(crate) fn was_there(&self) -> bool
         ensures { result ≡ is_some self.now.before }
     {
@@ -111,7 +111,7 @@ impl Port {
         if self.lives { self.queue.len() } else { 0 }
     }
 
-    /// The message at an index, counted from the oldest.
+    /// Returns the message at an index, counted from the oldest.
     pub(crate) fn message(&self, index: u32) -> &Message
         requires { index < length (messages_in self.now.current) }
         ensures { result.now ≡ slice_index_or (messages_in self.now.current) index result.now }
@@ -119,7 +119,7 @@ impl Port {
         self.queue.message(index)
     }
 
-    /// The message at an index, counted from the oldest, if there is one.
+    /// Returns the message at an index, counted from the oldest, if there is one.
     pub(crate) fn message_at(&self, index: u32) -> Option<&Message>
         ensures { IsMessageAt (messages_in self.now.current) index result }
     {
@@ -158,7 +158,7 @@ impl Port {
         self.lives = false;
     }
 
-    /// Commits the changes. It takes no memory.
+    /// Commits the changes. It allocates nothing.
     pub(crate) fn commit(&mut self)
         ensures { self.new ≡ slot_at_rest self.old.current }
     {
@@ -167,7 +167,7 @@ impl Port {
         self.lived = self.lives;
     }
 
-    /// Rolls the changes back. It takes no memory.
+    /// Rolls the changes back. It allocates nothing.
     pub(crate) fn roll_back(&mut self)
         ensures { self.new ≡ slot_at_rest self.old.before }
     {

@@ -45,7 +45,7 @@ impl Model for LivePorts {
 }
 
 impl LivePorts {
-    /// No ports; the first gets the serial 1. It takes no memory.
+    /// No ports; the first gets the serial 1. It allocates nothing.
     pub fn new(alloc: Global) -> Self
         ensures { result ≡ ports_at_rest (record { ports = map.empty; next = 1 }) }
     {
@@ -61,21 +61,21 @@ impl LivePorts {
         self.tables.count
     }
 
-    /// Whether as many ports live as are allowed.
+    /// Returns true if as many ports live as are allowed.
     pub fn is_full(&self) -> bool
         ensures { result ≡ nat_le MAX_PORTS (map.len self.now.current.ports) }
     {
         MAX_PORTS <= self.len()
     }
 
-    /// The serial that the next port gets.
+    /// Returns the serial that the next port gets.
     pub fn next_serial(&self) -> u64
         ensures { result ≡ self.now.current.next }
     {
         self.tables.next
     }
 
-    /// Whether a port lives.
+    /// Returns true if a port lives.
     pub fn contains(&self, serial: u64) -> bool
         ensures { result ≡ is_some (map.get self.now.current.ports serial) }
     {
@@ -96,8 +96,8 @@ impl LivePorts {
         self.tables.message_count(serial)
     }
 
-    /// The message at an index in a port's queue as it was sent, counted from the oldest, if there is one. `seen` says
-    /// what its rights are now.
+    /// Returns the message at an index in a port's queue as it was sent, counted from the oldest, if there is one.
+    /// `seen` says what its rights are now.
     pub fn message_as_sent(&self, serial: u64, index: u32) -> Option<&Message>
         ensures { MatchOption result (length (messages_at self.now.current.ports serial) ≤ index)
             (λ message. (index < length (messages_at self.now.current.ports serial))
@@ -212,7 +212,7 @@ impl LivePorts {
         }
     }
 
-    /// Sets the serial that the next port gets, one that was never given before. It takes no memory.
+    /// Sets the serial that the next port gets, one that was never given before. It allocates nothing.
     pub fn set_next_serial(&mut self, serial: u64)
         requires { self.old.current.next ≤ serial }
         ensures { self.new ≡ record self.old { current = record self.old.current { next = serial } } }
@@ -242,22 +242,22 @@ impl LivePorts {
         }
     }
 
-    /// The serials of the ports that may have changed since the last commit or rollback. Every other port lives if it
-    /// lived then, and its queue is as full.
+    /// Returns the serials of the ports that may have changed since the last commit or rollback. Every other port lives
+    /// if it lived then, and its queue is as full.
     pub fn changed_serials(&self) -> &[u128]
         ensures { AreNoted self.now.before.ports self.now.current.ports result.now }
     {
         self.tables.touched.as_slice()
     }
 
-    /// Commits the changes. It takes no memory.
+    /// Commits the changes. It allocates nothing.
     pub fn commit(&mut self)
         ensures { self.new ≡ ports_at_rest self.old.current }
     {
         self.tables.commit();
     }
 
-    /// Rolls the changes back. It takes no memory.
+    /// Rolls the changes back. It allocates nothing.
     pub fn roll_back(&mut self)
         ensures { self.new ≡ ports_at_rest self.old.before }
     {

@@ -42,7 +42,7 @@ impl Model for PortSlots {
 }
 
 impl PortSlots {
-    /// No ports. It takes no memory.
+    /// No ports. It allocates nothing.
     pub(crate) fn new(alloc: Global) -> Self
         ensures { result ≡ map.empty }
     {
@@ -52,7 +52,7 @@ impl PortSlots {
         }
     }
 
-    /// The port of a serial.
+    /// Returns the port of a serial.
     pub(crate) fn get(&self, serial: u128) -> Option<&Port>
         ensures { option_copied result ≡ map.get self.now serial }
     {
@@ -62,7 +62,7 @@ impl PortSlots {
         }
     }
 
-    /// The least serial from `from` on that may have a port; none before it has one.
+    /// Returns the least serial from `from` on that may have a port; none before it has one.
     pub(crate) fn next_serial(&self, from: u128) -> Option<u128>
         ensures { MatchOption result ((serial : ℕ) → from ≤ serial → map.get self.now serial ≡ None)
             (λ next. (from ≤ next) × ((serial : ℕ) → from ≤ serial → serial < next → map.get self.now serial ≡ None)) }

@@ -26,7 +26,7 @@ pub(crate) struct Tables {
 }
 
 impl Tables {
-    /// An empty table. It takes no memory.
+    /// Returns an empty table. It allocates nothing.
     pub(crate) fn new(alloc: Global) -> Self
         ensures { AreAtRest result map.empty 0 1 }
     {
@@ -41,7 +41,7 @@ impl Tables {
         }
     }
 
-    /// Whether a port lives.
+    /// Returns true if a port lives.
     pub(crate) fn contains(&self, serial: u64) -> bool
         ensures { result ≡ is_some (map.get (present_ports self.now.slots) serial) }
     {
@@ -71,7 +71,7 @@ impl Tables {
         }
     }
 
-    /// The message at an index in a port's queue as it was sent, counted from the oldest, if there is one.
+    /// Returns the message at an index in a port's queue as it was sent, counted from the oldest, if there is one.
     pub(crate) fn message(&self, serial: u64, index: u32) -> Option<&Message>
         ensures { IsMessageAt (messages_at (present_ports self.now.slots) serial) index result }
     {
@@ -166,7 +166,7 @@ impl Tables {
         Ok(())
     }
 
-    /// Commits the changes. It takes no memory.
+    /// Commits the changes. It allocates nothing.
     pub(crate) fn commit(&mut self)
         requires { AreMarked self.old.slots self.old.touched.items }
         ensures { AreAtRest self.new (present_ports self.old.slots) self.old.count self.old.next }
@@ -177,7 +177,7 @@ impl Tables {
         self.next_before = self.next;
     }
 
-    /// Rolls the changes back. It takes no memory.
+    /// Rolls the changes back. It allocates nothing.
     pub(crate) fn roll_back(&mut self)
         requires { AreMarked self.old.slots self.old.touched.items }
         ensures { AreAtRest self.new (former_ports self.old.slots) self.old.count_before self.old.next_before }

@@ -29,10 +29,10 @@ pub struct Header {
     pub id: u32,
 }
 
-/// The header that a message's bytes begin with. Its size is the number of bytes: the words of size and sequence number
-/// in them are ignored, and so are bits with other meanings.
+/// Returns the header that a message's bytes begin with. Its size is the number of bytes: the words of size and
+/// sequence number in them are ignored, and so are bits with other meanings.
 ///
-/// `SendMsgTooSmall`: they are fewer than 24. It takes no memory.
+/// `SendMsgTooSmall`: they are fewer than 24. It allocates nothing.
 pub fn parse(bytes: &[u8]) -> Result<Header, KernReturn>
     ensures found { IfOk result (λ header. HasUsedParts bytes.now (parts_by header (body_of bytes.now))) }
     ensures refused { IfErr result (λ code. code ≡ KernReturn.SendMsgTooSmall) }
@@ -54,7 +54,7 @@ pub fn parse(bytes: &[u8]) -> Result<Header, KernReturn>
 }
 
 impl Header {
-    // The word of bits (`msgh_bits`).
+    // Returns the word of bits (`msgh_bits`).
     fn bits(&self) -> u32
         ensures { result ≡ header_bits self.now }
     {
@@ -69,7 +69,7 @@ impl Header {
 
     /// Adds the header's 24 bytes, with this sequence number (`msgh_seqno`). The size must fit four bytes.
     ///
-    /// If an allocation fails, nothing changed. It takes no memory if there is room for 24 bytes.
+    /// If an allocation fails, nothing changed. It allocates nothing if there is room for 24 bytes.
     #[tactic(auto, unfolding(crate::specs::Headers::header_encoding))]
     pub fn write_into(&self, sequence_number: u32, out: &mut Vec<u8>) -> Result<(), AllocError>
         requires { self.now.size < 2 ^ 32 }

@@ -33,7 +33,7 @@ impl<V> Model for NumberTable<V> {
 }
 
 impl<V> NumberTable<V> {
-    /// An empty table. It takes no memory.
+    /// Returns an empty table. It allocates nothing.
     pub fn new(alloc: Global) -> Self
         ensures { result ≡ map.empty }
     {
@@ -42,7 +42,7 @@ impl<V> NumberTable<V> {
         }
     }
 
-    /// The value of a number.
+    /// Returns the value of a number.
     pub fn get(&self, number: u32) -> Option<&V>
         ensures { option_copied result ≡ map.get self.now number }
     {
@@ -52,7 +52,7 @@ impl<V> NumberTable<V> {
         }
     }
 
-    /// The value of a number, to be changed in place. What is left there is the number's value afterwards.
+    /// Returns the value of a number, to be changed in place. What is left there is the number's value afterwards.
     pub fn get_mut(&mut self, number: u32) -> Option<&mut V>
         ensures* writes_back { sem 𝓛 (LendsIf (the_row V.row) V.row self.entry result
             (map.insert self.old number) self.old) }
@@ -64,7 +64,7 @@ impl<V> NumberTable<V> {
         }
     }
 
-    /// The least number from this one on that has a value, with its value.
+    /// Returns the least number from this one on that has a value, with its value.
     pub fn next_from(&self, from: u64) -> Option<(u64, &V)>
         ensures { MatchOption result ((number : ℕ) → from ≤ number → map.get self.now number ≡ None)
             (λ e. (from ≤ e.0) × (map.get self.now e.0 ≡ Some e.1.now)

@@ -15,7 +15,7 @@ pub struct PlainDisk {
 }
 
 impl PlainDisk {
-    /// Empty slots. It takes no memory.
+    /// Empty slots. It allocates nothing.
     pub fn new(alloc: Global) -> PlainDisk
         ensures images { (result.image0.items ≡ []) × (result.image1.items ≡ []) }
         ensures segments { (result.segment0.items ≡ []) × (result.segment1.items ≡ []) }

@@ -42,7 +42,7 @@ pub fn allocate(
     Ok(PlainReply::Allocate { name })
 }
 
-/// The name that a new right gets: the preferred one if it is unused, else the least unused one.
+/// Returns the name that a new right gets: the preferred one if it is unused, else the least unused one.
 pub fn chosen_name(state: &IpcState, space: u32, wanted: Option<u32>) -> u32
     ensures unused { IsUnused (names_in state.now.current space) result }
     ensures wanted { (shown : ℕ) → wanted ≡ Some shown → IsUnused (names_in state.now.current space) shown
@@ -69,8 +69,8 @@ pub fn refusal_of_allocate(state: &IpcState, space: u32, right: u32) -> Option<K
     refusal_for_want(state, space, right)
 }
 
-/// The code with which a right is refused for lack of room: the space uses all the names that it may, or no further
-/// port can be made.
+/// Returns the code with which a right is refused for lack of room: the space uses all the names that it may, or no
+/// further port can be made.
 fn refusal_for_want(state: &IpcState, space: u32, right: u32) -> Option<KernReturn>
     ensures { result ≡ first_failing
         ((names_are_used_up (names_in state.now.current space), KernReturn.NoSpace) ∷

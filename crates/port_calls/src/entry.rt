@@ -5,7 +5,7 @@ ghost use Rattle.ipc_model.specs.calls.PortCalls.{is_allocatable};
 use codes::Right;
 use ipc_model::{Entry, PortRights};
 
-/// Whether a right with this number can be allocated.
+/// Returns true if a right with this number can be allocated.
 pub fn is_allocatable(right: u32) -> bool
     ensures { result ≡ is_allocatable right }
 {

@@ -255,7 +255,7 @@ fn mod_set(
     })
 }
 
-/// Whether references with a negative delta would fall below 0.
+/// Returns true if references with a negative delta would fall below 0.
 fn sum_is_negative(references: u32, delta: u32) -> bool
     ensures { result ≡ sum_is_negative references delta }
 {

@@ -45,7 +45,7 @@ pub fn move_member(
     Ok(PlainReply::Done { number })
 }
 
-/// Whether the port whose receive right a name holds is a member of a set.
+/// Returns true if the port whose receive right a name holds is a member of a set.
 fn is_in_some_set(state: &IpcState, entry: Entry) -> bool
     ensures { result ≡ is_in_some_set state.now.current entry }
 {

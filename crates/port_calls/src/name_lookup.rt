@@ -25,7 +25,7 @@ pub fn named(state: &IpcState, space: u32, name: u32) -> Option<Entry>
     Some(entry)
 }
 
-/// Whether a name is `MACH_PORT_NULL` or `MACH_PORT_DEAD`.
+/// Returns true if a name is `MACH_PORT_NULL` or `MACH_PORT_DEAD`.
 pub fn is_null_or_dead(name: u32) -> bool
     ensures { result ≡ is_null_or_dead name }
 {

@@ -96,7 +96,7 @@ pub fn receive_status(state: &IpcState, space: u32, name: u32) -> PlainReply
     }
 }
 
-/// The numbers of a live port, and which rights and requests there are.
+/// Returns the numbers of a live port, and which rights and requests there are.
 fn status_of(state: &IpcState, port: u64) -> Option<ReceiveStatus>
     ensures { result ≡ option_map (status_of state.now.current port) (finmap.get state.now.current.ports port) }
 {
@@ -144,7 +144,7 @@ pub fn get_set_status(
     }
 }
 
-/// The user references of a right under a name.
+/// Returns the user references of a right under a name.
 pub fn references_of(right: Right, entry: Entry) -> u32
     ensures { result ≡ references_of (number_of right) entry }
 {

@@ -61,7 +61,7 @@ pub fn deallocate(
     Ok(PlainReply::Done { number })
 }
 
-/// Whether a name is a set, or holds only a receive right.
+/// Returns true if a name is a set, or holds only a receive right.
 fn has_no_references(entry: Entry) -> bool
     ensures { result ≡ (is_set entry || (has_receive entry && send_references entry == 0)) }
 {

@@ -121,7 +121,7 @@ fn take_target(
     Ok(Ok(Some(port)))
 }
 
-/// Whether a notice with this number can be requested.
+/// Returns true if a notice with this number can be requested.
 fn is_variant(variant: u32) -> bool
     ensures { result ≡ is_variant variant }
 {
@@ -130,7 +130,7 @@ fn is_variant(variant: u32) -> bool
         || variant == MACH_NOTIFY_DEAD_NAME
 }
 
-/// The disposition of a notice's right: a send-once right is moved or made.
+/// Returns the disposition of a notice's right: a send-once right is moved or made.
 fn notify_disposition(disposition: u32) -> Option<Disposition>
     ensures { result ≡ notify_disposition disposition }
 {
@@ -141,7 +141,7 @@ fn notify_disposition(disposition: u32) -> Option<Disposition>
     }
 }
 
-/// The code with which a request under a name is refused, if it is.
+/// Returns the code with which a request under a name is refused, if it is.
 fn refusal_of_request(
     state: &IpcState,
     space: u32,
@@ -166,7 +166,7 @@ fn refusal_of_request(
     None
 }
 
-/// The code with which a request for this notice is refused because of what the name stands for, if it is.
+/// Returns the code with which a request for this notice is refused because of what the name stands for, if it is.
 fn refusal_of_variant(
     state: &IpcState,
     space: u32,
@@ -208,7 +208,7 @@ fn refusal_of_variant(
     }
 }
 
-/// The target of the request for this notice that stands under a name.
+/// Returns the target of the request for this notice that stands under a name.
 fn target_under(state: &IpcState, space: u32, name: u32, variant: u32) -> Option<u64>
     ensures { result ≡ target_under state.now.current (names_in state.now.current space) variant name }
 {
@@ -364,7 +364,7 @@ fn set_port_request(
     Ok(())
 }
 
-/// Whether a port has no send right, and at least as many were made as the task knows of.
+/// Returns true if a port has no send right, and at least as many were made as the task knows of.
 fn lacks_senders(state: &IpcState, sync: u32, port: u64) -> bool
     ensures { result ≡ lacks_senders state.now.current sync port }
 {

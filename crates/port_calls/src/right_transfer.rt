@@ -103,7 +103,7 @@ fn put_given(
     put_right(state, space, right, name)
 }
 
-/// The code with which a right to a port is refused under a name that the task chose, if it is.
+/// Returns the code with which a right to a port is refused under a name that the task chose, if it is.
 fn refusal_of_insert(
     state: &IpcState,
     space: u32,
@@ -142,8 +142,8 @@ fn refusal_of_insert(
     None
 }
 
-/// Whether a name can't take a right to a port: it is in use and doesn't hold the port's send or receive right, or the
-/// right is a send-once right.
+/// Returns true if a name can't take a right to a port: it is in use and doesn't hold the port's send or receive right,
+/// or the right is a send-once right.
 fn is_taken_otherwise(kind: RightKind, port: u64, entry: Option<Entry>) -> bool
     ensures { result ≡ is_taken_otherwise kind port entry }
 {
@@ -154,7 +154,7 @@ fn is_taken_otherwise(kind: RightKind, port: u64, entry: Option<Entry>) -> bool
     }
 }
 
-/// Whether one more send right would exceed the greatest number of references.
+/// Returns true if one more send right would exceed the greatest number of references.
 fn passes_bound(kind: RightKind, entry: Option<Entry>) -> bool
     ensures { result ≡ passes_bound kind entry }
 {

@@ -190,7 +190,7 @@ fn add_child(
     Ok((number, name))
 }
 
-/// The number of a new space: the preferred one if no space has it, else the least that none has.
+/// Returns the number of a new space: the preferred one if no space has it, else the least that none has.
 fn space_number(state: &IpcState, wanted: Option<u32>) -> u32
     requires room { map.len state.now.current.spaces < MAX_SPACES }
     ensures unused { IsUnusedSpace state.now.current result }

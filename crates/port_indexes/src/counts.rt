@@ -35,7 +35,7 @@ impl Model for PairCounts {
 }
 
 impl PairCounts {
-    /// No counts. It takes no memory.
+    /// No counts. It allocates nothing.
     pub fn new(alloc: Global) -> Self
         ensures { result ≡ at_rest map.empty }
     {
@@ -44,7 +44,7 @@ impl PairCounts {
         }
     }
 
-    /// The count of a pair.
+    /// Returns the count of a pair.
     pub fn count(&self, first: u64, second: u64) -> u64
         ensures value { result ≡ count_at self.now.current first second }
         ensures few { result < 2 ^ 63 }
@@ -55,7 +55,7 @@ impl PairCounts {
         }
     }
 
-    /// The least second number of the pairs with this first one whose count isn't 0.
+    /// Returns the least second number of the pairs with this first one whose count isn't 0.
     pub fn least(&self, first: u64) -> Option<u64>
         ensures { IsLeast self.now.current first result }
     {
@@ -163,14 +163,14 @@ impl PairCounts {
         }
     }
 
-    /// Commits the changes. It takes no memory.
+    /// Commits the changes. It allocates nothing.
     pub fn commit(&mut self)
         ensures { self.new ≡ at_rest self.old.current }
     {
         self.counts.commit();
     }
 
-    /// Rolls the changes back. It takes no memory.
+    /// Rolls the changes back. It allocates nothing.
     pub fn roll_back(&mut self)
         ensures { self.new ≡ at_rest self.old.before }
     {
@@ -178,7 +178,7 @@ impl PairCounts {
     }
 }
 
-/// A pair as one number.
+/// Returns a pair as one number.
 fn key(first: u64, second: u64) -> u128
     ensures key { result ≡ key first second }
     ensures fits { result < 2 ^ 128 }

@@ -26,7 +26,7 @@ impl Model for PlaceIndex {
 }
 
 impl PlaceIndex {
-    /// An empty index. It takes no memory.
+    /// Returns an empty index. It allocates nothing.
     pub fn new(alloc: Global) -> Self
         ensures { result ≡ at_rest map.empty }
     {
@@ -55,7 +55,7 @@ impl PlaceIndex {
         }
     }
 
-    /// The first place from `from` on at which a number stands.
+    /// Returns the first place from `from` on at which a number stands.
     pub fn next(&self, number: u64, from: u64) -> Option<u64>
         ensures { IsNext self.now.current number from result }
     {
@@ -67,14 +67,14 @@ impl PlaceIndex {
         Some((found - key(number, 0)) as u64)
     }
 
-    /// Commits the changes. It takes no memory.
+    /// Commits the changes. It allocates nothing.
     pub fn commit(&mut self)
         ensures { self.new ≡ at_rest self.old.current }
     {
         self.places.commit();
     }
 
-    /// Rolls the changes back. It takes no memory.
+    /// Rolls the changes back. It allocates nothing.
     pub fn roll_back(&mut self)
         ensures { self.new ≡ at_rest self.old.before }
     {
@@ -82,7 +82,7 @@ impl PlaceIndex {
     }
 }
 
-/// The number of a place by what stands there.
+/// Returns the number of a place by what stands there.
 fn key(number: u64, place: u64) -> u128
     ensures key { result ≡ key number place }
     ensures fits { result < 2 ^ 128 }

@@ -39,7 +39,7 @@ impl Model for PortSpace {
 }
 
 impl PortSpace {
-    /// A space without names. It takes no memory.
+    /// Returns a space without names. It allocates nothing.
     pub fn new(alloc: Global) -> Self
         ensures { result ≡ at_rest map.empty }
     {
@@ -55,7 +55,7 @@ impl PortSpace {
         self.tables.names.len()
     }
 
-    /// Whether a name is in use.
+    /// Returns true if a name is in use.
     pub fn contains(&self, name: u32) -> bool
         ensures { result ≡ is_some (map.get self.now.current name) }
     {
@@ -103,14 +103,14 @@ impl PortSpace {
         }
     }
 
-    /// The name under which the space holds a send or receive right of a port, the least if there were several.
+    /// Returns the name under which the space holds a send or receive right of a port, the least if there were several.
     pub fn name_of_port(&self, port: u64) -> Option<u32>
         ensures { result ≡ name_of_port self.now.current port }
     {
         self.tables.next_name(port, 0)
     }
 
-    /// Whether a send or receive right of a port stands under a name other than this one.
+    /// Returns true if a send or receive right of a port stands under a name other than this one.
     pub fn stands_elsewhere(&self, name: u32, port: u64) -> bool
         ensures { result ≡ stands_elsewhere self.now.current name port }
     {
@@ -120,7 +120,7 @@ impl PortSpace {
         first != name || self.stands_above(name, port)
     }
 
-    /// Whether a send or receive right of a port stands under a greater name.
+    /// Returns true if a send or receive right of a port stands under a greater name.
     fn stands_above(&self, name: u32, port: u64) -> bool
         ensures { MatchBool result ((other : ℕ) × (name < other) × (holds self.now.current port other ≡ true))
             ((other : ℕ) → name < other → holds self.now.current port other ≡ false) }
@@ -131,14 +131,14 @@ impl PortSpace {
         }
     }
 
-    /// Whether a name may be given out: it is neither `MACH_PORT_NULL` nor `MACH_PORT_DEAD`, and isn't in use.
+    /// Returns true if a name may be given out: it is neither `MACH_PORT_NULL` nor `MACH_PORT_DEAD`, and isn't in use.
     pub fn is_unused(&self, name: u32) -> bool
         ensures { IsTrue result ↔ IsUnused self.now.current name }
     {
         name != MACH_PORT_NULL && name != MACH_PORT_DEAD && !self.contains(name)
     }
 
-    /// The least name from `FIRST_NAME` on that isn't in use. There always is one.
+    /// Returns the least name from `FIRST_NAME` on that isn't in use. There always is one.
     pub fn free_name(&self) -> u32
         ensures unused { IsUnused self.now.current result }
         ensures from { FIRST_NAME ≤ result }
@@ -157,7 +157,7 @@ impl PortSpace {
         let _ = &self.tables;
     }
 
-    /// The least name from `from` on, with what it stands for.
+    /// Returns the least name from `from` on, with what it stands for.
     pub fn next_entry(&self, from: u64) -> Option<(u32, Entry)>
         ensures next { IsNextEntry self.now.current from result }
         ensures fits { IfSome result (λ e. e.0 < 2 ^ 32) }
@@ -168,14 +168,14 @@ impl PortSpace {
         Some((name as u32, *entry))
     }
 
-    /// Commits the changes. It takes no memory.
+    /// Commits the changes. It allocates nothing.
     pub fn commit(&mut self)
         ensures { self.new ≡ at_rest self.old.current }
     {
         self.tables.commit();
     }
 
-    /// Rolls the changes back. It takes no memory.
+    /// Rolls the changes back. It allocates nothing.
     pub fn roll_back(&mut self)
         ensures { self.new ≡ at_rest self.old.before }
     {

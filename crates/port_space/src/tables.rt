@@ -35,7 +35,7 @@ impl Tables {
         }
     }
 
-    /// The least name from `from` on that holds a send or receive right of a port.
+    /// Returns the least name from `from` on that holds a send or receive right of a port.
     pub(crate) fn next_name(&self, port: u64, from: u32) -> Option<u32>
         requires ports { AreByPort self.now.names.current self.now.by_port.current }
         ensures { MatchOption result ((name : ℕ) → from ≤ name → name < 2 ^ 32
@@ -86,7 +86,7 @@ impl Tables {
         Ok(former)
     }
 
-    /// Commits the changes. It takes no memory.
+    /// Commits the changes. It allocates nothing.
     pub(crate) fn commit(&mut self)
         ensures { AreCommitted self.old self.new }
     {
@@ -96,7 +96,7 @@ impl Tables {
         self.low_before = self.low;
     }
 
-    /// Rolls the changes back. It takes no memory.
+    /// Rolls the changes back. It allocates nothing.
     pub(crate) fn roll_back(&mut self)
         ensures { AreRolledBack self.old self.new }
     {
@@ -107,7 +107,7 @@ impl Tables {
     }
 }
 
-/// The port that a name holds a send or receive right of, if it is in use and does.
+/// Returns the port that a name holds a send or receive right of, if it is in use and does.
 fn held_by(entry: Option<Entry>) -> Option<u64>
     ensures { result ≡ option_and_then port_held entry }
 {
@@ -117,7 +117,7 @@ fn held_by(entry: Option<Entry>) -> Option<u64>
     }
 }
 
-/// The port that an entry holds a send or receive right of, if it does.
+/// Returns the port that an entry holds a send or receive right of, if it does.
 pub(crate) fn port_held(entry: &Entry) -> Option<u64>
     ensures { result ≡ port_held entry.now }
 {
@@ -127,7 +127,7 @@ pub(crate) fn port_held(entry: &Entry) -> Option<u64>
     }
 }
 
-/// The number of a name by its port.
+/// Returns the number of a name by its port.
 pub(crate) fn port_key(port: u64, name: u32) -> u128
     ensures key { result ≡ port_key port name }
     ensures fits { result < 2 ^ 128 }
@@ -192,7 +192,7 @@ fn join_port(by_port: &mut TrackedMap<()>, port: Option<u64>, name: u32) -> Resu
     }
 }
 
-/// The bound of the dense names once this name is used: the same, unless this name was it.
+/// Returns the bound of the dense names once this name is used: the same, unless this name was it.
 fn next_unused(names: &TrackedMap<Entry>, name: u128, low: u128) -> u128
     requires small { AreSmall names.now.current }
     requires fits { name < 2 ^ 32 }

@@ -107,7 +107,7 @@ impl Ports {
         }
     }
 
-    /// Sets the serial that the next port gets, one that was never given before. It takes no memory.
+    /// Sets the serial that the next port gets, one that was never given before. It allocates nothing.
     pub fn set_next_serial(&mut self, serial: u64)
         requires { self.old.current.next ≤ serial }
         ensures { self.new ≡ record self.old { current = record self.old.current { next = serial } } }

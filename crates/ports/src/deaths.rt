@@ -68,7 +68,7 @@ impl Ports {
         Ok(())
     }
 
-    /// The first port from `from` on whose no-senders request has this target, if there is one.
+    /// Returns the first port from `from` on whose no-senders request has this target, if there is one.
     fn no_senders_requester(&self, target: u64, from: u64) -> Option<u64>
         ensures next { IsNextRequester no_senders_of self.now.current.ports target from result }
         ensures fits { IfSome result (λ serial. serial < 2 ^ 64 - 1) }
@@ -76,7 +76,7 @@ impl Ports {
         self.indexes.no_senders.next(target, from)
     }
 
-    /// The first port from `from` on whose port-destroyed request has this target, if there is one.
+    /// Returns the first port from `from` on whose port-destroyed request has this target, if there is one.
     fn port_destroyed_requester(&self, target: u64, from: u64) -> Option<u64>
         ensures next { IsNextRequester destroyed_of self.now.current.ports target from result }
         ensures fits { IfSome result (λ serial. serial < 2 ^ 64 - 1) }

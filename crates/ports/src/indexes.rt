@@ -25,7 +25,7 @@ pub(crate) struct PortIndexes {
 }
 
 impl PortIndexes {
-    /// Empty indexes. It takes no memory.
+    /// Empty indexes. It allocates nothing.
     pub(crate) fn new(alloc: Global) -> Self
         ensures { AreAtRest result
             (record { counts = map.empty; carriers = map.empty; no_senders = map.empty; destroyed = map.empty }) }
@@ -91,7 +91,7 @@ impl PortIndexes {
         clear_carriers(&mut self.carriers, serial)
     }
 
-    /// Commits the changes. It takes no memory.
+    /// Commits the changes. It allocates nothing.
     pub(crate) fn commit(&mut self)
         ensures { AreAtRest self.new (present_parts self.old) }
     {
@@ -101,7 +101,7 @@ impl PortIndexes {
         self.port_destroyed.commit();
     }
 
-    /// Rolls the changes back. It takes no memory.
+    /// Rolls the changes back. It allocates nothing.
     pub(crate) fn roll_back(&mut self)
         ensures { AreAtRest self.new (former_parts self.old) }
     {

@@ -32,7 +32,7 @@ impl Model for Ports {
 }
 
 impl Ports {
-    /// No ports; the first gets the serial 1. It takes no memory.
+    /// No ports; the first gets the serial 1. It allocates nothing.
     pub fn new(alloc: Global) -> Self
         ensures { result ≡ ports_at_rest (record { ports = map.empty; next = 1 }) }
     {
@@ -42,7 +42,7 @@ impl Ports {
         }
     }
 
-    /// Commits the changes. It takes no memory.
+    /// Commits the changes. It allocates nothing.
     pub fn commit(&mut self)
         ensures { self.new ≡ ports_at_rest self.old.current }
     {
@@ -50,7 +50,7 @@ impl Ports {
         self.indexes.commit();
     }
 
-    /// Rolls the changes back. It takes no memory.
+    /// Rolls the changes back. It allocates nothing.
     pub fn roll_back(&mut self)
         ensures { self.new ≡ ports_at_rest self.old.before }
     {

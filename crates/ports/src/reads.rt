@@ -24,29 +24,29 @@ impl Ports {
         self.ports.len()
     }
 
-    /// Whether as many ports live as are allowed.
+    /// Returns true if as many ports live as are allowed.
     pub fn is_full(&self) -> bool
         ensures { result ≡ nat_le MAX_PORTS (map.len self.now.current.ports) }
     {
         self.ports.is_full()
     }
 
-    /// The serial that the next port gets.
+    /// Returns the serial that the next port gets.
     pub fn next_serial(&self) -> u64
         ensures { result ≡ self.now.current.next }
     {
         self.ports.next_serial()
     }
 
-    /// The serials of the ports that may have changed since the last commit or rollback. Every other port lives if it
-    /// lived then, and its queue is as full.
+    /// Returns the serials of the ports that may have changed since the last commit or rollback. Every other port lives
+    /// if it lived then, and its queue is as full.
     pub fn changed_serials(&self) -> &[u128]
         ensures { AreNoted self.now.before.ports self.now.current.ports result.now }
     {
         self.ports.changed_serials()
     }
 
-    /// Whether a port lives.
+    /// Returns true if a port lives.
     pub fn contains(&self, serial: u64) -> bool
         ensures { result ≡ is_some (map.get self.now.current.ports serial) }
     {
@@ -67,8 +67,8 @@ impl Ports {
         self.ports.message_count(serial)
     }
 
-    /// The message at an index in a port's queue as it was sent, counted from the oldest, if there is one. `seen` says
-    /// what its rights are now.
+    /// Returns the message at an index in a port's queue as it was sent, counted from the oldest, if there is one.
+    /// `seen` says what its rights are now.
     pub fn message_as_sent(&self, serial: u64, index: u32) -> Option<&Message>
         ensures { MatchOption result (length (messages_at self.now.current.ports serial) ≤ index)
             (λ message. (index < length (messages_at self.now.current.ports serial))
@@ -109,7 +109,7 @@ impl Ports {
         self.indexes.counts.send_onces(serial)
     }
 
-    /// The port in whose queue the receive right of a port travels, if it does.
+    /// Returns the port in whose queue the receive right of a port travels, if it does.
     pub fn carrier(&self, serial: u64) -> Option<u64>
         ensures { result ≡ option_map (λ e. e.0) (find (λ e. carries serial e.1) (map.entries self.now.current.ports)) }
     {

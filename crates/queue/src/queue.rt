@@ -59,7 +59,7 @@ impl Model for Queue {
 }
 
 impl Queue {
-    /// A queue without messages. It takes no memory.
+    /// Returns a queue without messages. It allocates nothing.
     pub fn new(alloc: Global) -> Self
         ensures { result ≡ list_at_rest [] }
     {
@@ -77,7 +77,7 @@ impl Queue {
         (self.messages.len() - self.taken) as u32
     }
 
-    /// Whether there is no message.
+    /// Returns true if there is no message.
     pub fn is_empty(&self) -> bool
         ensures { result ≡ (length self.now.current == 0) }
     {
@@ -117,7 +117,7 @@ impl Queue {
         }
     }
 
-    /// The message at an index, counted from the oldest.
+    /// Returns the message at an index, counted from the oldest.
     pub fn message(&self, index: u32) -> &Message
         requires { index < length self.now.current }
         ensures { result.now ≡ slice_index_or self.now.current index result.now }
@@ -125,7 +125,7 @@ impl Queue {
         &self.messages[self.taken + index as usize]
     }
 
-    /// Commits the changes. It takes no memory.
+    /// Commits the changes. It allocates nothing.
     pub fn commit(&mut self)
         ensures { self.new ≡ list_at_rest self.old.current }
     {
@@ -134,7 +134,7 @@ impl Queue {
         self.before = self.messages.len();
     }
 
-    /// Rolls the changes back. It takes no memory.
+    /// Rolls the changes back. It allocates nothing.
     pub fn roll_back(&mut self)
         ensures { self.new ≡ list_at_rest self.old.before }
     {

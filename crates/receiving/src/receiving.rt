@@ -138,7 +138,7 @@ fn outline_of(state: &IpcState, port: u64) -> Option<Outline>
     }
 }
 
-/// The rights that arrive with a port's oldest message; none if it has no message.
+/// Returns the rights that arrive with a port's oldest message; none if it has no message.
 fn oldest_rights(
     alloc: Global,
     state: &IpcState,
@@ -152,8 +152,8 @@ fn oldest_rights(
     }
 }
 
-/// The answer to a receive whose message is too large. The message stays if the receive asked for that; else it is
-/// destroyed, with its rights.
+/// Returns the answer to a receive whose message is too large. The message stays if the receive asked for that; else it
+/// is destroyed, with its rights.
 fn too_large(
     alloc: Global,
     state: &mut IpcState,
@@ -229,7 +229,8 @@ fn take_whole(
     })
 }
 
-/// The bytes of a port's oldest message as it is received if its rights got these names; none if it has no message.
+/// Returns the bytes of a port's oldest message as it is received if its rights got these names; none if it has no
+/// message.
 fn oldest_encoding(
     alloc: Global,
     state: &IpcState,
@@ -254,7 +255,7 @@ fn oldest_encoding(
     }
 }
 
-/// The answer of `mach_msg` that reports no message.
+/// Returns the answer of `mach_msg` that reports no message.
 fn without_message(alloc: Global, code: KernReturn) -> PlainReply
     ensures { result ≡ PlainReply.Message code 0 MACH_PORT_NULL [] }
 {

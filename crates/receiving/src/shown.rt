@@ -53,8 +53,8 @@ fn add_names_in_body(alloc: Global, body: &[u8], names: &mut Vec<u32>) -> Result
     }
 }
 
-/// The names that a received message shows, which its rights got in the receiver's space: that of the reply right, if
-/// the header says that there is one, and after it those in the port items of the body, from the left, if
+/// Returns the names that a received message shows, which its rights got in the receiver's space: that of the reply
+/// right, if the header says that there is one, and after it those in the port items of the body, from the left, if
 /// `MACH_MSGH_BITS_COMPLEX` says that there are any.
 ///
 /// Fewer bytes than a header has show none, and take no memory. If an allocation fails, nothing is returned.

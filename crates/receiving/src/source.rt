@@ -32,9 +32,9 @@ pub(crate) struct Source {
     pub(crate) port: u64,
 }
 
-/// The port from which a receive takes its message, or the code with which it is refused: the name holds neither a
-/// receive right nor a set (`RcvInvalidName`, or `RcvPortDied` after a wait), the port is in a set (`RcvInSet`, or
-/// `RcvPortChanged` after a wait), or there is no message (`RcvTimedOut`).
+/// Returns the port from which a receive takes its message, or the code with which it is refused: the name holds
+/// neither a receive right nor a set (`RcvInvalidName`, or `RcvPortDied` after a wait), the port is in a set
+/// (`RcvInSet`, or `RcvPortChanged` after a wait), or there is no message (`RcvTimedOut`).
 pub(crate) fn find_source(
     alloc: Global,
     state: &IpcState,
@@ -70,7 +70,7 @@ fn giver_by(entry: Option<Entry>) -> Giver
     }
 }
 
-/// The code if neither a receive right nor a set stands under the name. After a wait there was one.
+/// Returns the code if neither a receive right nor a set stands under the name. After a wait there was one.
 fn not_there(waited: bool) -> KernReturn
     ensures { result ≡ (if waited then KernReturn.RcvPortDied else KernReturn.RcvInvalidName) }
 {
@@ -81,7 +81,7 @@ fn not_there(waited: bool) -> KernReturn
     }
 }
 
-/// The port as the source, or the code with which the receive is refused.
+/// Returns the port as the source, or the code with which the receive is refused.
 fn from_port(state: &IpcState, asked: Asked, port: u64) -> Result<Source, KernReturn>
     ensures found { IfOk result (λ source. (port_refusal state.now.current (arguments_of asked) port ≡ None)
         × (source ≡ record { member = asked.name; port = port })) }
@@ -99,7 +99,7 @@ fn from_port(state: &IpcState, asked: Asked, port: u64) -> Result<Source, KernRe
     })
 }
 
-/// The code if a port delivers its messages through a set. After a wait it has been put there since.
+/// Returns the code if a port delivers its messages through a set. After a wait it has been put there since.
 fn in_set(waited: bool) -> KernReturn
     ensures { result ≡ (if waited then KernReturn.RcvPortChanged else KernReturn.RcvInSet) }
 {
@@ -110,7 +110,7 @@ fn in_set(waited: bool) -> KernReturn
     }
 }
 
-/// Whether a port is in a set.
+/// Returns true if a port is in a set.
 fn is_in_set(state: &IpcState, port: u64) -> bool
     ensures { result ≡ is_in_set state.now.current port }
 {
@@ -120,7 +120,7 @@ fn is_in_set(state: &IpcState, port: u64) -> bool
     }
 }
 
-/// Whether a port has a message.
+/// Returns true if a port has a message.
 fn has_message(state: &IpcState, port: u64) -> bool
     ensures { result ≡ has_message state.now.current port }
 {
@@ -130,7 +130,7 @@ fn has_message(state: &IpcState, port: u64) -> bool
     }
 }
 
-/// The member of a set that delivers a message: the preferred one, else the one with the least name.
+/// Returns the member of a set that delivers a message: the preferred one, else the one with the least name.
 fn from_set(
     alloc: Global,
     state: &IpcState,
@@ -160,7 +160,7 @@ fn from_set(
     }
 }
 
-/// The first of these members that has a message and is preferred.
+/// Returns the first of these members that has a message and is preferred.
 fn first(
     alloc: Global,
     state: &IpcState,

@@ -5,7 +5,7 @@ ghost use Rattle.words.specs.Words.{word, frame_encoding};
 use byteorder::{ByteOrder, LittleEndian};
 use words::take_word;
 
-/// The content of the frame that stands in front, and the bytes after it.
+/// Returns the content of the frame that stands in front, and the bytes after it.
 pub fn take_frame(bytes: &[u8]) -> Option<(&[u8], &[u8])>
     ensures found { IfSome result (λ r. (bytes.now ≡ frame_encoding r.0.now ++ r.1.now) × (length r.0.now < 2 ^ 32)) }
     ensures only { (content rest : List ℕ) → length content < 2 ^ 32 → bytes.now ≡ frame_encoding content ++ rest

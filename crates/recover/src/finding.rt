@@ -25,8 +25,8 @@ use slot_steps::{CLOSED_GATE, OPEN_GATE, SEGMENT_HEADER, image_slot};
 use std::alloc::Global;
 use store_fault::StoreFault;
 
-/// The state after an epoch's image and the records of its segment, how many they are, where the last batch ends, and
-/// the segment's version.
+/// Returns the state after an epoch's image and the records of its segment, how many they are, where the last batch
+/// ends, and the segment's version.
 ///
 /// `Damaged`: the image isn't that of a lawful state, or the records are no run from it.
 pub(crate) fn read_epoch<D: Disk>(

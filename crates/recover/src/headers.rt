@@ -36,14 +36,14 @@ pub(crate) struct Headers {
     pub(crate) segment1: Header,
 }
 
-/// Whether a slot holds its whole header and its gate is open.
+/// Returns true if a slot holds its whole header and its gate is open.
 pub(crate) fn is_open(slot: &[u8], header: usize) -> bool
     ensures { IsTrue result ↔ IsOpen header slot.now }
 {
     header <= slot.len() && slot.first() == Some(&OPEN_GATE)
 }
 
-/// Whether a slot is open and says a version that there isn't.
+/// Returns true if a slot is open and says a version that there isn't.
 fn is_other_version(slot: &[u8], header: usize) -> bool
     requires { 2 ≤ header }
     ensures { IsTrue result ↔ HasOtherVersion header slot.now }
@@ -54,7 +54,7 @@ fn is_other_version(slot: &[u8], header: usize) -> bool
     version_in(slot).is_none()
 }
 
-/// The version that a header says, if there is such a one.
+/// Returns the version that a header says, if there is such a one.
 fn version_in(slot: &[u8]) -> Option<StoreVersion>
     requires { 2 ≤ length slot.now }
     ensures known { IfSome result (λ version. version_number version ≡ version_of slot.now) }
@@ -84,7 +84,7 @@ fn after_front(slot: &[u8]) -> Option<&[u8]>
     }
 }
 
-/// The epoch of a header of a version, if there is one.
+/// Returns the epoch of a header of a version, if there is one.
 fn epoch_of(slot: &[u8]) -> Option<u64>
     ensures found { IfSome result (λ epoch. IsOfEpoch (epoch % 2) epoch slot.now) }
     ensures none { IfNone result (16 ≤ length slot.now → (number epoch : ℕ) → IsOfEpoch number epoch slot.now → ⊥) }
@@ -144,8 +144,8 @@ pub(crate) fn read_headers<D: Disk>(disk: &mut D) -> Result<Headers, DiskFault>
     })
 }
 
-/// The version of an open slot, which its header says. It is read once more, since most of what is asked of a header
-/// has nothing to do with it.
+/// Returns the version of an open slot, which its header says. It is read once more, since most of what is asked of a
+/// header has nothing to do with it.
 ///
 /// `Damaged`: there is no such version.
 pub(crate) fn read_version<D: Disk>(disk: &mut D, slot: Slot) -> Result<StoreVersion, StoreFault>

@@ -39,7 +39,7 @@ fn encoding_length<D: Disk>(disk: &mut D, slot: Slot) -> Result<u64, DiskFault>
     }
 }
 
-/// The encoding in an image.
+/// Returns the encoding in an image.
 ///
 /// `Damaged`: the slot ends within it.
 fn read_encoding<D: Disk>(alloc: Global, disk: &mut D, slot: Slot) -> Result<Vec<u8>, StoreFault>
@@ -62,14 +62,14 @@ fn read_encoding<D: Disk>(alloc: Global, disk: &mut D, slot: Slot) -> Result<Vec
     Ok(encoding)
 }
 
-/// Whether each port's queue has a limit of a version.
+/// Returns true if each port's queue has a limit of a version.
 fn have_limits(version: StoreVersion, ports: &[LivePort]) -> bool
     ensures { IsTrue result ↔ All (HasLimit version) ports.now }
 {
     ports.iter().all(|port| is_limit(version, port.state.limit))
 }
 
-/// The state that these bytes encode in a version.
+/// Returns the state that these bytes encode in a version.
 ///
 /// `Damaged`: they encode no lawful state.
 fn state_of(alloc: Global, version: StoreVersion, encoding: &[u8]) -> Result<Kernel, StoreFault>
@@ -97,7 +97,7 @@ fn state_of(alloc: Global, version: StoreVersion, encoding: &[u8]) -> Result<Ker
     }
 }
 
-/// The state whose image an open slot of a version holds.
+/// Returns the state whose image an open slot of a version holds.
 ///
 /// `Damaged`: it holds no image of a lawful state.
 fn load_image_in<D: Disk>(
@@ -120,7 +120,7 @@ fn load_image_in<D: Disk>(
     Ok(kernel)
 }
 
-/// The state whose image an open slot holds.
+/// Returns the state whose image an open slot holds.
 ///
 /// `Damaged`: it holds no image of a lawful state, or none of a version that there is.
 pub(crate) fn load_image<D: Disk>(

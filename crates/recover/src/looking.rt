@@ -30,7 +30,7 @@ pub struct Looked {
     pub snapshot: Snapshot,
 }
 
-/// The state of a store that was never in use.
+/// Returns the state of a store that was never in use.
 fn look_new<D: Disk>(alloc: Global, disk: &mut D, segment0: Header) -> Result<Kernel, StoreFault>
     requires unused { D.honest → IsUnused (D.view disk.old).seen }
     requires says { D.honest → Says 16 (D.view disk.old).seen.segment0 segment0 }
@@ -45,7 +45,7 @@ fn look_new<D: Disk>(alloc: Global, disk: &mut D, segment0: Header) -> Result<Ke
     Ok(kernel)
 }
 
-/// The state of a store in use, and how many records its segments hold.
+/// Returns the state of a store in use, and how many records its segments hold.
 fn look_in_use<D: Disk>(
     alloc: Global,
     disk: &mut D,
@@ -68,7 +68,7 @@ fn look_in_use<D: Disk>(
     Ok((kernel, first.saturating_add(next)))
 }
 
-/// The epoch of a store's image, how many records its segments hold, and the state after them.
+/// Returns the epoch of a store's image, how many records its segments hold, and the state after them.
 fn find<D: Disk>(alloc: Global, disk: &mut D) -> Result<(u64, u64, Kernel), StoreFault>
     ensures reads { D.honest → IfOk result (λ r. Reads (D.view disk.old).seen r.0 r.1 r.2) }
     ensures reads_only { D.honest → ReadsOnly (D.view disk.old) (D.view disk.new) }
@@ -92,7 +92,7 @@ fn find<D: Disk>(alloc: Global, disk: &mut D) -> Result<(u64, u64, Kernel), Stor
     }
 }
 
-/// A state as plain rows; the kernel is consumed.
+/// Returns a state as plain rows; the kernel is consumed.
 fn into_rows(alloc: Global, kernel: Kernel) -> Result<Snapshot, AllocError>
     ensures { IfOk result (λ rows. rows ≡ snapshot_of kernel) }
 {

@@ -55,7 +55,7 @@ impl<D: Disk> Model for Opened<D> {
     ghost invariant = { λ o. D.honest → IsKept (D.view o.disk) o.segment o.kernel };
 }
 
-/// The image that an epoch begins with, for this state.
+/// Returns the image that an epoch begins with, for this state.
 fn image_of(alloc: Global, epoch: u64, kernel: &Kernel) -> Result<Image, AllocError>
     ensures image { IfOk result (λ image. image ≡ unwritten epoch (image_encoding kernel.now)) }
     ensures holds { OnOk result (HoldsImage epoch (open_image epoch (image_encoding kernel.now)) kernel.now) }
@@ -111,8 +111,8 @@ fn begin<D: Disk>(
     Ok((kernel, segment))
 }
 
-/// A state, and the image of the next epoch, if the epoch's segment is of version 1: then the store goes on in that
-/// next epoch, whose slots are of the current version. The image is made before anything is written.
+/// Returns a state, and the image of the next epoch, if the epoch's segment is of version 1: then the store goes on in
+/// that next epoch, whose slots are of the current version. The image is made before anything is written.
 fn with_upgrade(
     alloc: Global,
     kernel: Kernel,
@@ -211,7 +211,7 @@ fn go_on_next<D: Disk>(
     Ok((kernel, segment))
 }
 
-/// A state, and the image of an epoch that begins with it.
+/// Returns a state, and the image of an epoch that begins with it.
 fn with_image(alloc: Global, kernel: Kernel, epoch: u64) -> Result<(Kernel, Image), AllocError>
     ensures base { IfOk result (λ r. r.0 ≡ kernel) }
     ensures image { IfOk result (λ r. r.1 ≡ unwritten epoch (image_encoding kernel)) }
@@ -234,7 +234,7 @@ fn read_synced<D: Disk>(disk: &mut D) -> Result<Headers, DiskFault>
     Ok(headers)
 }
 
-/// The state that a store stands for, and the segment in use.
+/// Returns the state that a store stands for, and the segment in use.
 fn load<D: Disk>(alloc: Global, disk: &mut D) -> Result<(Kernel, Segment), StoreFault>
     ensures opened { D.honest → Opens (D.view disk.old) (D.view disk.new) result }
     ensures version { D.honest → IsErrOf result StoreFault.Version

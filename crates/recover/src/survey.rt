@@ -20,7 +20,7 @@ pub(crate) enum Survey {
     InUse { epoch: u64, follows: bool },
 }
 
-/// The epoch of a slot with this number, if it is open.
+/// Returns the epoch of a slot with this number, if it is open.
 ///
 /// `Damaged`: it is open, and of no epoch with this number.
 fn epoch_in(header: Header, number: u64) -> Result<Option<u64>, StoreFault>
@@ -85,7 +85,7 @@ fn find_latest(first: Option<u64>, second: Option<u64>) -> Latest
     }
 }
 
-/// A store without an image.
+/// Returns a store without an image.
 fn survey_new(segment0: Option<u64>, segment1: Option<u64>) -> Result<Survey, StoreFault>
     ensures new { IfOk result (λ survey. survey ≡ Survey.New) }
     ensures first { OnOk result ((segment0 ≡ None) ⊎ (segment0 ≡ Some 0)) }

@@ -12,7 +12,7 @@ use crate::making::end_segment;
 use checkpoint::Image;
 use disk::{Disk, DiskFault, Slot};
 
-/// A value, and another one if it was made. If it wasn't, the caller has nothing to drop.
+/// Returns a value, and another one if it was made. If it wasn't, the caller has nothing to drop.
 pub(crate) fn both<T: Drop, U: Drop, E: Drop>(value: T, made: Result<U, E>) -> Result<(T, U), E>
     ensures ok { IfOk result (λ r. (r.0 ≡ value) × (made ≡ Ok r.1)) }
     ensures err { IfErr result (λ e. made ≡ Err e) }
@@ -65,7 +65,7 @@ pub(crate) fn end_after<D: Disk, T: Drop>(
     value_after(value, ended)
 }
 
-/// A value after a step that was done. If the step wasn't done, the caller has nothing to drop.
+/// Returns a value after a step that was done. If the step wasn't done, the caller has nothing to drop.
 pub(crate) fn value_after<T: Drop, E: Drop>(value: T, done: Result<(), E>) -> Result<T, E>
     ensures ok { IfOk result (λ v. (v ≡ value) × (done ≡ Ok tt)) }
     ensures err { IfErr result (λ e. done ≡ Err e) }

@@ -11,8 +11,8 @@ use std::net::Net;
 use std::os::unix::net::UnixStream;
 use wire::WireFault;
 
-/// The whole client: the words of its command line, or none if they can't be read as text, its input, output and
-/// errors. It returns the status to end with.
+/// Returns the whole client: the words of its command line, or none if they can't be read as text, its input, output
+/// and errors. It returns the status to end with.
 ///
 /// The one word is the socket of the peer. 0: the input was relayed to its end. 1: after a fault, or if the socket
 /// can't be connected to, with a line of errors. 2: there isn't exactly one word or the words can't be read, with a

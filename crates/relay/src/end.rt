@@ -20,8 +20,8 @@ pub enum RelayEnd {
 }
 
 impl RelayEnd {
-    /// The status to end with: 0 without a fault, 1 after a fault or with no peer, 2 if there isn't exactly one word or
-    /// the words can't be read.
+    /// Returns the status to end with: 0 without a fault, 1 after a fault or with no peer, 2 if there isn't exactly one
+    /// word or the words can't be read.
     pub fn status(self) -> u8
         ensures { result ≡ status_of self }
     {

@@ -38,7 +38,7 @@ pub fn relay<I: Read, O: Write + Drop, P: Read, S: Write + Drop>(
     Err(WireFault::Device)
 }
 
-/// The next frame of the input, or `None` at its end.
+/// Returns the next frame of the input, or `None` at its end.
 fn next_request<I: Read>(alloc: Global, input: &mut I) -> Result<Option<Frame>, WireFault>
     ensures found { IfOk result (λ found. MatchOption found (TakesAll (I.remaining input.old) (I.remaining input.new))
         (λ frame. IsTaken (I.remaining input.old) frame.content (I.remaining input.new))) }
@@ -47,7 +47,7 @@ fn next_request<I: Read>(alloc: Global, input: &mut I) -> Result<Option<Frame>, 
     read_frame(alloc, input)
 }
 
-/// The peer's next frame. If the peer ends before it, that is `Short`.
+/// Returns the peer's next frame. If the peer ends before it, that is `Short`.
 pub fn next_reply<P: Read>(alloc: Global, replies: &mut P) -> Result<Frame, WireFault>
     ensures found { IfOk result (λ frame. IsTaken (P.remaining replies.old) frame.content (P.remaining replies.new)) }
     ensures unanswered { IfErr result

@@ -12,8 +12,8 @@ use ipc_model::{CarriedRight, PortInMessage};
 use ipc_state::IpcState;
 use std::alloc::AllocError;
 
-/// The name under which a right arrives: the preferred one if it may arrive under it, else the one that it gets by
-/// itself.
+/// Returns the name under which a right arrives: the preferred one if it may arrive under it, else the one that it gets
+/// by itself.
 pub fn arrival_needed(state: &IpcState, space: u32, right: CarriedRight, wanted: Option<u32>) -> u32
     ensures may { MayArrive (names_in state.now.current space) right.kind right.port result }
     ensures wanted { (shown : ℕ) → wanted ≡ Some shown
@@ -73,7 +73,7 @@ fn arrive_one(
     Ok(name)
 }
 
-/// The first of the preferred names, if there is one, and those after it.
+/// Returns the first of the preferred names, if there is one, and those after it.
 fn front(wanted: &[u32]) -> (Option<u32>, &[u32])
     ensures { MatchOption result.0 ((wanted.now ≡ []) × (result.1.now ≡ []))
         (λ first. wanted.now ≡ first ∷ result.1.now) }

@@ -10,8 +10,8 @@ use ipc_model::{CarriedRight, Entry, PortInMessage, PortRights, RightKind};
 use ipc_state::IpcState;
 use std::alloc::AllocError;
 
-/// The name that a right gets when it arrives in a space: for a send or receive right the name of its port, if it has
-/// one there, else the least unused name; `MACH_PORT_NULL` and `MACH_PORT_DEAD` arrive as themselves.
+/// Returns the name that a right gets when it arrives in a space: for a send or receive right the name of its port, if
+/// it has one there, else the least unused name; `MACH_PORT_NULL` and `MACH_PORT_DEAD` arrive as themselves.
 pub fn arrival_name(state: &IpcState, space: u32, right: CarriedRight) -> u32
     ensures { MayArrive (names_in state.now.current space) right.kind right.port result }
 {
@@ -34,7 +34,7 @@ fn name_for(state: &IpcState, space: u32, kind: RightKind, port: u64) -> u32
     }
 }
 
-/// Whether a right may arrive in a space under this name.
+/// Returns true if a right may arrive in a space under this name.
 pub fn may_arrive(state: &IpcState, space: u32, right: CarriedRight, name: u32) -> bool
     ensures { IsTrue result ↔ MayArrive (names_in state.now.current space) right.kind right.port name }
 {
@@ -92,7 +92,7 @@ fn merged(kind: RightKind, port: u64, before: Option<Entry>) -> Entry
     }
 }
 
-/// The rights of a name with one more right to the same port.
+/// Returns the rights of a name with one more right to the same port.
 fn with_right(kind: RightKind, rights: PortRights) -> PortRights
     requires few { rights.send ≤ MAX_SEND_REFERENCES }
     ensures rights { result ≡ merged_rights kind rights }

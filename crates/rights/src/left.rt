@@ -8,7 +8,7 @@ use ipc_model::Entry;
 use ipc_state::{IpcState, request_of};
 use std::alloc::AllocError;
 
-/// Whether a name stands for nothing any more, and so ceases to exist.
+/// Returns true if a name stands for nothing any more, and so ceases to exist.
 pub fn is_empty(entry: Entry) -> bool
     ensures { result ≡ is_empty_entry entry }
 {

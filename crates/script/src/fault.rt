@@ -116,7 +116,7 @@ pub(crate) enum Fault {
 }
 
 impl Fault {
-    /// The fault that something else was expected in front of this text.
+    /// Returns the fault that something else was expected in front of this text.
     pub(crate) fn expected(expected: Expected, text: &[u8]) -> Fault
         ensures { result ≡ Fault.Unreadable (stop_at expected (words_of text.now)) }
     {

@@ -16,7 +16,7 @@ use script_printing::Exchange;
 use script_words::{column_of, count_words, take_word};
 use std::alloc::Global;
 
-/// The fault of a line.
+/// Returns the fault of a line.
 fn line_fault(line: &[u8], fault: Fault) -> LineFault
     ensures { result ≡ fault_of line.now fault }
 {
@@ -29,7 +29,7 @@ fn line_fault(line: &[u8], fault: Fault) -> LineFault
     }
 }
 
-/// The call of a line and its answer.
+/// Returns the call of a line and its answer.
 #[tactic(auto, unfolding(crate::specs::Lines::exchange_at))]
 fn read_words(alloc: Global, line: &[u8]) -> Result<Exchange, Fault>
     ensures { Gives (λ x. x) result (exchange_at (words_of line.now)) }
@@ -39,7 +39,7 @@ fn read_words(alloc: Global, line: &[u8]) -> Result<Exchange, Fault>
     Ok(Exchange { call, reply })
 }
 
-/// The call of a line that gives no answer.
+/// Returns the call of a line that gives no answer.
 #[tactic(auto, unfolding(crate::specs::Lines::request_at))]
 fn read_request_words(alloc: Global, line: &[u8]) -> Result<Call, Fault>
     ensures { Gives (λ x. x) result (request_at (words_of line.now)) }
@@ -51,8 +51,8 @@ fn read_request_words(alloc: Global, line: &[u8]) -> Result<Call, Fault>
     Ok(call)
 }
 
-/// The call of a line and its answer, or none if the line has no words: it is blank, or a comment. `Unreadable`: it
-/// isn't such a line. `NoMemory`: out of memory for a message, for names or for members.
+/// Returns the call of a line and its answer, or none if the line has no words: it is blank, or a comment.
+/// `Unreadable`: it isn't such a line. `NoMemory`: out of memory for a message, for names or for members.
 pub fn read_line(alloc: Global, line: &[u8]) -> Result<Option<Exchange>, LineFault>
     ensures only { (x : Exchange) → IsExchange x → line.now ≡ exchange_line x → IsRead result (Some x) }
     // Whatever stands between the words, and with a comment after them.
@@ -71,8 +71,8 @@ pub fn read_line(alloc: Global, line: &[u8]) -> Result<Option<Exchange>, LineFau
     }
 }
 
-/// The call of a line that gives no answer. `Unreadable`: it isn't such a line, or it has no words, or an answer.
-/// `NoMemory`: out of memory for a message.
+/// Returns the call of a line that gives no answer. `Unreadable`: it isn't such a line, or it has no words, or an
+/// answer. `NoMemory`: out of memory for a message.
 pub fn read_request_line(alloc: Global, line: &[u8]) -> Result<Call, LineFault>
     ensures only { (c : Call) → HasLine c → line.now ≡ call_line c → IsRead result c }
     ensures spaced { (c : Call) → HasLine c → words_of line.now ≡ call_words c → IsRead result c }

@@ -68,7 +68,7 @@ fn read_kind(text: &[u8]) -> Result<(RightKind, &[u8]), Fault>
     }
 }
 
-/// The state of a port of which the last three answers are still to be read.
+/// Returns the state of a port of which the last three answers are still to be read.
 #[tactic(auto, unfolding(crate::specs::Replies::counts_at))]
 fn read_counts(text: &[u8]) -> Result<(ReceiveStatus, &[u8]), Fault>
     ensures { Gives (λ r. (r.0, words_of r.1.now)) result (counts_at (words_of text.now)) }
@@ -110,7 +110,7 @@ fn read_status(text: &[u8]) -> Result<(ReceiveStatus, &[u8]), Fault>
     Ok((status, rest))
 }
 
-/// The name and the type in front, if a word is left, and the text after them.
+/// Returns the name and the type in front, if a word is left, and the text after them.
 #[tactic(auto, unfolding(crate::specs::Replies::named_at))]
 fn read_named(text: &[u8]) -> Result<Option<(NamedType, &[u8])>, Fault>
     ensures { Gives (λ r. option_map (λ n. (n.0, words_of n.1.now)) r) result (named_at (words_of text.now)) }
@@ -123,7 +123,7 @@ fn read_named(text: &[u8]) -> Result<Option<(NamedType, &[u8])>, Fault>
     Ok(Some((NamedType { name, bits }, rest)))
 }
 
-/// The name in front, if a word is left, and the text after it.
+/// Returns the name in front, if a word is left, and the text after it.
 #[tactic(auto, unfolding(crate::specs::Replies::member_at))]
 fn read_member(text: &[u8]) -> Result<Option<(u32, &[u8])>, Fault>
     ensures { Gives (λ r. option_map (λ n. (n.0, words_of n.1.now)) r) result (member_at (words_of text.now)) }
@@ -171,7 +171,7 @@ fn read_members(alloc: Global, text: &[u8]) -> Result<Sequence<u32>, Fault>
     }
 }
 
-/// The message after its word, or no bytes.
+/// Returns the message after its word, or no bytes.
 #[tactic(auto, unfolding(crate::specs::Replies::received_at))]
 fn read_received(alloc: Global, text: &[u8]) -> Result<(Vec<u8>, &[u8]), Fault>
     ensures { Gives (λ r. (r.0.items, words_of r.1.now)) result (received_at (words_of text.now)) }
@@ -182,7 +182,7 @@ fn read_received(alloc: Global, text: &[u8]) -> Result<(Vec<u8>, &[u8]), Fault>
     }
 }
 
-/// The answer of a `mach_msg` with this code.
+/// Returns the answer of a `mach_msg` with this code.
 #[tactic(auto, unfolding(crate::specs::Replies::message_reply_at))]
 fn read_message_reply(alloc: Global, code: KernReturn, text: &[u8]) -> Result<PlainReply, Fault>
     ensures { Gives (λ r. r) result (message_reply_at code (words_of text.now)) }
@@ -218,7 +218,7 @@ fn read_space_created(text: &[u8]) -> Result<PlainReply, Fault>
     last(PlainReply::SpaceCreated { space, name }, rest)
 }
 
-/// The one number that is left.
+/// Returns the one number that is left.
 #[tactic(auto, unfolding(crate::specs::Replies::last_value))]
 fn read_last(kind: Kind, text: &[u8]) -> Result<u32, Fault>
     ensures { Gives (λ r. r) result (last_value kind (words_of text.now)) }
@@ -235,7 +235,7 @@ fn read_last_status(text: &[u8]) -> Result<PlainReply, Fault>
     last(PlainReply::ReceiveStatus { status }, rest)
 }
 
-/// The results of a call with this number.
+/// Returns the results of a call with this number.
 #[tactic(auto, unfolding(crate::specs::Replies::results_at))]
 fn read_results(alloc: Global, number: u32, text: &[u8]) -> Result<PlainReply, Fault>
     ensures { Gives (λ r. r) result (results_at number (words_of text.now)) }
@@ -273,7 +273,7 @@ fn read_results(alloc: Global, number: u32, text: &[u8]) -> Result<PlainReply, F
     }
 }
 
-/// Whether a call with this number has results, or may have some.
+/// Returns true if a call with this number has results, or may have some.
 fn may_tell(number: u32) -> bool
     ensures { result ≡ (has_results number || number == MACH_MSG) }
 {
@@ -293,7 +293,7 @@ fn may_tell(number: u32) -> bool
     )
 }
 
-/// The answer to the call with this number if the line gives none.
+/// Returns the answer to the call with this number if the line gives none.
 #[tactic(auto, unfolding(crate::specs::Replies::silence))]
 fn read_silence(alloc: Global, number: u32, text: &[u8]) -> Result<PlainReply, Fault>
     ensures { Gives (λ r. r) result (silence number (words_of text.now)) }
@@ -331,7 +331,7 @@ fn read_refusal(alloc: Global, number: u32, text: &[u8]) -> Result<PlainReply, F
     last(PlainReply::Refused { number, code }, rest)
 }
 
-/// The answer to the call with this number, which isn't numbered. The text is all that is left of the line.
+/// Returns the answer to the call with this number, which isn't numbered. The text is all that is left of the line.
 #[tactic(auto, unfolding(crate::specs::Replies::plain_reply_at))]
 fn read_plain_reply(alloc: Global, number: u32, text: &[u8]) -> Result<PlainReply, Fault>
     ensures { Gives (λ r. r) result (plain_reply_at number (words_of text.now)) }
@@ -360,7 +360,7 @@ fn read_own_reply(alloc: Global, number: u32, text: &[u8]) -> Result<Reply, Faul
     Ok(Reply::Plain(reply))
 }
 
-/// The request in front, and the answer to the call with this number, which was numbered by it.
+/// Returns the request in front, and the answer to the call with this number, which was numbered by it.
 #[tactic(auto, unfolding(crate::specs::Replies::made_at))]
 fn read_made(alloc: Global, number: u32, text: &[u8]) -> Result<Reply, Fault>
     ensures { Gives (λ r. r) result (made_at number (words_of text.now)) }
@@ -370,7 +370,7 @@ fn read_made(alloc: Global, number: u32, text: &[u8]) -> Result<Reply, Fault>
     Ok(Reply::Numbered(NumberedReply { request, reply }))
 }
 
-/// The answer of number 22, by which a call with this number is numbered.
+/// Returns the answer of number 22, by which a call with this number is numbered.
 #[tactic(auto, unfolding(crate::specs::Replies::numbered_reply_at))]
 fn read_numbered_reply(alloc: Global, number: u32, text: &[u8]) -> Result<Reply, Fault>
     ensures { Gives (λ r. r) result (numbered_reply_at number (words_of text.now)) }
@@ -381,7 +381,7 @@ fn read_numbered_reply(alloc: Global, number: u32, text: &[u8]) -> Result<Reply,
     }
 }
 
-/// The answer to a call. The text is all that is left of the line.
+/// Returns the answer to a call. The text is all that is left of the line.
 #[tactic(auto, unfolding(crate::specs::Replies::reply_at))]
 pub(crate) fn read_reply(alloc: Global, call: &Call, text: &[u8]) -> Result<Reply, Fault>
     ensures { Gives (λ r. r) result (reply_at call.now (words_of text.now)) }

@@ -35,7 +35,7 @@ fn after_first(text: &[u8]) -> &[u8]
     }
 }
 
-/// The first line of a text without its end, and what stands after it.
+/// Returns the first line of a text without its end, and what stands after it.
 fn first_line(text: &[u8]) -> (&[u8], &[u8])
     ensures line { result.0.now ≡ take (prefix_len in_line text.now) text.now }
     ensures rest { result.1.now ≡ drop 1 (drop (prefix_len in_line text.now) text.now) }
@@ -64,7 +64,7 @@ fn add_line(
     }
 }
 
-/// The calls of a script, line by line, with their answers. The fault gives the first line that can't be read.
+/// Returns the calls of a script, line by line, with their answers. The fault gives the first line that can't be read.
 /// `Unreadable`: it isn't blank, a comment or a call with its answer. `NoMemory`: out of memory for what it holds or
 /// for the list of lines.
 pub fn read_script(alloc: Global, text: &[u8]) -> Result<Vec<Line>, ScriptFault>

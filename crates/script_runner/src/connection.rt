@@ -21,7 +21,7 @@ pub struct Store<D> {
 }
 
 impl<D: Device + Drop> Store<D> {
-    /// An empty store.
+    /// Returns an empty store.
     pub fn new(alloc: Global) -> Store<D> {
         Store {
             disk: D::empty(alloc),
@@ -68,13 +68,13 @@ pub struct Connection<D: Device> {
     records: u64,
 }
 
-/// The frame that attaches to a space.
+/// Returns the frame that attaches to a space.
 fn attach_frame(space: u32) -> [u8; 12] {
     let [a, b, c, d] = space.to_le_bytes();
     [8, 0, 0, 0, 0, 0, 0, 0, a, b, c, d]
 }
 
-/// The space that a frame asks to be attached to, if it asks for that.
+/// Returns the space that a frame asks to be attached to, if it asks for that.
 fn attached_by(frame: &[u8]) -> Option<u32> {
     let (_, content) = take_word(frame)?;
     let (number, arguments) = take_word(content)?;
@@ -113,7 +113,7 @@ impl<D: Device + Drop> Connection<D> {
         self.records
     }
 
-    /// The frame that answers a frame, if there is one.
+    /// Returns the frame that answers a frame, if there is one.
     fn send(&mut self, frame: &[u8]) -> Option<Vec<u8>> {
         D::answer(&mut self.server, self.alloc, frame)
     }
@@ -130,7 +130,7 @@ impl<D: Device + Drop> Connection<D> {
         Ok(())
     }
 
-    /// The frame that answers a frame of the script.
+    /// Returns the frame that answers a frame of the script.
     pub fn ask(&mut self, frame: &[u8]) -> Result<Vec<u8>, Unanswered> {
         if self.attached != self.space {
             self.attach()?;
@@ -147,7 +147,7 @@ impl<D: Device + Drop> Connection<D> {
         Ok(reply)
     }
 
-    /// The store, once the server has ended.
+    /// Returns the store, once the server has ended.
     pub fn close(self) -> Store<D> {
         let Connection {
             alloc,
@@ -163,7 +163,7 @@ impl<D: Device + Drop> Connection<D> {
         }
     }
 
-    /// The store that a crash leaves: the planned crash, if it came.
+    /// Returns the store that a crash leaves: the planned crash, if it came.
     pub fn stop(self) -> Result<Store<D>, Failure> {
         let Store { disk, alloc, space } = self.close();
         match disk.stop() {

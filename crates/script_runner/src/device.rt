@@ -12,7 +12,7 @@ pub trait Device {
     /// The server over the store of such a disk.
     type Server: Drop;
 
-    /// An empty disk.
+    /// Returns an empty disk.
     fn empty(alloc: Global) -> Self;
 
     /// Plans a crash at a call of the disk, and what it leaves.
@@ -27,10 +27,10 @@ pub trait Device {
     /// Opens the store: its server, and how many records it has.
     fn start(self, alloc: Global) -> Result<(Self::Server, u64), StoreFault>;
 
-    /// The frame that answers a frame, if there is one.
+    /// Returns the frame that answers a frame, if there is one.
     fn answer(server: &mut Self::Server, alloc: Global, frame: &[u8]) -> Option<Vec<u8>>;
 
-    /// The disk, once the server has ended.
+    /// Returns the disk, once the server has ended.
     fn end(server: Self::Server) -> Self;
 }
 

@@ -55,7 +55,7 @@ fn without_comment(line: &[u8]) -> &[u8]
     text
 }
 
-/// A line without the spaces in front.
+/// Returns a line without the spaces in front.
 fn without_spaces(line: &[u8]) -> &[u8]
     ensures { result.now ≡ after_spaces line.now }
 {
@@ -63,7 +63,7 @@ fn without_spaces(line: &[u8]) -> &[u8]
     text
 }
 
-/// The first word of a line, which is empty if there is none, and what stands after it.
+/// Returns the first word of a line, which is empty if there is none, and what stands after it.
 fn take_word(line: &[u8]) -> (&[u8], &[u8])
     ensures word { result.0.now ≡ first_word line.now }
     ensures rest { result.1.now ≡ after_first line.now }
@@ -72,7 +72,7 @@ fn take_word(line: &[u8]) -> (&[u8], &[u8])
     text.split_at(word_length(text))
 }
 
-/// The number that a word writes in decimal digits.
+/// Returns the number that a word writes in decimal digits.
 fn number_of(word: &[u8]) -> Option<u32> {
     let Ok(word) = str::from_utf8(word) else {
         return None;
@@ -80,7 +80,7 @@ fn number_of(word: &[u8]) -> Option<u32> {
     word.parse::<u32>().ok()
 }
 
-/// The length of segment 0 that stands after the word `slot`.
+/// Returns the length of segment 0 that stands after the word `slot`.
 fn slot_length(rest: &[u8]) -> Option<u64>
     ensures { IfSome result (λ _. first_word rest.now ≡ codes "segment0") }
 {

@@ -77,12 +77,12 @@ pub enum Failure {
 }
 
 impl Place {
-    /// The opening of a script's store.
+    /// Returns the opening of a script's store.
     pub fn start(way: Way) -> Place {
         Place { line: 0, way }
     }
 
-    /// The failure that something else came here than was expected.
+    /// Returns the failure that something else came here than was expected.
     pub fn differs(self, difference: Difference) -> Failure {
         Failure::At {
             place: self,

@@ -109,7 +109,7 @@ fn run_straight<D: Device + Drop>(alloc: Global, rows: &[ScriptLine]) -> Result<
     Ok(())
 }
 
-/// A new store, which has been opened once: that makes it, by other device calls than later openings.
+/// Returns a new store, which has been opened once: that makes it, by other device calls than later openings.
 fn new_store<D: Device + Drop>(alloc: Global, way: Way) -> Result<Store<D>, Failure> {
     let connection: Connection<D> = Connection::open(Store::new(alloc), Place::start(way))?;
     connection.stop()

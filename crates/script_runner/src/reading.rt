@@ -50,7 +50,7 @@ impl<T: Drop> From<AllocFailed<T>> for ReadFault {
     }
 }
 
-/// The bytes of a frame: its length, and its content.
+/// Returns the bytes of a frame: its length, and its content.
 fn frame_of(alloc: Global, content: &[u8]) -> Result<Vec<u8>, AllocError> {
     let mut frame = Vec::new(alloc);
     let length = u32::try_from(content.len()).unwrap_or(u32::MAX);
@@ -59,7 +59,7 @@ fn frame_of(alloc: Global, content: &[u8]) -> Result<Vec<u8>, AllocError> {
     Ok(frame)
 }
 
-/// The frame of a call. A numbered call is one attempt, and its frame says so.
+/// Returns the frame of a call. A numbered call is one attempt, and its frame says so.
 fn call_frame(alloc: Global, call: &Call) -> Result<Vec<u8>, AllocError> {
     let mut content = Vec::new(alloc);
     match call {
@@ -91,7 +91,7 @@ fn count_items(reply: &Reply) -> usize
     }
 }
 
-/// Whether a reply has few enough names, members or bytes of a message to be encoded.
+/// Returns true if a reply has few enough names, members or bytes of a message to be encoded.
 #[tactic(auto, using(crate::proofs::Lengths::short_reply))]
 fn is_short(reply: &Reply) -> bool
     ensures { IsTrue result → length (reply_encoding reply.now) < 2 ^ 32 }
@@ -99,7 +99,7 @@ fn is_short(reply: &Reply) -> bool
     count_items(reply) <= MAX_FRAME_CONTENT as usize
 }
 
-/// The frame of a reply, which has to be short enough.
+/// Returns the frame of a reply, which has to be short enough.
 fn reply_frame(alloc: Global, reply: &Reply, line: u32) -> Result<Vec<u8>, ReadFault> {
     if !is_short(reply) {
         return Err(ReadFault::Long { line });
@@ -109,7 +109,7 @@ fn reply_frame(alloc: Global, reply: &Reply, line: u32) -> Result<Vec<u8>, ReadF
     Ok(frame_of(alloc, &content)?)
 }
 
-/// The bytes that hexadecimal digits write, with any spaces between them.
+/// Returns the bytes that hexadecimal digits write, with any spaces between them.
 fn bytes_of(alloc: Global, text: &[u8], line: u32) -> Result<Vec<u8>, ReadFault> {
     let mut digits = Vec::new(alloc);
     for byte in text {
@@ -123,7 +123,7 @@ fn bytes_of(alloc: Global, text: &[u8], line: u32) -> Result<Vec<u8>, ReadFault>
     }
 }
 
-/// The call of a line and its answer.
+/// Returns the call of a line and its answer.
 fn exchange_of(alloc: Global, text: &[u8], line: u32) -> Result<Option<Exchange>, ReadFault> {
     match read_line(alloc, text) {
         Ok(exchange) => Ok(exchange),
@@ -131,7 +131,7 @@ fn exchange_of(alloc: Global, text: &[u8], line: u32) -> Result<Option<Exchange>
     }
 }
 
-/// The return code of a reply.
+/// Returns the return code of a reply.
 fn code_of(reply: &Reply) -> u32 {
     match reply {
         Reply::Plain(PlainReply::Refused { code, .. })
@@ -156,7 +156,7 @@ fn asking(alloc: Global, call: Call, wanted: Wanted, times: u32) -> Result<Scrip
     }
 }
 
-/// A call and its answer, as a step.
+/// Returns a call and its answer, as a step.
 fn call_step(alloc: Global, exchange: Exchange, line: u32) -> Result<ScriptStep, ReadFault> {
     let Exchange { call, reply } = exchange;
     let wanted = reply_frame(alloc, &reply, line);
@@ -206,7 +206,7 @@ fn repeat_step(
     Ok(Some(done_step(alloc, times, text, line)?))
 }
 
-/// A frame of these digits, and its answer.
+/// Returns a frame of these digits, and its answer.
 fn frame_step(
     alloc: Global,
     sent: &[u8],
@@ -265,7 +265,7 @@ fn add_lines(alloc: Global, rows: &mut Vec<ScriptLine>, text: &[u8]) -> Result<b
     Ok(is_straight)
 }
 
-/// The lines of a script.
+/// Returns the lines of a script.
 pub fn read_script(alloc: Global, text: &[u8]) -> Result<Script, ReadFault> {
     let mut rows = Vec::new(alloc);
     match add_lines(alloc, &mut rows, text) {

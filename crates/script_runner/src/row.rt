@@ -46,7 +46,7 @@ pub struct ScriptLine {
 }
 
 impl ScriptLine {
-    /// The row as a script is run.
+    /// Returns the row as a script is run.
     pub fn place(&self, way: Way) -> Place {
         Place {
             line: self.line,
@@ -63,7 +63,7 @@ pub struct Script {
     pub rows: Vec<ScriptLine>,
 }
 
-/// The return code in a reply's frame, after its length and the call's number.
+/// Returns the return code in a reply's frame, after its length and the call's number.
 pub fn code_of(frame: &[u8]) -> Option<u32>
     ensures found { IfSome result (HasCode frame.now) }
     ensures none { IfNone result (length frame.now < 12) }
@@ -74,7 +74,7 @@ pub fn code_of(frame: &[u8]) -> Option<u32>
     Some(code)
 }
 
-/// Whether a reply's frame is what it has to be.
+/// Returns true if a reply's frame is what it has to be.
 pub fn is_wanted(reply: &[u8], wanted: &Wanted) -> bool
     ensures wanted { IsTrue result → Meets wanted.now reply.now }
     ensures same { IsSame wanted.now reply.now → IsTrue result }

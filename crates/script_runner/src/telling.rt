@@ -7,7 +7,7 @@ use script_printing::{push_call, push_reply};
 use std::alloc::{AllocError, Global};
 use std::{io, str};
 
-/// The reply to a call that a frame is, if it is one.
+/// Returns the reply to a call that a frame is, if it is one.
 fn reply_of(alloc: Global, call: &Call, frame: &[u8]) -> Result<Option<Reply>, AllocError> {
     match frame {
         [_, _, _, _, content @ ..] => read_reply(alloc, call.number(), content),
@@ -15,7 +15,7 @@ fn reply_of(alloc: Global, call: &Call, frame: &[u8]) -> Result<Option<Reply>, A
     }
 }
 
-/// A call and its reply as the line of a script, or the bytes of the reply's frame.
+/// Returns a call and its reply as the line of a script, or the bytes of the reply's frame.
 fn exchange_text(
     alloc: Global,
     call: &Call,
@@ -31,7 +31,7 @@ fn exchange_text(
     }
 }
 
-/// A reply's frame as the line of a script, if it can be read as one, else its bytes.
+/// Returns a reply's frame as the line of a script, if it can be read as one, else its bytes.
 fn frame_encoding(alloc: Global, call: Option<&Call>, frame: &[u8]) -> Result<String, AllocError> {
     if let Some(call) = call
         && let Some(reply) = reply_of(alloc, call, frame)?
@@ -43,7 +43,7 @@ fn frame_encoding(alloc: Global, call: Option<&Call>, frame: &[u8]) -> Result<St
     hex::encode(alloc, frame)
 }
 
-/// The call of a line of a script, if it has one.
+/// Returns the call of a line of a script, if it has one.
 fn call_of(script: &Script, line: u32) -> Option<&Call> {
     for row in &script.rows {
         if row.line == line
@@ -55,7 +55,7 @@ fn call_of(script: &Script, line: u32) -> Option<&Call> {
     None
 }
 
-/// A line of a text, by its number from 1.
+/// Returns a line of a text, by its number from 1.
 fn line_of(text: &[u8], number: u32) -> &str {
     let mut line = 0_u32;
     for part in text.split(|byte| *byte == b'\n') {

@@ -34,7 +34,7 @@ pub enum Kind {
 const ALL_NAMED: [u32; 14] = [0, 1, 2, 3, 4, 16, 17, 18, 19, 20, 21, 69, 70, 72];
 
 impl Kind {
-    /// The word that stands for a number.
+    /// Returns the word that stands for a number.
     fn name_of(self, number: u32) -> Option<&'static [u8]>
         ensures { option_copied result ≡ name_of self number }
     {
@@ -47,7 +47,7 @@ impl Kind {
         }
     }
 
-    /// Whether a word stands for a number.
+    /// Returns true if a word stands for a number.
     fn is_name(self, number: u32, word: &[u8]) -> bool
         ensures { result ≡ is_name self word.now number }
     {
@@ -57,7 +57,7 @@ impl Kind {
         }
     }
 
-    /// The number that a word stands for.
+    /// Returns the number that a word stands for.
     fn number_named(self, word: &[u8]) -> Option<u32>
         ensures { result ≡ find (λ number. is_name self word.now number) all_named }
     {
@@ -67,7 +67,7 @@ impl Kind {
             .find(|number| self.is_name(*number, word))
     }
 
-    /// The number that a word stands for or writes out.
+    /// Returns the number that a word stands for or writes out.
     #[tactic(auto, unfolding(crate::specs::Kinds::read_word))]
     pub fn read_word(self, word: &[u8]) -> Option<u32>
         ensures { result ≡ read_word self word.now }
@@ -79,7 +79,7 @@ impl Kind {
         }
     }
 
-    /// A number that no word stands for.
+    /// Returns a number that no word stands for.
     fn number_text(self, alloc: Global, number: u32) -> Result<String, AllocError>
         ensures { IfOk result (λ text. string_bytes text ≡ number_text self number) }
     {
@@ -157,7 +157,7 @@ fn signed_text(alloc: Global, number: u32) -> Result<String, AllocError>
     format!(in alloc; "-{below}")
 }
 
-/// Adds a number as a word, with a space in front. If an allocation fails, some of it may have been added.
+/// Appends a number as a word, with a space in front. If an allocation fails, some of it may have been added.
 #[tactic(auto, unfolding(crate::specs::Kinds::value_word))]
 pub fn push_value(line: &mut Vec<u8>, kind: Kind, number: u32) -> Result<(), AllocError>
     ensures { OnOk result (line.new.items ≡ line.old.items ++ spaced (value_word kind number ∷ [])) }

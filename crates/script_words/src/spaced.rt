@@ -20,7 +20,7 @@ fn count_word_bytes(text: &[u8]) -> usize
         .count()
 }
 
-/// The first word of a text, and what stands after it. There is none in front of a `#` or the end.
+/// Returns the first word of a text, and what stands after it. There is none in front of a `#` or the end.
 pub fn take_word(text: &[u8]) -> Option<(&[u8], &[u8])>
     ensures { MatchOption result (words_of text.now ≡ []) (λ r. words_of text.now ≡ r.0.now ∷ words_of r.1.now) }
 {
@@ -33,7 +33,7 @@ pub fn take_word(text: &[u8]) -> Option<(&[u8], &[u8])>
     Some(text.split_at(count))
 }
 
-/// Adds a word, with a space in front. If an allocation fails, the space may have been added.
+/// Appends a word, with a space in front. If an allocation fails, the space may have been added.
 #[tactic(auto, using(crate::proofs::WordsOf::spaced_one))]
 pub fn push_spaced(line: &mut Vec<u8>, word: &[u8]) -> Result<(), AllocError>
     ensures { OnOk result (line.new.items ≡ line.old.items ++ spaced (word.now ∷ [])) }

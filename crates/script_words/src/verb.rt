@@ -59,7 +59,7 @@ const ALL_VERBS: [Verb; 23] = [
 ];
 
 impl Verb {
-    /// The word.
+    /// Returns the word.
     pub fn word(self) -> &'static [u8]
         ensures { result.now ≡ verb_word self }
     {
@@ -90,7 +90,7 @@ impl Verb {
         }
     }
 
-    /// The verb of a word.
+    /// Returns the verb of a word.
     pub fn of_word(word: &[u8]) -> Option<Verb>
         ensures { result ≡ find (λ verb. bytes_eq (verb_word verb) word.now) all_verbs }
     {

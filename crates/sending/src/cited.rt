@@ -10,7 +10,7 @@ use crate::reading::{read_items, read_message};
 use std::alloc::{AllocError, Global};
 use type_desc::Item;
 
-/// The names that a message cites: its destination's, its reply port's and those in its body, in this order.
+/// Returns the names that a message cites: its destination's, its reply port's and those in its body, in this order.
 ///
 /// `Refused`: because of its size or the items of its body, `send` refuses it whatever the names stand for. `NoMemory`:
 /// an allocation failed.
@@ -25,7 +25,7 @@ pub fn cited_names(alloc: Global, message: &[u8]) -> Result<Vec<u32>, SendFault>
     Ok(names)
 }
 
-/// Adds the names in items.
+/// Appends the names in items.
 fn push_names(items: &[Item<'_>], names: &mut Vec<u32>) -> Result<(), AllocError>
     ensures { OnOk result (names.new.items ≡ names.old.items ++ flat_map names_of_item (map item_value items.now)) }
 {
@@ -35,7 +35,7 @@ fn push_names(items: &[Item<'_>], names: &mut Vec<u32>) -> Result<(), AllocError
     Ok(())
 }
 
-/// Adds the names in an item.
+/// Appends the names in an item.
 fn push_names_of(item: &Item<'_>, names: &mut Vec<u32>) -> Result<(), AllocError>
     ensures { OnOk result (names.new.items ≡ names.old.items ++ names_of_item (item_value item.now)) }
 {

@@ -12,7 +12,7 @@ use rights::IpcState;
 use std::alloc::AllocError;
 use transit::would_circle;
 
-/// Whether the receive right of a port, if there is one, would travel in a cycle in this queue.
+/// Returns true if the receive right of a port, if there is one, would travel in a cycle in this queue.
 fn would_circle_with(state: &IpcState, queue: u64, port: PortInMessage) -> bool
     ensures { result ≡ elim (live_port port) as (λ _. Bool)
         [ None ↦ false | Some serial ↦ is_circular state.now.current serial queue ] }
@@ -23,7 +23,7 @@ fn would_circle_with(state: &IpcState, queue: u64, port: PortInMessage) -> bool
     }
 }
 
-/// Whether a right of a body is a receive right that would travel to its own queue.
+/// Returns true if a right of a body is a receive right that would travel to its own queue.
 fn goes_in_circle(state: &IpcState, queue: u64, right: CarriedRight) -> bool
     ensures { result ≡ goes_in_circle state.now.current queue right }
 {
@@ -33,7 +33,7 @@ fn goes_in_circle(state: &IpcState, queue: u64, right: CarriedRight) -> bool
     }
 }
 
-/// Whether a message with these rights would carry a receive right in a cycle.
+/// Returns true if a message with these rights would carry a receive right in a cycle.
 fn any_goes_in_circle(state: &IpcState, queue: u64, rights: &[CarriedRight]) -> bool
     ensures { result ≡ list_any (goes_in_circle state.now.current queue) rights.now }
 {

@@ -103,7 +103,7 @@ fn take_named_reply(
     Ok(Some(right))
 }
 
-/// Whether a disposition moves a right, and so consumes something of its name.
+/// Returns true if a disposition moves a right, and so consumes something of its name.
 fn consumes(disposition: Disposition) -> bool
     ensures { result ≡ sending.consumes disposition }
 {
@@ -113,7 +113,7 @@ fn consumes(disposition: Disposition) -> bool
     }
 }
 
-/// Whether the reply right is taken first: the destination moves a right and the reply doesn't.
+/// Returns true if the reply right is taken first: the destination moves a right and the reply doesn't.
 fn reply_goes_first(destination: Disposition, reply: Option<Disposition>) -> bool
     ensures { result ≡ sending.reply_goes_first destination reply }
 {

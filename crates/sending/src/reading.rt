@@ -13,7 +13,7 @@ use msg_header::{Header, parse};
 use std::alloc::Global;
 use type_desc::{Item, ItemFault, items};
 
-/// The header and the body of a message whose size is one that messages may have.
+/// Returns the header and the body of a message whose size is one that messages may have.
 pub(crate) fn read_message(message: &[u8]) -> Result<(Header, &[u8]), SendFault>
     ensures { Agrees (unless_failing (sending.tests_of_size (length message.now)) (Ok (used_parts message.now)))
         (λ parts found. parts ≡ parts_by found.0 found.1.now) result }
@@ -55,7 +55,7 @@ pub(crate) fn reply_disposition(number: u8, name: u32) -> Result<Option<Disposit
     Ok(Some(disposition))
 }
 
-/// The items of a body, if it is looked at: without `MACH_MSGH_BITS_COMPLEX` it isn't.
+/// Returns the items of a body, if it is looked at: without `MACH_MSGH_BITS_COMPLEX` it isn't.
 pub(crate) fn read_items(
     alloc: Global,
     complex: bool,

@@ -34,7 +34,8 @@ pub(crate) struct Read<'a> {
     pub(crate) body: &'a [u8],
 }
 
-/// A body as a queued message has it: if items were looked at, types of ports as received and 0 in their places.
+/// Returns a body as a queued message has it: if items were looked at, types of ports as received and 0 in their
+/// places.
 fn kept_body(
     alloc: Global,
     complex: bool,
@@ -53,7 +54,7 @@ fn kept_body(
     Ok(kept)
 }
 
-/// Whether an item holds ports.
+/// Returns true if an item holds ports.
 fn has_ports(items: &[Item<'_>]) -> bool
     ensures { result ≡ list_any is_port_item (map item_value items.now) }
 {
@@ -128,7 +129,7 @@ fn take_all(
     Ok((message, taken.port))
 }
 
-/// The message of what was read, unless it holds too many ports or has no destination.
+/// Returns the message of what was read, unless it holds too many ports or has no destination.
 fn ready_of_items(
     alloc: Global,
     state: &mut IpcState,
@@ -158,7 +159,7 @@ fn ready_of_items(
     take_all(alloc, state, space, read, named, effects)
 }
 
-/// The message of a header and a body.
+/// Returns the message of a header and a body.
 fn ready_by_header(
     alloc: Global,
     state: &mut IpcState,

@@ -34,7 +34,7 @@ pub(crate) fn take(
     }
 }
 
-/// The port of a right that is to be a destination; `MACH_PORT_NULL` and a dead name are refused.
+/// Returns the port of a right that is to be a destination; `MACH_PORT_NULL` and a dead name are refused.
 pub(crate) fn live_port(port: PortInMessage) -> Result<u64, SendFault>
     ensures { Agrees (or_refused KernReturn.SendInvalidDest (live_port port)) (λ serial found. found ≡ serial) result }
 {
@@ -58,14 +58,14 @@ pub(crate) fn passed(name: u32) -> Option<PortInMessage>
     }
 }
 
-/// Whether a name is `MACH_PORT_NULL` or `MACH_PORT_DEAD`.
+/// Returns true if a name is `MACH_PORT_NULL` or `MACH_PORT_DEAD`.
 pub(crate) fn is_null_or_dead(name: u32) -> bool
     ensures { result ≡ is_null_or_dead name }
 {
     name == MACH_PORT_NULL || name == MACH_PORT_DEAD
 }
 
-/// The kind of right that arrives by a disposition.
+/// Returns the kind of right that arrives by a disposition.
 pub(crate) fn received_kind(disposition: Disposition) -> RightKind
     ensures { result ≡ received_kind disposition }
 {

@@ -14,7 +14,7 @@ use std::net::Net;
 use std::os::unix::net::UnixStream;
 use wire::WireFault;
 
-/// The socket of `--script SOCKET`, if these are the words.
+/// Returns the socket of `--script SOCKET`, if these are the words.
 pub fn script_socket(words: Option<&[String]>) -> Option<&str>
     ensures found { IfSome result (λ socket. option_map (λ texts. map string_bytes texts.now) words.entry
         ≡ Some (codes "--script" ∷ socket.now ∷ [])) }
@@ -30,9 +30,9 @@ pub fn script_socket(words: Option<&[String]>) -> Option<&str>
     }
 }
 
-/// The whole shell, over the socket of a server. It returns the status to end with: 0 if all lines were read, none was
-/// wrong, and each answer was its line's; 1 if one was wrong or different; 1 with a line of errors after a fault, or if
-/// the socket can't be connected to.
+/// Returns the whole shell, over the socket of a server. It returns the status to end with: 0 if all lines were read,
+/// none was wrong, and each answer was its line's; 1 if one was wrong or different; 1 with a line of errors after a
+/// fault, or if the socket can't be connected to.
 pub fn run_shell<N: Net, I: BufRead, O: Write + Drop, E: Write>(
     alloc: Global,
     net: &N,
@@ -52,7 +52,7 @@ pub fn run_shell<N: Net, I: BufRead, O: Write + Drop, E: Write>(
     status_of(end)
 }
 
-/// The status to end with.
+/// Returns the status to end with.
 fn status_of(end: Result<bool, RelayEnd>) -> u8
     ensures { result ≡ status_of end }
 {

@@ -22,8 +22,8 @@ pub struct Turn {
     pub space: u32,
 }
 
-/// The next line of the input, with its end if it has one, or `None` at the end of the input. `NoMemory`: out of memory
-/// for it. `Device`: the reader failed within it, and it is lost.
+/// Returns the next line of the input, with its end if it has one, or `None` at the end of the input. `NoMemory`: out
+/// of memory for it. `Device`: the reader failed within it, and it is lost.
 fn next_line<I: BufRead>(alloc: Global, input: &mut I) -> Result<Option<Vec<u8>>, WireFault>
     ensures line { IfOk result (λ found. IfSome found
         (λ line. Consumes (I.remaining input.old) (I.remaining input.new) line.items)) }
@@ -38,7 +38,7 @@ fn next_line<I: BufRead>(alloc: Global, input: &mut I) -> Result<Option<Vec<u8>>
     }
 }
 
-/// The fault of a reader that fails in this way.
+/// Returns the fault of a reader that fails in this way.
 fn read_fault(kind: ErrorKind) -> WireFault {
     if kind == ErrorKind::OutOfMemory {
         WireFault::NoMemory
@@ -47,7 +47,7 @@ fn read_fault(kind: ErrorKind) -> WireFault {
     }
 }
 
-/// A line without its end.
+/// Returns a line without its end.
 fn without_end(line: &[u8]) -> &[u8]
     ensures { result.now ≡ strip_last 10 line.now }
 {
@@ -100,7 +100,7 @@ pub fn take_turn<O: Write + Drop, P: Read, S: Write + Drop>(
     })
 }
 
-/// Whether both hold.
+/// Returns true if both hold.
 fn both(a: bool, b: bool) -> bool
     ensures { result ≡ (a && b) }
 {

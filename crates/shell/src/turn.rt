@@ -44,7 +44,7 @@ pub struct Printed {
     pub space: u32,
 }
 
-/// The call that a line asks for.
+/// Returns the call that a line asks for.
 fn call_of(asked: &Asked) -> Option<&Call>
     ensures { MatchOption result (call_of asked.now ≡ None) (λ c. call_of asked.now ≡ Some c.now) }
 {
@@ -55,7 +55,7 @@ fn call_of(asked: &Asked) -> Option<&Call>
     }
 }
 
-/// The space that a task of this space is attached to after a call with this reply.
+/// Returns the space that a task of this space is attached to after a call with this reply.
 fn space_after(space: u32, call: &Call, reply: &Reply) -> u32
     ensures { result ≡ (if succeeded reply.now then attached_by space call.now else space) }
 {
@@ -66,7 +66,7 @@ fn space_after(space: u32, call: &Call, reply: &Reply) -> u32
     }
 }
 
-/// Adds the comment that another answer was expected, if it was.
+/// Appends the comment that another answer was expected, if it was.
 fn push_unless_same(
     text: &mut Vec<u8>,
     number: u64,
@@ -82,7 +82,7 @@ fn push_unless_same(
     push_difference(text, number, &exchange.call, &exchange.reply)
 }
 
-/// Adds the line of a call and its answer, and a comment if another was expected. Returns whether it is the expected
+/// Appends the line of a call and its answer, and a comment if another was expected. Returns whether it is the expected
 /// one.
 fn push_compared(
     alloc: Global,
@@ -101,8 +101,8 @@ fn push_compared(
     Ok(is_same)
 }
 
-/// Adds what is printed for a line whose call got this reply. Returns whether it is the answer that the line gives, if
-/// it gives one.
+/// Appends what is printed for a line whose call got this reply. Returns whether it is the answer that the line gives,
+/// if it gives one.
 fn push_said(
     alloc: Global,
     text: &mut Vec<u8>,
@@ -214,7 +214,7 @@ fn tell_wrong(
     })
 }
 
-/// The content of the frame that asks for a call.
+/// Returns the content of the frame that asks for a call.
 fn content_of(alloc: Global, call: &Call) -> Result<Vec<u8>, AllocError>
     ensures { IfOk result (λ content. content.items ≡ attempt_text call.now) }
 {
@@ -223,7 +223,7 @@ fn content_of(alloc: Global, call: &Call) -> Result<Vec<u8>, AllocError>
     Ok(content)
 }
 
-/// Whether a frame can have this many bytes of content.
+/// Returns true if a frame can have this many bytes of content.
 fn is_content_length(length: usize) -> bool
     ensures { result ≡ is_content_length length }
 {

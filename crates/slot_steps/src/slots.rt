@@ -16,7 +16,7 @@ pub const IMAGE_HEADER: usize = 24;
 /// How many bytes a segment slot has before its first batch: the gate, the version, six zero bytes and the epoch.
 pub const SEGMENT_HEADER: usize = 16;
 
-/// The slot of an epoch's image.
+/// Returns the slot of an epoch's image.
 pub fn image_slot(epoch: u64) -> Slot
     ensures { result ≡ slot_of_image epoch }
 {
@@ -27,7 +27,7 @@ pub fn image_slot(epoch: u64) -> Slot
     }
 }
 
-/// The slot of an epoch's segment.
+/// Returns the slot of an epoch's segment.
 pub fn segment_slot(epoch: u64) -> Slot
     ensures { result ≡ slot_of_segment epoch }
 {

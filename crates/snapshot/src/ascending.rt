@@ -7,7 +7,7 @@ use crate::{LivePort, NamedEntry, Space};
 pub trait Numbered {
     ghost number: { Self → ℕ };
 
-    /// Its number.
+    /// Returns its number.
     fn number(&self) -> u64
         ensures { result ≡ number self.now };
 }
@@ -42,7 +42,7 @@ impl Numbered for LivePort {
     }
 }
 
-/// Whether the numbers of rows ascend, beginning with at least this one.
+/// Returns true if the numbers of rows ascend, beginning with at least this one.
 pub fn ascends<T: Numbered>(rows: &[T], from: u64) -> bool
     ensures { IsTrue result ↔ AscendsFrom from (map T.number rows.now) }
 {

@@ -40,7 +40,7 @@ fn are_bytes(body: &[u8])
     let _ = body;
 }
 
-/// Whether a right for a reply isn't a receive right.
+/// Returns true if a right for a reply isn't a receive right.
 fn is_lawful_reply(reply: Option<CarriedRight>) -> bool
     ensures { IsTrue result ↔ LawfulReply reply }
 {
@@ -50,7 +50,7 @@ fn is_lawful_reply(reply: Option<CarriedRight>) -> bool
     }
 }
 
-/// Whether a message may have this body: of whole words, and small enough.
+/// Returns true if a message may have this body: of whole words, and small enough.
 fn has_size(body: &[u8]) -> bool
     ensures { IsTrue result ↔ (((header_length + length body.now) % 4 ≡ 0)
         × (header_length + length body.now ≤ MAX_MESSAGE_SIZE)) }
@@ -99,7 +99,8 @@ fn are_stored(items: &[Item<'_>]) -> bool
     items.iter().all(|item| is_stored(item))
 }
 
-/// Whether an item is as a queued message has it: a port item has a type as received, and 0 in each port's place.
+/// Returns true if an item is as a queued message has it: a port item has a type as received, and 0 in each port's
+/// place.
 fn is_stored(item: &Item<'_>) -> bool
     ensures { IsTrue result ↔ IsStoredItem (item_value item.now) }
 {
@@ -112,7 +113,7 @@ fn are_zeros(content: &[u8]) -> bool
     content.iter().all(|byte| *byte == 0)
 }
 
-/// Whether the rights are of the kinds that the items carry, in their order.
+/// Returns true if the rights are of the kinds that the items carry, in their order.
 fn have_kinds(items: &[Item<'_>], rights: &[CarriedRight]) -> bool
     ensures { IsTrue result ↔ HasKinds (map item_value items.now) (map carried_kind rights.now) }
 {
@@ -126,7 +127,7 @@ fn have_kinds(items: &[Item<'_>], rights: &[CarriedRight]) -> bool
     rest.is_empty()
 }
 
-/// The rights after those that an item carries, if they begin with these.
+/// Returns the rights after those that an item carries, if they begin with these.
 fn after_kinds<'a>(item: &Item<'_>, rights: &'a [CarriedRight]) -> Option<&'a [CarriedRight]>
     ensures { MatchOption result
         ((more : List Kind) → map carried_kind rights.now ≡ kinds_of_item (item_value item.now) ++ more → ⊥)
@@ -147,7 +148,7 @@ fn after_kinds<'a>(item: &Item<'_>, rights: &'a [CarriedRight]) -> Option<&'a [C
     }
 }
 
-/// The kind of right that a port item's type gives.
+/// Returns the kind of right that a port item's type gives.
 fn kind_of(type_name: u16) -> RightKind
     ensures { result ≡ kind_of_number type_name }
 {

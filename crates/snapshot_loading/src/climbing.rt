@@ -27,7 +27,7 @@ pub(crate) fn is_acyclic(alloc: Global, state: &IpcState) -> Result<bool, AllocE
     Ok(up.is_empty())
 }
 
-/// The hops from each live port whose receive right is in a queue to the queue's port.
+/// Returns the hops from each live port whose receive right is in a queue to the queue's port.
 fn hops(alloc: Global, state: &IpcState) -> Result<NumberMap<u64>, AllocError>
     ensures { IfOk result (λ up. (q : ℕ) → map.get up q ≡ up_of state.now.current q) }
 {
@@ -40,7 +40,7 @@ fn hops(alloc: Global, state: &IpcState) -> Result<NumberMap<u64>, AllocError>
     Ok(up)
 }
 
-/// Each pair of hops, one after the other, as one.
+/// Returns each pair of hops, one after the other, as one.
 fn doubled(
     alloc: Global,
     state: &IpcState,

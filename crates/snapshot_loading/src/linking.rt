@@ -10,7 +10,7 @@ use ipc_model::{CarriedRight, Entry, Message, PortInMessage, PortRights, RightKi
 use ipc_state::IpcState;
 use snapshot::{IpcSnapshot, LivePort, NamedEntry, Space};
 
-/// Whether the rows are linked.
+/// Returns true if the rows are linked.
 pub(crate) fn is_linked(state: &IpcState, snapshot: &IpcSnapshot) -> bool
     ensures { result ≡ is_linked (looks_of state.now.current) snapshot.now }
 {
@@ -57,7 +57,7 @@ fn are_linked_ports(state: &IpcState, rows: &[LivePort]) -> bool
     true
 }
 
-/// Whether what stands under a name of a space is linked.
+/// Returns true if what stands under a name of a space is linked.
 fn stands_well(state: &IpcState, space: u32, name: u32, entry: Entry) -> bool
     ensures { result ≡ stands_well (looks_of state.now.current) space name entry }
 {
@@ -92,7 +92,7 @@ fn is_live_target(state: &IpcState, target: Option<u64>) -> bool
     }
 }
 
-/// The set that a port is in.
+/// Returns the set that a port is in.
 fn set_of(state: &IpcState, serial: u64) -> Option<u32>
     ensures { result ≡ (looks_of state.now.current).set_of serial }
 {
@@ -102,7 +102,7 @@ fn set_of(state: &IpcState, serial: u64) -> Option<u32>
     }
 }
 
-/// Whether a set of this name, if one is named, is in the space.
+/// Returns true if a set of this name, if one is named, is in the space.
 fn has_set(state: &IpcState, space: u32, set: Option<u32>) -> bool
     ensures { result ≡ has_set (looks_of state.now.current) space set }
 {
@@ -121,7 +121,7 @@ fn is_set(entry: Option<Entry>) -> bool
     }
 }
 
-/// Whether what a port has is linked.
+/// Returns true if what a port has is linked.
 fn is_linked_port(state: &IpcState, row: &LivePort) -> bool
     ensures { result ≡ is_linked_row (looks_of state.now.current) row.now }
 {
@@ -186,7 +186,7 @@ fn is_live_place(state: &IpcState, port: PortInMessage) -> bool
     }
 }
 
-/// Whether the port of a receive right is in no set.
+/// Returns true if the port of a receive right is in no set.
 fn is_in_no_set(state: &IpcState, kind: RightKind, port: PortInMessage) -> bool
     ensures { result ≡ is_in_no_set (looks_of state.now.current) kind port }
 {

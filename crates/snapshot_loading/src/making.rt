@@ -59,7 +59,7 @@ fn verdict(outcome: Result<(), SnapshotFault>) -> Result<bool, AllocError>
     }
 }
 
-/// The running state of a snapshot, at rest.
+/// Returns the running state of a snapshot, at rest.
 pub fn restore(alloc: Global, snapshot: &IpcSnapshot) -> Result<IpcState, SnapshotFault>
     ensures same { IfOk result (λ state. snapshot.now ≡ ipc_snapshot_of state.current) }
     ensures rest { IfOk result (λ state. state ≡ at_rest state.current) }

@@ -18,7 +18,7 @@ pub(crate) fn are_received_once(alloc: Global, snapshot: &IpcSnapshot) -> Result
     Ok(are_serials(received.as_slice(), snapshot.ports.as_slice()))
 }
 
-/// Whether these are the serials of the ports.
+/// Returns true if these are the serials of the ports.
 fn are_serials(serials: &[u64], ports: &[LivePort]) -> bool
     ensures { IsTrue result ↔ (serials.now ≡ map serial_of ports.now) }
 {
@@ -37,7 +37,7 @@ fn are_serials(serials: &[u64], ports: &[LivePort]) -> bool
     left.is_empty()
 }
 
-/// The ports of all receive rights in the rows: those that stand under names, and those in queues.
+/// Returns the ports of all receive rights in the rows: those that stand under names, and those in queues.
 fn receivers(alloc: Global, snapshot: &IpcSnapshot) -> Result<Vec<u64>, AllocError>
     ensures { IfOk result (λ found. found.items ≡ receivers snapshot.now) }
 {

@@ -27,7 +27,7 @@ pub(crate) fn is_shaped(alloc: Global, snapshot: &IpcSnapshot) -> Result<bool, A
     are_shaped_ports(alloc, snapshot.next_serial, ports)
 }
 
-/// Whether the first space exists.
+/// Returns true if the first space exists.
 fn begins_first(spaces: &[Space]) -> bool
     ensures { IsTrue result ↔ BeginsFirst spaces.now }
 {
@@ -65,7 +65,7 @@ fn is_shaped_name(row: &NamedEntry) -> bool
     row.name < MACH_PORT_DEAD && is_lawful_entry(row.entry)
 }
 
-/// Whether a name may stand for this.
+/// Returns true if a name may stand for this.
 fn is_lawful_entry(entry: Entry) -> bool
     ensures { IsTrue result ↔ LawfulEntry entry }
 {
@@ -98,7 +98,7 @@ fn is_shaped_port(alloc: Global, next: u64, port: &LivePort) -> Result<bool, All
     is_lawful_port(alloc, &port.state)
 }
 
-/// Whether there are more messages than a word counts.
+/// Returns true if there are more messages than a word counts.
 fn is_long(messages: &[Message]) -> bool
     ensures { IsTrue result ↔ (length messages.now < 2 ^ 32 → ⊥) }
 {

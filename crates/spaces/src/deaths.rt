@@ -50,7 +50,7 @@ impl Spaces {
         let _ = &self.table;
     }
 
-    /// The first place from `from` on that has to do with a port.
+    /// Returns the first place from `from` on that has to do with a port.
     fn next_mention(&self, port: u64, from: u64) -> Option<u64>
         ensures { IsNextMention port self.now.current from result }
     {
@@ -100,7 +100,7 @@ fn notify_of(entry: Entry, port: u64, name: u32, effects: &mut Effects) -> Resul
     Ok(())
 }
 
-/// Whether a name stands for a right to a port.
+/// Returns true if a name stands for a right to a port.
 fn is_name_of(entry: Entry, port: u64) -> bool
     ensures { result ≡ is_name_of port entry }
 {
@@ -141,7 +141,7 @@ fn after_death(entry: Entry, port: u64) -> Entry
     }
 }
 
-/// A dead name with these references, and one more for a dead-name request.
+/// Returns a dead name with these references, and one more for a dead-name request.
 fn dead_name(references: u32, target: Option<u64>) -> Entry
     requires { references < 2 ^ 32 - 1 }
     ensures { result ≡ Dead (references + one_more_if target) }
@@ -155,7 +155,7 @@ fn dead_name(references: u32, target: Option<u64>) -> Entry
     }
 }
 
-/// The target of a request, unless it is this port.
+/// Returns the target of a request, unless it is this port.
 fn without_target(port: u64, target: Option<u64>) -> Option<u64>
     ensures { result ≡ without_target port target }
 {

@@ -24,7 +24,7 @@ pub(crate) struct NameIndexes {
 }
 
 impl NameIndexes {
-    /// Empty indexes. It takes no memory.
+    /// Empty indexes. It allocates nothing.
     pub(crate) fn new(alloc: Global) -> Self
         ensures held { result.sharers ≡ at_rest map.empty }
         ensures requested { result.requesters ≡ at_rest map.empty }
@@ -64,7 +64,7 @@ impl NameIndexes {
         Ok(())
     }
 
-    /// Commits the changes. It takes no memory.
+    /// Commits the changes. It allocates nothing.
     pub(crate) fn commit(&mut self)
         ensures { AreCommitted self.old self.new }
     {
@@ -75,7 +75,7 @@ impl NameIndexes {
         self.changed.clear();
     }
 
-    /// Rolls the changes back. It takes no memory.
+    /// Rolls the changes back. It allocates nothing.
     pub(crate) fn roll_back(&mut self)
         ensures { AreRolledBack self.old self.new }
     {
@@ -87,7 +87,7 @@ impl NameIndexes {
     }
 }
 
-/// The port that a name stands for a right to, unless it holds the receive right.
+/// Returns the port that a name stands for a right to, unless it holds the receive right.
 fn shared_of(entry: Option<Entry>) -> Option<u64>
     ensures { result ≡ option_and_then port_shared entry }
 {
@@ -98,7 +98,7 @@ fn shared_of(entry: Option<Entry>) -> Option<u64>
     }
 }
 
-/// The target of a name's dead-name request.
+/// Returns the target of a name's dead-name request.
 pub(crate) fn target_of(entry: Option<Entry>) -> Option<u64>
     ensures { result ≡ option_and_then request_of entry }
 {
@@ -114,7 +114,7 @@ pub(crate) fn target_of(entry: Option<Entry>) -> Option<u64>
     }
 }
 
-/// The port whose receive right a name holds.
+/// Returns the port whose receive right a name holds.
 fn received_of(entry: Option<Entry>) -> Option<u64>
     ensures { result ≡ option_and_then received_port entry }
 {

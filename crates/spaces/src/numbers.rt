@@ -15,7 +15,7 @@ pub(crate) struct Numbers {
 }
 
 impl Numbers {
-    /// The numbers when there are no spaces.
+    /// Returns the numbers when there are no spaces.
     pub(crate) fn new() -> Self
         ensures { AreTaken result map.empty }
     {
@@ -61,7 +61,7 @@ impl Numbers {
         self.words[at] = without_bit(self.words[at], place % 64);
     }
 
-    /// The first free place, or how many places there are.
+    /// Returns the first free place, or how many places there are.
     pub(crate) fn first_free(&self) -> u32
         ensures { IsFirstFree self.now result }
     {
@@ -76,7 +76,7 @@ impl Numbers {
     }
 }
 
-/// The place of a number, if it has one.
+/// Returns the place of a number, if it has one.
 fn place_of(number: u32) -> Option<u32>
     ensures { MatchOption result ((k : ℕ) → k < 256 → number ≡ k + 1 → ⊥)
         (λ place. (place < 256) × (number ≡ place + 1)) }
@@ -88,7 +88,7 @@ fn place_of(number: u32) -> Option<u32>
     }
 }
 
-/// The first bit of a word that isn't set, if there is one.
+/// Returns the first bit of a word that isn't set, if there is one.
 fn first_clear(word: u64) -> Option<u32>
     ensures { MatchOption result ((i : ℕ) → i < 64 → bit_at word i ≡ 1)
         (λ bit. (bit < 64) × (bit_at word bit ≡ 0) × ((i : ℕ) → i < bit → bit_at word i ≡ 1)) }
@@ -100,7 +100,7 @@ fn first_clear(word: u64) -> Option<u32>
     }
 }
 
-/// A word with one bit set.
+/// Returns a word with one bit set.
 fn with_bit(word: u64, bit: u32) -> u64
     requires { bit < 64 }
     ensures set { bit_at result bit ≡ 1 }
@@ -109,7 +109,7 @@ fn with_bit(word: u64, bit: u32) -> u64
     word | (1 << bit)
 }
 
-/// A word with one bit cleared.
+/// Returns a word with one bit cleared.
 fn without_bit(word: u64, bit: u32) -> u64
     requires { bit < 64 }
     ensures clear { bit_at result bit ≡ 0 }

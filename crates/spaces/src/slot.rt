@@ -38,7 +38,7 @@ impl Model for Space {
 }
 
 impl Space {
-    /// A slot without a space. It takes no memory.
+    /// Returns a slot without a space. It allocates nothing.
     pub(crate) fn new(alloc: Global) -> Self
         ensures { result ≡ slot_at_rest None }
     {
@@ -49,21 +49,21 @@ impl Space {
         }
     }
 
-    /// The names of the space, if it exists.
+    /// Returns the names of the space, if it exists.
     pub(crate) fn names(&self) -> Option<&PortSpace>
         ensures { option_map (λ names. names.current) (option_copied result) ≡ self.now.current }
     {
         self.is_there.then_some(&self.names)
     }
 
-    /// Whether the space exists.
+    /// Returns true if the space exists.
     pub(crate) fn is_there(&self) -> bool
         ensures { result ≡ is_some self.now.current }
     {
         self.is_there
     }
 
-    /// Whether the space existed before.
+    /// Returns true if the space existed before.
     pub(crate) fn was_there(&self) -> bool
         ensures { result ≡ is_some self.now.before }
     {
@@ -131,7 +131,7 @@ impl Space {
         }
     }
 
-    /// Commits the changes. It takes no memory.
+    /// Commits the changes. It allocates nothing.
     pub(crate) fn commit(&mut self)
         ensures { self.new ≡ slot_at_rest self.old.current }
     {
@@ -139,7 +139,7 @@ impl Space {
         self.was_there = self.is_there;
     }
 
-    /// Rolls the changes back. It takes no memory.
+    /// Rolls the changes back. It allocates nothing.
     pub(crate) fn roll_back(&mut self)
         ensures { self.new ≡ slot_at_rest self.old.before }
     {

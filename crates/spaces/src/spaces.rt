@@ -48,7 +48,7 @@ impl Model for Spaces {
 }
 
 impl Spaces {
-    /// No spaces. It takes no memory.
+    /// No spaces. It allocates nothing.
     pub fn new(alloc: Global) -> Self
         ensures { result ≡ spaces_at_rest map.empty }
     {
@@ -65,14 +65,14 @@ impl Spaces {
         self.table.len()
     }
 
-    /// Whether a space exists.
+    /// Returns true if a space exists.
     pub fn contains(&self, space: u32) -> bool
         ensures { result ≡ is_some (map.get self.now.current space) }
     {
         self.table.contains(space)
     }
 
-    /// The least number that no space has. There is one while there are fewer spaces than allowed.
+    /// Returns the least number that no space has. There is one while there are fewer spaces than allowed.
     pub fn free_number(&self) -> u32
         requires room { map.len self.now.current < MAX_SPACES }
         ensures { IsFreeNumber self.now.current result }
@@ -175,28 +175,28 @@ impl Spaces {
         }
     }
 
-    /// The first place from `from` on whose name stands for a right to a port.
+    /// Returns the first place from `from` on whose name stands for a right to a port.
     pub fn next_holder(&self, port: u64, from: u64) -> Option<u64>
         ensures { IsNextAt port_named self.now.current port from result }
     {
         lesser(self.next_sharer(port, from), self.next_receiver(port, from))
     }
 
-    /// The first place from `from` on whose name stands for a right to a port other than the receive right.
+    /// Returns the first place from `from` on whose name stands for a right to a port other than the receive right.
     fn next_sharer(&self, port: u64, from: u64) -> Option<u64>
         ensures { IsNextAt port_shared self.now.current port from result }
     {
         self.indexes.sharers.next(port, from)
     }
 
-    /// The first place from `from` on whose name's dead-name request has a port for its target.
+    /// Returns the first place from `from` on whose name's dead-name request has a port for its target.
     pub fn next_requester(&self, port: u64, from: u64) -> Option<u64>
         ensures { IsNextAt request_of self.now.current port from result }
     {
         self.indexes.requesters.next(port, from)
     }
 
-    /// The first place from `from` on whose name holds the receive right of a port.
+    /// Returns the first place from `from` on whose name holds the receive right of a port.
     pub fn next_receiver(&self, port: u64, from: u64) -> Option<u64>
         ensures { IsNextAt received_port self.now.current port from result }
     {
@@ -221,8 +221,8 @@ impl Spaces {
         self.indexes.counts.send_onces(port)
     }
 
-    /// The places of the names that may have changed since the last commit or rollback. Every other name stands for
-    /// what it stood for then.
+    /// Returns the places of the names that may have changed since the last commit or rollback. Every other name stands
+    /// for what it stood for then.
     pub fn changed_places(&self) -> &[u64]
         ensures noted { AreNoted self.now.before self.now.current result.now }
         ensures small { AreSmall self.now.before × AreSmall self.now.current }
@@ -230,7 +230,7 @@ impl Spaces {
         self.indexes.changed.as_slice()
     }
 
-    /// Commits the changes. It takes no memory.
+    /// Commits the changes. It allocates nothing.
     pub fn commit(&mut self)
         ensures { self.new ≡ spaces_at_rest self.old.current }
     {
@@ -238,7 +238,7 @@ impl Spaces {
         self.indexes.commit();
     }
 
-    /// Rolls the changes back. It takes no memory.
+    /// Rolls the changes back. It allocates nothing.
     pub fn roll_back(&mut self)
         ensures { self.new ≡ spaces_at_rest self.old.before }
     {
@@ -247,7 +247,7 @@ impl Spaces {
     }
 }
 
-/// The lesser of two numbers, if there are two; else the one that there is.
+/// Returns the lesser of two numbers, if there are two; else the one that there is.
 fn lesser(one: Option<u64>, other: Option<u64>) -> Option<u64>
     ensures { result ≡ lesser one other }
 {
@@ -258,7 +258,7 @@ fn lesser(one: Option<u64>, other: Option<u64>) -> Option<u64>
     }
 }
 
-/// The number of a name in a space.
+/// Returns the number of a name in a space.
 fn place(space: u32, name: u32) -> u64
     ensures { result ≡ place space name }
 {

@@ -51,7 +51,7 @@ impl Model for SpaceTable {
 }
 
 impl SpaceTable {
-    /// No spaces. It takes no memory.
+    /// No spaces. It allocates nothing.
     pub fn new(alloc: Global) -> Self
         ensures { result ≡ spaces_at_rest map.empty }
     {
@@ -73,14 +73,14 @@ impl SpaceTable {
         self.count
     }
 
-    /// Whether a space exists.
+    /// Returns true if a space exists.
     pub fn contains(&self, space: u32) -> bool
         ensures { result ≡ is_some (map.get self.now.current space) }
     {
         self.names(space).is_some()
     }
 
-    /// The names of a space, if it exists.
+    /// Returns the names of a space, if it exists.
     pub fn names(&self, space: u32) -> Option<&PortSpace>
         ensures { option_map (λ names. names.current) (option_copied result) ≡ map.get self.now.current space }
     {
@@ -90,7 +90,7 @@ impl SpaceTable {
         }
     }
 
-    /// The least number that no space has. There is one while there are fewer spaces than allowed.
+    /// Returns the least number that no space has. There is one while there are fewer spaces than allowed.
     pub fn free_number(&self) -> u32
         requires room { map.len self.now.current < MAX_SPACES }
         ensures { IsFreeNumber self.now.current result }
@@ -205,7 +205,7 @@ impl SpaceTable {
         Ok(())
     }
 
-    /// Commits the changes. It takes no memory.
+    /// Commits the changes. It allocates nothing.
     pub fn commit(&mut self)
         ensures { self.new ≡ spaces_at_rest self.old.current }
     {
@@ -215,7 +215,7 @@ impl SpaceTable {
         self.numbers_before = self.numbers;
     }
 
-    /// Rolls the changes back. It takes no memory.
+    /// Rolls the changes back. It allocates nothing.
     pub fn roll_back(&mut self)
         ensures { self.new ≡ spaces_at_rest self.old.before }
     {

@@ -68,7 +68,7 @@ fn try_copy<S: LiveSlots>(
     }
 }
 
-/// A copy, read into a buffer piece by piece, and tried up to `MOST_TRIES` times.
+/// Returns a copy, read into a buffer piece by piece, and tried up to `MOST_TRIES` times.
 fn copy_by<S: LiveSlots>(
     alloc: Global,
     live: &mut S,

@@ -20,7 +20,7 @@ pub(crate) struct Fronts {
 }
 
 impl Fronts {
-    /// Whether these are the same fronts.
+    /// Returns true if these are the same fronts.
     pub(crate) fn are(&self, others: &Fronts) -> bool
         ensures { IsTrue result ↔ (front_slots self.now ≡ front_slots others.now) }
     {
@@ -31,7 +31,7 @@ impl Fronts {
     }
 }
 
-/// The front of a slot: `size` bytes, or as many as there are.
+/// Returns the front of a slot: `size` bytes, or as many as there are.
 fn read_front<S: LiveSlots>(
     alloc: Global,
     live: &mut S,
@@ -50,7 +50,7 @@ fn read_front<S: LiveSlots>(
     Ok(front[..count].to_vec(alloc)?)
 }
 
-/// The fronts of the four slots.
+/// Returns the fronts of the four slots.
 pub(crate) fn read_fronts<S: LiveSlots>(alloc: Global, live: &mut S) -> Result<Fronts, CopyFault>
     ensures fronts { S.honest → IfOk result
         (λ fronts. FrontsRead S.later S.slots (S.now live.old) (S.now live.new) (front_slots fronts)) }

@@ -31,7 +31,7 @@ fn read_on<S: LiveSlots>(
     Ok(count)
 }
 
-/// All bytes of a slot, read into a buffer piece by piece.
+/// Returns all bytes of a slot, read into a buffer piece by piece.
 ///
 /// It reads until a read returns nothing, and not up to the slot's length: a server that appends to a segment writes a
 /// whole batch before it opens its gate. So if a gate was read open, what stands after it is there for the next read,

@@ -49,7 +49,7 @@ impl StillDisk {
         }
     }
 
-    /// The fronts of the slots.
+    /// Returns the fronts of the slots.
     pub(crate) fn fronts(&self, alloc: Global) -> Result<Fronts, AllocError>
         ensures { IfOk result (λ fronts. front_slots fronts ≡ fronts_of (still_slots self.now)) }
     {
@@ -70,7 +70,7 @@ impl StillDisk {
     }
 }
 
-/// The front of these bytes: `size` of them, or as many as there are.
+/// Returns the front of these bytes: `size` of them, or as many as there are.
 fn front_of(alloc: Global, bytes: &[u8], size: usize) -> Result<Vec<u8>, AllocError>
     ensures { IfOk result (λ front. front.items ≡ take size bytes.now) }
 {

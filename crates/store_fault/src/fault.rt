@@ -23,14 +23,14 @@ pub enum StoreFault {
 }
 
 impl StoreFault {
-    /// The fault's number.
+    /// Returns the fault's number.
     pub fn number(self) -> u8
         ensures { result ≡ fault_number self }
     {
         self as u8
     }
 
-    /// The fault as a line of errors, after the name of a program: its kind, its number and its text.
+    /// Returns the fault as a line of errors, after the name of a program: its kind, its number and its text.
     pub fn line(self) -> &'static str
         ensures { result.now ≡ fault_line self }
     {

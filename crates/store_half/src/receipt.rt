@@ -31,7 +31,7 @@ impl Receipt {
         self.taken.count()
     }
 
-    /// An empty batch, with the room of the one that was stored.
+    /// Returns an empty batch, with the room of the one that was stored.
     pub fn into_empty(self) -> Batch
         ensures { result ≡ empty_batch }
     {
@@ -60,7 +60,7 @@ impl Model for Finished {
 }
 
 impl Finished {
-    /// The epoch that began with the image.
+    /// Returns the epoch that began with the image.
     pub fn epoch(&self) -> u64
         ensures { result ≡ self.now }
     {

@@ -68,7 +68,7 @@ impl<D: Disk> StoreHalf<D> {
         }
     }
 
-    /// The disk of the store.
+    /// Returns the disk of the store.
     pub fn into_disk(self) -> D
         ensures { result ≡ self.disk }
     {
@@ -81,14 +81,14 @@ impl<D: Disk> StoreHalf<D> {
         disk
     }
 
-    /// Whether the device failed; then the store has to be opened again.
+    /// Returns true if the device failed; then the store has to be opened again.
     pub fn has_failed(&self) -> bool
         ensures { result ≡ self.now.failed }
     {
         self.failed
     }
 
-    /// The epoch whose batches are stored now.
+    /// Returns the epoch whose batches are stored now.
     pub fn epoch(&self) -> u64
         ensures { result ≡ self.now.segment.epoch }
     {
@@ -102,7 +102,7 @@ impl<D: Disk> StoreHalf<D> {
         self.segment.records
     }
 
-    /// Whether a checkpoint is under way.
+    /// Returns true if a checkpoint is under way.
     pub fn is_checkpointing(&self) -> bool
         ensures { result ≡ is_some self.now.checkpoint }
     {
@@ -110,7 +110,7 @@ impl<D: Disk> StoreHalf<D> {
     }
 
     /// Stores a batch of the epoch in use, which an epoch log gave out: all of it or nothing. At `Ok` it is on the
-    /// disk. It takes no memory. At a fault the batch comes back.
+    /// disk. It allocates nothing. At a fault the batch comes back.
     ///
     /// `Failed`: the device failed in an earlier call; the store has to be opened again. `Full`: the segment would hold
     /// more than `MAX_RECORDS` records; nothing changed. `Device`: the device failed, and whether the batch is stored
@@ -186,7 +186,7 @@ impl<D: Disk> StoreHalf<D> {
         !self.is_checkpointing() && self.segment.epoch < u64::MAX
     }
 
-    /// Begins a checkpoint with the state at the end of the epoch in use. It takes no memory.
+    /// Begins a checkpoint with the state at the end of the epoch in use. It allocates nothing.
     pub fn begin(&mut self, cut: Cut)
         requires none { self.old.checkpoint ≡ None }
         requires next { cut.epoch ≡ self.old.segment.epoch + 1 }

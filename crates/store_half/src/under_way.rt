@@ -26,7 +26,7 @@ impl Model for Cut {
 }
 
 impl Cut {
-    /// The epoch that begins with this state, if the log of the epoch before has `log` records.
+    /// Returns the epoch that begins with this state, if the log of the epoch before has `log` records.
     pub fn new(snapshot: Snapshot, epoch: u64, log: u64) -> Self
         ensures { result ≡ record { epoch = epoch; log = log; encoding = snapshot_encoding snapshot } }
     {
@@ -73,7 +73,7 @@ impl Model for Checkpoint {
 }
 
 impl Checkpoint {
-    /// A checkpoint with no step done.
+    /// Returns a checkpoint with no step done.
     pub(crate) fn new(cut: Cut) -> Self
         ensures { result ≡ begun cut }
     {

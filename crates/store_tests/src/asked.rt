@@ -28,7 +28,7 @@ pub(crate) enum Asked {
 }
 
 impl Asked {
-    /// The call itself.
+    /// Returns the call itself.
     pub(crate) fn call(self) -> Call {
         match self {
             Asked::Allocate(right) => Call::Plain(PlainCall::Allocate { right }),

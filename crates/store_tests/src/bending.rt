@@ -39,7 +39,7 @@ pub(crate) enum Bend {
     Length(usize),
 }
 
-/// A slot of this version and epoch, with a name of its own.
+/// Returns a slot of this version and epoch, with a name of its own.
 pub(crate) fn whole_slot(
     alloc: Global,
     slot: Slot,
@@ -120,8 +120,8 @@ pub(crate) fn reopened<S: Store + Drop>(alloc: Global, disk: S) -> (Found, S) {
     (found, disk)
 }
 
-// Whether an opening left all slots as they were if it refused the store; and else those with the other number than the
-// epoch's, and left the epoch's image open.
+// Returns true if an opening left all slots as they were if it refused the store; and else those with the other number
+// than the epoch's, and left the epoch's image open.
 fn is_left<S: Store>(found: Found, disk: &S, before: &[Vec<u8>; 4]) -> bool {
     let [image0, image1, segment0, segment1] = keeps(disk, before);
     match found {

@@ -45,7 +45,7 @@ static UNRECORDED: [Row; 3] = [
     (2, Asked::Type(0x100), [2, 16, 0, 0]),
 ];
 
-/// The answer to a call, and the same in place.
+/// Returns the answer to a call, and the same in place.
 fn both_answers<M: Machine>(
     machine: &mut M,
     space: u32,
@@ -60,7 +60,7 @@ fn both_answers<M: Machine>(
     answers
 }
 
-/// Whether each of these calls gets this answer, in place too, and one that has a record doesn't.
+/// Returns true if each of these calls gets this answer, in place too, and one that has a record doesn't.
 fn answers_so<M: Machine>(machine: &mut M) -> bool {
     for (space, asked, words) in &UNRECORDED {
         if both_answers(machine, *space, *asked) != [Some(Some(*words)); 2] {
@@ -144,7 +144,7 @@ fn there_are_16384_ports(rt: HostRuntime) {
     same(&rt, seen, Some((true, Some(()), true)));
 }
 
-/// The code of a receive.
+/// Returns the code of a receive.
 fn code_of_receive<M: Machine>(machine: &mut M, name: u32, waited: bool) -> Option<u32> {
     let [code, ..] = ask(machine, 1, Asked::Receive(name, waited))?;
     Some(code)

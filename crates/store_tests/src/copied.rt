@@ -47,7 +47,7 @@ fn make_calls<M: Machine>(alloc: Global, machine: &mut M) -> Option<Words> {
     ask(machine, 1, DEATH)
 }
 
-/// A copy of the state after these calls.
+/// Returns a copy of the state after these calls.
 fn copy_after_calls<M: Machine + Drop>(alloc: Global) -> Option<Snapshot> {
     let mut machine = M::opened(alloc)?;
     make_calls(alloc, &mut machine)?;
@@ -62,7 +62,7 @@ fn name_at(names: &[NamedEntry], index: usize) -> NameSeen {
     Some((named.name, named.entry))
 }
 
-/// The names of the only space, up to the sixth.
+/// Returns the names of the only space, up to the sixth.
 fn names_of(copy: &Snapshot) -> [NameSeen; 6] {
     let [space] = copy.ipc.spaces.as_slice() else {
         return [None; 6];
@@ -91,14 +91,14 @@ fn port_of(copy: &Snapshot, index: usize) -> PortSeen {
     ))
 }
 
-/// The rights of the first port's oldest message: that for the reply, and the first of its body.
+/// Returns the rights of the first port's oldest message: that for the reply, and the first of its body.
 fn rights_of(copy: &Snapshot) -> Option<[Option<CarriedRight>; 2]> {
     let port = copy.ipc.ports.as_slice().first()?;
     let message = port.state.messages.as_slice().first()?;
     Some([message.reply, message.rights.as_slice().first().copied()])
 }
 
-/// A copy of the machine that is made from that copy.
+/// Returns a copy of the machine that is made from that copy.
 fn copied_again<M: Machine + Drop>(alloc: Global) -> Option<Snapshot> {
     let machine = M::of_copy(alloc, copy_after_calls::<M>(alloc)?)?;
     let copy = machine.copied(alloc);

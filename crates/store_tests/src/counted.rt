@@ -26,7 +26,7 @@ impl Syncs {
         }
     }
 
-    /// The counts of files and of the folder.
+    /// Returns the counts of files and of the folder.
     pub(crate) fn counts(&self) -> (u32, u32) {
         (self.files.get(), self.folder.get())
     }
@@ -147,7 +147,7 @@ impl<'a> Files for CountedFiles<'a> {
         self.files.remove_dir_all(alloc, path)
     }
 
-    // The rest could be left out, but what stands in its place then is more expensive to prove.
+    // Returns the rest could be left out, but what stands in its place then is more expensive to prove.
 
     fn canonicalize<B: Allocator>(&self, alloc: B, path: &str) -> io::Result<PathBuf<B>> {
         self.files.canonicalize(alloc, path)

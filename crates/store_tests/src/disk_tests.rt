@@ -7,7 +7,7 @@ use std::{env, fs};
 
 // The functions that make one call of a disk have no clause, so that a test's proof carries nothing of it.
 
-// Whether these bytes are read from a slot.
+// Returns true if these bytes are read from a slot.
 fn is_read<D: Disk>(disk: &mut D, slot: Slot, wanted: &[u8]) -> bool {
     let mut buffer = [0; 64];
     match disk.read(slot, 0, &mut buffer) {
@@ -20,7 +20,7 @@ fn read<D: Disk>(disk: &mut D, at: u64, buffer: &mut [u8]) -> Result<usize, Disk
     disk.read(Slot::Image1, at, buffer)
 }
 
-// A write has to begin within the slot.
+// Returns a write has to begin within the slot.
 fn write<D: Disk>(
     disk: &mut D,
     slot: Slot,
@@ -33,7 +33,7 @@ fn write<D: Disk>(
     Some(disk.write_at(slot, at, bytes))
 }
 
-// A slot can only be truncated to less.
+// Returns a slot can only be truncated to less.
 fn cut<D: Disk>(disk: &mut D, slot: Slot, length: u64) -> Option<Result<(), DiskFault>> {
     if length > disk.length(slot) {
         return None;
@@ -45,7 +45,7 @@ fn sync<D: Disk>(disk: &mut D, slot: Slot) -> Result<(), DiskFault> {
     disk.sync(slot)
 }
 
-// The length of a slot, and how many calls have failed.
+// Returns the length of a slot, and how many calls have failed.
 fn counts<D: Disk>(disk: &D, slot: Slot) -> (u64, u64) {
     (disk.length(slot), disk.failures())
 }
@@ -160,8 +160,8 @@ static BEGUN: [DeviceStep; 5] = [
     DeviceStep::Sync(Slot::Segment0),
 ];
 
-// A disk with these, and a write that failed: its sixth call. That they were done shows in what it holds and counts
-// then.
+// Returns a disk with these, and a write that failed: its sixth call. That they were done shows in what it holds and
+// counts then.
 fn begun<S: Store + Drop>(alloc: Global, torn: Torn) -> Option<S> {
     let mut disk = S::holding(alloc, [b"abc", b"abcdef", b"", b"m"])?;
     disk.plan_faults(None, Some(6), torn);
@@ -386,19 +386,19 @@ fn read_and_sync_all<F: Folder>(folder: &F) -> Option<[Empty; 4]> {
     ])
 }
 
-// The fault of files at a path.
+// Returns the fault of files at a path.
 fn fault_at(rt: HostRuntime, path: &str) -> Option<DiskFault> {
     Plain { rt, path }.files().err()
 }
 
-// The faults of files in a folder that doesn't exist, and in a file.
+// Returns the faults of files in a folder that doesn't exist, and in a file.
 fn faults_in_file(rt: HostRuntime, path: &str) -> Option<[Option<DiskFault>; 2]> {
     let absent = fault_at(rt, path);
     fs::write(&rt, path, b"a".as_slice()).ok()?;
     Some([absent, fault_at(rt, path)])
 }
 
-// The fault of files of which one is a folder.
+// Returns the fault of files of which one is a folder.
 fn fault_of_slot(rt: HostRuntime, folder: &str, slot: &str) -> Option<Option<DiskFault>> {
     fs::create_dir(&rt, slot).ok()?;
     Some(fault_at(rt, folder))
@@ -437,7 +437,7 @@ fn what_is_no_folder_or_no_file_is_refused(rt: HostRuntime) {
 // Whether what comes before was done, what two calls answer then, and how many have failed after them.
 type Failed = (Option<()>, [Option<Result<(), DiskFault>>; 2], u64);
 
-// A write and a truncation on files whose folder is removed.
+// Returns a write and a truncation on files whose folder is removed.
 fn write_in_removed<F: Folder>(rt: &HostRuntime, folder: &F, path: &str) -> Option<Failed> {
     let mut disk = folder.files().ok()?;
     let removed = remove_empty(rt, path);
@@ -484,7 +484,7 @@ fn files_are_read_written_and_synced(rt: HostRuntime) {
     same(&rt, seen_on_files(rt), Some(wanted));
 }
 
-// The files of a folder, whose syncs are counted.
+// Returns the files of a folder, whose syncs are counted.
 fn counted_at<'a>(files: &'a HostRuntime, folder: &'a str, syncs: &'a Syncs) -> CountedFiles<'a> {
     CountedFiles {
         files,

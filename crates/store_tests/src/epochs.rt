@@ -11,7 +11,7 @@ use slot_steps::segment_slot;
 use std::alloc::{AllocError, Global};
 use store_fault::StoreFault;
 
-// An epoch's segment. Its slot isn't empty once it is closed.
+// Returns an epoch's segment. Its slot isn't empty once it is closed.
 fn next_segment<D: Disk>(disk: &mut D, epoch: u64) -> Result<Segment, StoreFault> {
     roll_close(disk, epoch)?;
     if disk.length(segment_slot(epoch)) == 0 {
@@ -31,7 +31,7 @@ fn roll<D: Disk>(
     next_segment(disk, segment.epoch.saturating_add(1))
 }
 
-// A new store whose segment has a record, and that has the next epoch's segment, but not its image.
+// Returns a new store whose segment has a record, and that has the next epoch's segment, but not its image.
 fn rolled<S: Store + Drop>(alloc: Global) -> Option<(S, Segment)> {
     let (mut disk, mut segment) = S::empty(alloc).go_on(alloc)?;
     let next = roll(alloc, &mut segment, &mut disk).ok()?;
@@ -71,8 +71,8 @@ fn checkpoints_are_finished(rt: HostRuntime) {
     same(&rt, reported, Some((Ok((0, 2)), found, Ok((1, 1)))));
 }
 
-// The slots of an epoch and of the next one, each whole: the image of the first has no name, its segment allocates
-// 0x100, and with that name the next epoch begins, whose segment has this content.
+// Returns the slots of an epoch and of the next one, each whole: the image of the first has no name, its segment
+// allocates 0x100, and with that name the next epoch begins, whose segment has this content.
 fn in_epochs(
     alloc: Global,
     first: u64,
@@ -124,7 +124,7 @@ fn appended<S: Store + Drop>(alloc: Global, disk: S) -> Option<S> {
     Some(disk)
 }
 
-// A segment's content with the record of the name 0x101.
+// Returns a segment's content with the record of the name 0x101.
 fn second_batch() -> [u8; 54] {
     let mut batch = [0; 54];
     batch.copy_from_slice(&SEGMENT[16..]);
@@ -175,7 +175,7 @@ fn records_go_to_the_segment_of_the_newest_image(rt: HostRuntime) {
 // two for its header and two for its gate; and the two that end the segment.
 const CALLS: u64 = 26;
 
-// The fault of an opening within which a crash may come, and what opening the store again returns then.
+// Returns the fault of an opening within which a crash may come, and what opening the store again returns then.
 fn stopped<S: Store + Drop>(
     alloc: Global,
     stop_at: u64,

@@ -89,7 +89,7 @@ fn a_segment_holds_65536_records(rt: HostRuntime) {
     }
 }
 
-// The records of a segment that is read in pieces of `room` bytes, and where the last one ends.
+// Returns the records of a segment that is read in pieces of `room` bytes, and where the last one ends.
 fn read<S: Store + Drop>(
     alloc: Global,
     segment: &[u8],
@@ -123,7 +123,7 @@ fn records_are_read(rt: HostRuntime) {
     same(&rt, seen, Some((69, 1, true, true)));
 }
 
-// A segment with the batch of `SEGMENT` twice.
+// Returns a segment with the batch of `SEGMENT` twice.
 fn twice() -> [u8; 123] {
     let mut twice = [0; 123];
     twice[..69].copy_from_slice(&SEGMENT[..69]);
@@ -131,7 +131,7 @@ fn twice() -> [u8; 123] {
     twice
 }
 
-// The fault of the read of a segment, if there is one.
+// Returns the fault of the read of a segment, if there is one.
 fn fault_of<S: Store + Drop>(alloc: Global, segment: &[u8]) -> Option<Option<StoreFault>> {
     Some(read::<S>(alloc, segment, PIECE)?.err())
 }

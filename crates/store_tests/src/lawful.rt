@@ -70,8 +70,8 @@ fn live_ports(alloc: Global, rows: &[PortRow]) -> Result<Sequence<LivePort>, All
     Ok(Sequence::new(ports))
 }
 
-/// The names of space 1: the receive right of port 1 as 0x100, a set as 0x101, and what 0x102 stands for, if it is a
-/// name.
+/// Returns the names of space 1: the receive right of port 1 as 0x100, a set as 0x101, and what 0x102 stands for, if it
+/// is a name.
 fn names(alloc: Global, third: Option<Entry>) -> Result<Vec<NamedEntry>, AllocError> {
     let mut names = Vec::new(alloc);
     names.push(NamedEntry {

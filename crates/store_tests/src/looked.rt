@@ -21,13 +21,13 @@ pub(crate) fn looked<D: Disk>(
     ))
 }
 
-/// The look at an empty disk.
+/// Returns the look at an empty disk.
 fn look_at_nothing<S: Store + Drop>(alloc: Global) -> Result<(u64, u64, u64, usize), StoreFault> {
     let mut disk = S::empty(alloc);
     looked(alloc, &mut disk)
 }
 
-/// The look at a store that was made and closed.
+/// Returns the look at a store that was made and closed.
 fn look_at_made<S: Store + Drop>(
     alloc: Global,
 ) -> Option<Result<(u64, u64, u64, usize), StoreFault>> {

@@ -20,7 +20,7 @@ pub(crate) trait Machine {
     /// One in the state of a copy, if that is one of a kernel.
     fn of_copy(alloc: Global, copy: Snapshot) -> Option<Self>;
 
-    /// A copy of the state, if there is memory.
+    /// Returns a copy of the state, if there is memory.
     fn copied(&self, alloc: Global) -> Option<Snapshot>;
 
     /// This one after a record's step.
@@ -32,25 +32,25 @@ pub(crate) trait Machine {
     /// Makes a call of space 1, if there is memory for it and for its record.
     fn make_recorded(&mut self, alloc: Global, call: &Call, counter: &mut Counter) -> Option<Words>;
 
-    /// The answer to a call that has no record, if there is memory.
+    /// Returns the answer to a call that has no record, if there is memory.
     fn answered(&self, space: u32, call: &Call) -> Option<Option<Words>>;
 
     /// The same in place.
     fn answered_in_place(&mut self, space: u32, call: &Call) -> Option<Option<Words>>;
 
-    /// The type of a name.
+    /// Returns the type of a name.
     fn type_of(&self, space: u32, name: u32) -> Words;
 
-    /// The send references of the name 0x100 in space 1.
+    /// Returns the send references of the name 0x100 in space 1.
     fn references(&self) -> Words;
 
-    /// The status of the port of that name.
+    /// Returns the status of the port of that name.
     fn status(&self) -> Words;
 }
 
-/// The first words of a reply's frame, as far as they are compared here: the call's number, the code, and two results,
-/// of a port's status the messages and the make-send count; of a message its code, size and member, and the call's
-/// number.
+/// Returns the first words of a reply's frame, as far as they are compared here: the call's number, the code, and two
+/// results, of a port's status the messages and the make-send count; of a message its code, size and member, and the
+/// call's number.
 fn words_of(reply: &Reply) -> Words {
     match reply {
         Reply::Plain(PlainReply::Refused { number, code }) => [*number, code.number(), 0, 0],
@@ -77,14 +77,14 @@ fn words_of(reply: &Reply) -> Words {
     }
 }
 
-/// The words of a reply that isn't needed after that.
+/// Returns the words of a reply that isn't needed after that.
 fn words(reply: Reply) -> Words {
     let words = words_of(&reply);
     drop(reply);
     words
 }
 
-/// The words of an answer, if there is one.
+/// Returns the words of an answer, if there is one.
 fn words_of_answer(answer: Option<Reply>) -> Option<Words> {
     Some(words(answer?))
 }
@@ -168,7 +168,7 @@ fn after<M: Machine>(alloc: Global, record: &Record) -> Option<M> {
     M::opened(alloc)?.replayed(record).ok()
 }
 
-/// The record of an allocation in space 1.
+/// Returns the record of an allocation in space 1.
 pub(crate) fn allocated(right: u32, name: u32) -> Record {
     Record {
         space: 1,

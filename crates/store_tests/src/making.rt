@@ -21,7 +21,7 @@ pub(crate) static SEGMENT: [u8; 70] = [
 /// A segment of epoch 0 with no batch.
 pub(crate) static NEW_SEGMENT: [u8; 17] = [0x5a, 2, 0, 0, 0, 0, 0, 0, 0, 0, 0, 0, 0, 0, 0, 0, 0];
 
-/// The allocation of a name, done.
+/// Returns the allocation of a name, done.
 #[tactic(auto, unfolding(ipc_model::specs::encodings::PlainCalls::call_encoding, ipc_model::specs::encodings::PlainCalls::reply_encoding))]
 fn allocation(name: u32) -> Record
     ensures call { length (call_encoding result.call) ≤ MAX_FRAME_CONTENT }
@@ -56,14 +56,14 @@ fn add_allocations(batch: &mut Batch, number: u64, count: u8, first: u8) -> Resu
     Ok(())
 }
 
-/// A batch of these records.
+/// Returns a batch of these records.
 fn batch_of(alloc: Global, number: u64, count: u8, first: u8) -> Result<Batch, StoreFault> {
     let mut batch = Batch::new(alloc);
     add_allocations(&mut batch, number, count, first)?;
     Ok(batch)
 }
 
-/// A segment of epoch 0 that is said to hold `records` records.
+/// Returns a segment of epoch 0 that is said to hold `records` records.
 pub(crate) fn segment_of(records: u64) -> Segment {
     Segment { epoch: 0, records }
 }

@@ -4,7 +4,7 @@ use ipc_model::{CarriedRight, PortInMessage, RightKind};
 use notify::{message, port_destroyed};
 use std::alloc::Global;
 
-/// A notice's message without rights: its id, and whether this is its body.
+/// Returns a notice's message without rights: its id, and whether this is its body.
 fn said(alloc: Global, notice: Notice, body: &[u8]) -> Option<(u32, bool)> {
     let message = message(alloc, notice).ok()?;
     let seen = (message.id, message.body.as_slice() == body);

@@ -8,7 +8,7 @@ use ipc_model::{CarriedRight, Message, PortInMessage, RightKind, Sequence};
 use ports::{PortNumbers, Ports};
 use std::alloc::{AllocError, Global};
 
-/// A message by a send right, with a right for the reply and a right in its body, both to one port.
+/// Returns a message by a send right, with a right for the reply and a right in its body, both to one port.
 fn message(alloc: Global, kind: RightKind, port: u64) -> Result<Message, AllocError>
     ensures reply { IfOk result (λ message. message.reply
         ≡ Some (record { kind = kinds.SendOnce; port = in_message.Live port })) }

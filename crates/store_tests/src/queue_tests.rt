@@ -12,7 +12,7 @@ fn fill(alloc: Global, queue: &mut Queue, ids: &[u32]) -> Option<()> {
     Some(())
 }
 
-/// The id of the message at an index, if there is one.
+/// Returns the id of the message at an index, if there is one.
 fn id_at(queue: &Queue, index: u32) -> Option<u32> {
     if index < queue.len() {
         Some(queue.message(index).id)

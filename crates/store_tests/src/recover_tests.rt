@@ -54,7 +54,7 @@ fn opened_with<S: Store + Drop>(alloc: Global, image0: &[u8], segment0: &[u8]) -
     Some(reopened(alloc, disk))
 }
 
-// A new store with the record of `SEGMENT`.
+// Returns a new store with the record of `SEGMENT`.
 fn stored<S: Store + Drop>(alloc: Global) -> Option<S> {
     let (mut disk, mut segment) = S::empty(alloc).go_on(alloc)?;
     append_allocations(alloc, &mut segment, &mut disk, 1).ok()?;
@@ -255,7 +255,7 @@ static STORES: [Described; 3] = [
 // Segments with no gate after their batches, which no server leaves.
 static FOREIGN: [Described; 2] = [(true, 1, 69, 15, STORED), (true, 0, 16, 14, EMPTY)];
 
-// The batch of `SEGMENT` with a number and a name of its own.
+// Returns the batch of `SEGMENT` with a number and a name of its own.
 fn batch_of(number: u8) -> [u8; 53] {
     let mut batch = [0; 53];
     batch.copy_from_slice(&SEGMENT[16..69]);
@@ -271,7 +271,7 @@ fn add_batches(segment: &mut Vec<u8>, batches: u8) -> Result<(), AllocError> {
     segment.extend_from_slice(&[0])
 }
 
-// A segment of epoch 0 with `batches` such batches.
+// Returns a segment of epoch 0 with `batches` such batches.
 fn batches_of(alloc: Global, batches: u8) -> Result<Vec<u8>, AllocError> {
     let mut segment = SEGMENT[..16].to_vec(alloc)?;
     add_batches(&mut segment, batches)?;

@@ -12,7 +12,7 @@ pub(crate) fn add_port(ports: &mut Ports) -> Option<()> {
     ports.add().ok()
 }
 
-/// A message by a send right that carries no rights.
+/// Returns a message by a send right that carries no rights.
 pub(crate) fn empty(alloc: Global, id: u32) -> Message {
     Message {
         destination: RightKind::Send,

@@ -96,7 +96,7 @@ fn next_notice(effects: &mut Effects) -> NoticeSeen {
     }
 }
 
-/// The dead-name notices for port 7 when it dies, in their order.
+/// Returns the dead-name notices for port 7 when it dies, in their order.
 fn reported(spaces: &mut Spaces, effects: &mut Effects) -> Option<[NoticeSeen; 4]> {
     spaces.bury(7, effects).ok()?;
     Some([
@@ -137,7 +137,7 @@ fn held(spaces: &Spaces) -> Held {
     (entries, counts)
 }
 
-/// A port dies, and no notice is sent.
+/// Returns a port dies, and no notice is sent.
 fn die(alloc: Global, spaces: &mut Spaces, port: u64) -> Option<()> {
     let mut effects = Effects::new(alloc);
     let done = spaces.bury(port, &mut effects).ok();
@@ -163,7 +163,7 @@ fn buried(alloc: Global, spaces: &mut Spaces) -> ([Option<()>; 5], [Option<()>; 
     )
 }
 
-/// A name for a send right to port 7.
+/// Returns a name for a send right to port 7.
 fn send(dead_name_target: Option<u64>) -> Option<Entry> {
     Some(Entry::Port(PortRights {
         port: 7,
@@ -173,7 +173,7 @@ fn send(dead_name_target: Option<u64>) -> Option<Entry> {
     }))
 }
 
-/// A name for a send-once right to port 7.
+/// Returns a name for a send-once right to port 7.
 fn once(dead_name_target: Option<u64>) -> Option<Entry> {
     Some(Entry::SendOnce {
         port: 7,
@@ -181,7 +181,7 @@ fn once(dead_name_target: Option<u64>) -> Option<Entry> {
     })
 }
 
-/// A dead name.
+/// Returns a dead name.
 fn dead(references: u32) -> Option<Entry> {
     Some(Entry::Dead { references })
 }

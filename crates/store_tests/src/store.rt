@@ -40,10 +40,10 @@ pub(crate) type Slots<'a> = [&'a [u8]; 4];
 
 /// A disk that may hold a store, and crashes as planned.
 pub(crate) trait Store: Disk {
-    /// An empty disk.
+    /// Returns an empty disk.
     fn empty(alloc: Global) -> Self;
 
-    /// A disk whose slots hold these bytes.
+    /// Returns a disk whose slots hold these bytes.
     fn holding(alloc: Global, slots: Slots<'_>) -> Option<Self>;
 
     /// Plans failures of calls, as `MemDisk::plan` does.
@@ -52,13 +52,13 @@ pub(crate) trait Store: Disk {
     /// What a crash leaves.
     fn stop(self) -> Option<Self>;
 
-    /// The bytes of a slot.
+    /// Returns the bytes of a slot.
     fn bytes(&self, slot: Slot) -> &[u8];
 
     /// What opening the store returns for these names, and the disk.
     fn open(self, alloc: Global, names: &[u32; 4]) -> (Opening, Self);
 
-    /// The disk of the opened store, and the segment in use.
+    /// Returns the disk of the opened store, and the segment in use.
     fn go_on(self, alloc: Global) -> Option<(Self, Segment)>;
 }
 
@@ -97,7 +97,7 @@ fn see_on<D: Disk + Drop>(alloc: Global, disk: D, names: &[u32; 4]) -> (Opening,
     }
 }
 
-/// The disk of an opened store, and the segment in use.
+/// Returns the disk of an opened store, and the segment in use.
 fn parts_of<D: Disk + Drop>(opened: Opened<D>) -> (D, Segment) {
     let Opened {
         kernel,
@@ -150,13 +150,13 @@ pub(crate) fn are_receive(bits: [u32; 4]) -> [bool; 4] {
     ]
 }
 
-/// A disk whose slots hold these bytes.
+/// Returns a disk whose slots hold these bytes.
 pub(crate) fn disk_of<S: Store>(alloc: Global, slots: &[Vec<u8>; 4]) -> Option<S> {
     let [image0, image1, segment0, segment1] = slots;
     S::holding(alloc, [image0, image1, segment0, segment1])
 }
 
-/// A disk with these bytes in the image 0 and the segment 0.
+/// Returns a disk with these bytes in the image 0 and the segment 0.
 pub(crate) fn disk_with<S: Store>(alloc: Global, image0: &[u8], segment0: &[u8]) -> Option<S> {
     S::holding(alloc, [image0, &[], segment0, &[]])
 }

@@ -60,7 +60,7 @@ static LIMIT_SET: [u8; 28] = [
     12, 0, 0, 0, 10, 0, 0, 0, 0, 1, 0, 0, 5, 0, 0, 0, 8, 0, 0, 0, 10, 0, 0, 0, 0, 0, 0, 0,
 ];
 
-/// The batch of the record with this number, which sets that limit.
+/// Returns the batch of the record with this number, which sets that limit.
 fn limit_batch(number: u32) -> [u8; 53] {
     let mut batch = [0; 53];
     batch[..25].copy_from_slice(&SEGMENT[16..41]);
@@ -76,8 +76,8 @@ fn add_limits(segment: &mut Vec<u8>, count: u16) -> Result<(), AllocError> {
     segment.extend_from_slice(&[0])
 }
 
-/// A segment of epoch 0 with `count` batches of one record each, and one more: the allocation of [`SEGMENT`], followed
-/// by calls that set limits. Each batch has 53 bytes.
+/// Returns a segment of epoch 0 with `count` batches of one record each, and one more: the allocation of [`SEGMENT`],
+/// followed by calls that set limits. Each batch has 53 bytes.
 pub(crate) fn long_segment(alloc: Global, count: u16) -> Result<Vec<u8>, AllocError> {
     let mut segment = SEGMENT[..69].to_vec(alloc)?;
     add_limits(&mut segment, count)?;

@@ -12,7 +12,7 @@ fn add_port(state: &mut IpcState) -> Option<()> {
     state.add_port().ok()
 }
 
-/// The receive right of a port travels in the queue of another.
+/// Returns the receive right of a port travels in the queue of another.
 fn carry(alloc: Global, state: &mut IpcState, port: u64, queue: u64) -> Option<()> {
     if !state.has_port(port) {
         return None;

@@ -138,8 +138,8 @@ fn stopped<S: Store + Drop>(
 // More device calls than an opening makes.
 const MANY: u64 = 80;
 
-// The first device call of an opening at which a crash leaves something else than this, or by which it hasn't ended; 0
-// if there is none.
+// Returns the first device call of an opening at which a crash leaves something else than this, or by which it hasn't
+// ended; 0 if there is none.
 fn first_unlike<S: Store + Drop>(
     alloc: Global,
     before: &[Vec<u8>; 4],
@@ -176,7 +176,7 @@ fn first_unlike_as<S: Store + Drop>(
     Some(at)
 }
 
-// The first way to crash in which a store leaves something else, and at which device call.
+// Returns the first way to crash in which a store leaves something else, and at which device call.
 fn first_torn<S: Store + Drop>(alloc: Global, images: (Is, Is), row: &Row) -> Option<(Torn, u64)> {
     for torn in &TORN {
         let at = first_unlike_as::<S>(alloc, images, row, *torn).unwrap_or(MANY);
@@ -197,8 +197,8 @@ fn crashes_within_the_opening_of_each_version(rt: HostRuntime) {
     }
 }
 
-// The store of version 1 after the allocation of the name 0x100, or before it; its segment is truncated or extended to
-// a length.
+// Returns the store of version 1 after the allocation of the name 0x100, or before it; its segment is truncated or
+// extended to a length.
 fn old_store(alloc: Global, length: usize, name: bool) -> Option<[Vec<u8>; 4]> {
     let batches: &[u8] = if name { &SEGMENT[16..] } else { &[0] };
     let mut segment = opened_slot(alloc, 1, 0, batches).ok()?;
@@ -319,7 +319,7 @@ static LAST_EPOCHS: [Limits; 6] = [
     ((1, 5, LAST_EVEN), (1, None), None, Ok((u64::MAX, 0))),
 ];
 
-// The segment that follows, or an empty slot.
+// Returns the segment that follows, or an empty slot.
 fn following(alloc: Global, epoch: u64, row: &Limits) -> Option<Vec<u8>> {
     match row.2 {
         Some((version, limit)) => segment_of_limit(alloc, version, epoch, limit).ok(),

@@ -41,7 +41,7 @@ impl<V> Model for TrackedMap<V> {
 }
 
 impl<V> TrackedMap<V> {
-    /// An empty map. It takes no memory.
+    /// Returns an empty map. It allocates nothing.
     pub fn new(alloc: Global) -> Self
         ensures { result ≡ at_rest map.empty }
     {
@@ -62,7 +62,7 @@ impl<V> TrackedMap<V> {
         self.len
     }
 
-    /// The value of a key.
+    /// Returns the value of a key.
     pub fn get(&self, key: u128) -> Option<&V>
         ensures { option_copied result ≡ map.get self.now.current key }
     {
@@ -72,14 +72,14 @@ impl<V> TrackedMap<V> {
         slot.as_ref()
     }
 
-    /// Whether a key has a value.
+    /// Returns true if a key has a value.
     pub fn contains_key(&self, key: u128) -> bool
         ensures { result ≡ is_some (map.get self.now.current key) }
     {
         self.get(key).is_some()
     }
 
-    /// The least key from this one on that has a value, with its value.
+    /// Returns the least key from this one on that has a value, with its value.
     pub fn next_from(&self, from: u128) -> Option<(u128, &V)>
         ensures { MatchOption result ((key : ℕ) → from ≤ key → key < 2 ^ 128 → map.get self.now.current key ≡ None)
             (λ e. (from ≤ e.0) × (map.get self.now.current e.0 ≡ Some e.1.now)
@@ -88,8 +88,8 @@ impl<V> TrackedMap<V> {
         self.next_within(from, u128::MAX)
     }
 
-    /// The least key in a range, both ends included, that has a value, with its value. Removed keys are passed over
-    /// only within that range.
+    /// Returns the least key in a range, both ends included, that has a value, with its value. Removed keys are passed
+    /// over only within that range.
     pub fn next_within(&self, from: u128, last: u128) -> Option<(u128, &V)>
         ensures { MatchOption result ((key : ℕ) → from ≤ key → key ≤ last → map.get self.now.current key ≡ None)
             (λ e. (from ≤ e.0) × (e.0 ≤ last) × (map.get self.now.current e.0 ≡ Some e.1.now)
@@ -159,7 +159,7 @@ impl<V: Copy + Drop> TrackedMap<V> {
         Ok(Some(before))
     }
 
-    /// Commits the changes. It takes no memory.
+    /// Commits the changes. It allocates nothing.
     pub fn commit(&mut self)
         ensures { self.new ≡ at_rest self.old.current }
     {
@@ -176,7 +176,7 @@ impl<V: Copy + Drop> TrackedMap<V> {
         self.len_before = self.len;
     }
 
-    /// Rolls the changes back. It takes no memory.
+    /// Rolls the changes back. It allocates nothing.
     pub fn roll_back(&mut self)
         ensures { self.new ≡ at_rest self.old.before }
     {
@@ -200,7 +200,7 @@ fn take_value<V>(slots: &mut NumberMap<Option<V>>, key: u128) -> Option<V>
     }
 }
 
-/// Whether a slot was found and has no value.
+/// Returns true if a slot was found and has no value.
 fn is_mark<V: Copy>(found: Option<Option<V>>) -> bool
     ensures { result ≡ is_mark found }
 {
@@ -210,7 +210,7 @@ fn is_mark<V: Copy>(found: Option<Option<V>>) -> bool
     }
 }
 
-/// Whether one of the two is true.
+/// Returns true if one of the two is true.
 fn either(one: bool, other: bool) -> bool
     ensures { result ≡ (one || other) }
 {

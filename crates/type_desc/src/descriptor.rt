@@ -44,7 +44,7 @@ pub(crate) fn is_long_form(word: u32) -> bool
     word / LONG_FORM_BIT % 2 == 1
 }
 
-/// Whether the deallocate bit or the unused bit is set.
+/// Returns true if the deallocate bit or the unused bit is set.
 fn has_other_bit(word: u32) -> bool
     ensures { result ≡ has_other_bit word }
 {
@@ -57,21 +57,21 @@ pub(crate) fn is_port_type(type_name: u16) -> bool
     16 <= type_name && type_name <= 21
 }
 
-/// Whether the word of a long descriptor has a field that belongs after it.
+/// Returns true if the word of a long descriptor has a field that belongs after it.
 fn has_short_fields(word: u32, is_long: bool) -> bool
     ensures { result ≡ has_short_fields word is_long }
 {
     is_long && word % INLINE_BIT != 0
 }
 
-/// Whether these are ports of another size than a name's.
+/// Returns true if these are ports of another size than a name's.
 fn has_odd_ports(fields: Fields) -> bool
     ensures { result ≡ has_odd_ports fields.type_name fields.bits }
 {
     is_port_type(fields.type_name) && fields.bits != PORT_BITS
 }
 
-/// Whether a descriptor's bits or its type are refused.
+/// Returns true if a descriptor's bits or its type are refused.
 pub(crate) fn has_wrong_type(word: u32, is_long: bool, fields: Fields) -> bool
     ensures { result ≡ (has_other_bit word || has_short_fields word is_long ||
         has_odd_ports fields.type_name fields.bits) }
@@ -79,14 +79,14 @@ pub(crate) fn has_wrong_type(word: u32, is_long: bool, fields: Fields) -> bool
     has_other_bit(word) || has_short_fields(word, is_long) || has_odd_ports(fields)
 }
 
-/// Whether a long descriptor has too few bytes.
+/// Returns true if a long descriptor has too few bytes.
 pub(crate) fn is_cut(is_long: bool, length: usize) -> bool
     ensures { result ≡ (is_long && nat_lt length 12) }
 {
     is_long && length < LONG_LENGTH
 }
 
-/// The fields within a short descriptor's word.
+/// Returns the fields within a short descriptor's word.
 fn short_fields(body: &[u8]) -> Fields
     requires { 4 ≤ length body.now }
     ensures type_name { result.type_name ≡ type_name_in body.now false }
@@ -101,7 +101,7 @@ fn short_fields(body: &[u8]) -> Fields
     }
 }
 
-/// The fields after a long descriptor's word.
+/// Returns the fields after a long descriptor's word.
 fn long_fields(body: &[u8]) -> Fields
     requires { 12 ≤ length body.now }
     ensures type_name { result.type_name ≡ type_name_in body.now true }
@@ -115,7 +115,7 @@ fn long_fields(body: &[u8]) -> Fields
     }
 }
 
-/// The fields of a descriptor that has all its bytes.
+/// Returns the fields of a descriptor that has all its bytes.
 pub(crate) fn fields_of(body: &[u8], is_long: bool) -> Fields
     requires whole { 4 ≤ length body.now }
     requires uncut { (is_long && nat_lt (length body.now) 12) ≡ false }

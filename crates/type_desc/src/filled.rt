@@ -9,7 +9,7 @@ use crate::item::Item;
 use std::alloc::AllocError;
 
 impl Item<'_> {
-    /// The names that are left for the items after this one: those after its own ports'.
+    /// Returns the names that are left for the items after this one: those after its own ports'.
     pub fn following_names<'n>(&self, names: &'n [u32]) -> &'n [u32]
         ensures { result.now ≡ names_after (item_value self.now) names.now }
     {
@@ -47,7 +47,7 @@ impl Item<'_> {
         Ok(())
     }
 
-    /// Adds the item's bytes with the first of these names in the places of its ports; as it is if it holds none.
+    /// Appends the item's bytes with the first of these names in the places of its ports; as it is if it holds none.
     ///
     /// If an allocation fails, nothing changed.
     pub fn push_filled(&self, names: &[u32], out: &mut Vec<u8>) -> Result<(), AllocError>
@@ -87,7 +87,7 @@ fn add_filled_items(body: &[u8], names: &[u32], out: &mut Vec<u8>) -> Result<boo
     Ok(true)
 }
 
-/// Adds a body with names in the places of the ports of its items, from the left; as it is if items don't tile it.
+/// Appends a body with names in the places of the ports of its items, from the left; as it is if items don't tile it.
 /// Names beyond its ports are ignored, and if there are too few, the places of the other ports are left out.
 ///
 /// If an allocation fails, nothing changed. It allocates only for the bytes that are added.

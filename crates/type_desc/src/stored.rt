@@ -42,7 +42,7 @@ impl Item<'_> {
         Ok(())
     }
 
-    /// Adds the bytes of the item as a queued message has it: the type as received, and 0 in each port's place.
+    /// Appends the bytes of the item as a queued message has it: the type as received, and 0 in each port's place.
     ///
     /// If an allocation fails, nothing changed.
     pub fn push_stored(&self, out: &mut Vec<u8>) -> Result<(), AllocError>
@@ -72,7 +72,7 @@ fn add_stored_items(items: &[Item<'_>], out: &mut Vec<u8>) -> Result<(), AllocEr
     Ok(())
 }
 
-/// Adds the bytes of items as a queued message has them: types of ports as received, and 0 in each port's place.
+/// Appends the bytes of items as a queued message has them: types of ports as received, and 0 in each port's place.
 ///
 /// If an allocation fails, nothing changed.
 pub fn push_stored_items(items: &[Item<'_>], out: &mut Vec<u8>) -> Result<(), AllocError>

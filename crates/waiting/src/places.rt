@@ -4,21 +4,21 @@ ghost use Rattle.waiting.specs.Places.{IsMore, names, place_of_name, place_of_po
 use std::alloc::Global;
 use std::marker::Model;
 
-/// The place of a name of a space. Receives from the name wait there, and sends whose messages cite it.
+/// Returns the place of a name of a space. Receives from the name wait there, and sends whose messages cite it.
 pub fn place_of_name(space: u32, name: u32) -> u128
     ensures { result ≡ place_of_name space name }
 {
     u128::from(space) * (1 << 32) + u128::from(name)
 }
 
-/// The place of a port. Sends to it wait there.
+/// Returns the place of a port. Sends to it wait there.
 pub fn place_of_port(serial: u64) -> u128
     ensures { result ≡ place_of_port serial }
 {
     (1 << 64) + u128::from(serial)
 }
 
-/// Whether a place is a port's rather than a name's.
+/// Returns true if a place is a port's rather than a name's.
 pub fn is_place_of_port(place: u128) -> bool
     ensures { MatchBool result (2 ^ 64 ≤ place) (place < 2 ^ 64) }
 {
@@ -46,7 +46,7 @@ impl Model for Places {
 }
 
 impl Places {
-    /// No places. It takes no memory.
+    /// No places. It allocates nothing.
     pub fn none(alloc: Global) -> Self
         ensures { result ≡ record { changed = []; ready = []; are_all = false } }
     {
@@ -112,21 +112,21 @@ impl Places {
         self.are_all = true;
     }
 
-    /// The places that changed.
+    /// Returns the places that changed.
     pub fn changed(&self) -> &[u128]
         ensures { result.now ≡ self.now.changed }
     {
         self.changed.as_slice()
     }
 
-    /// The places at which one call may be done.
+    /// Returns the places at which one call may be done.
     pub fn ready(&self) -> &[u128]
         ensures { result.now ≡ self.now.ready }
     {
         self.ready.as_slice()
     }
 
-    /// Whether every place is named, since the list of them couldn't be kept.
+    /// Returns true if every place is named, since the list of them couldn't be kept.
     pub fn are_all(&self) -> bool
         ensures { result ≡ self.now.are_all }
     {
