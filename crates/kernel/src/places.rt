@@ -1,4 +1,4 @@
-//! Where calls wait that find nothing to do.
+//! The places where a call waits that can't proceed.
 ghost use Rattle.std.specs.Prelude.{◌≡◌, ◌++◌, ◌∷◌, [], map, option_and_then, IfSome, OnOk};
 ghost use Rattle.ipc_model.specs.state.Ipc.{entry_at};
 ghost use Rattle.waiting.specs.Places.{place_of_name};
@@ -15,14 +15,14 @@ use std::alloc::{AllocError, Global};
 use waiting::{place_of_name, place_of_port};
 
 impl Kernel {
-    /// Returns the places where a call of a task of this space waits if it finds nothing to do. `None`: an allocation
-    /// failed, or it is a send that is refused whatever its names stand for.
+    /// Returns the places where a call of a task in this space waits if it can't proceed. `None`: an allocation failed,
+    /// or the call is a send that is refused whatever its names denote.
     pub fn places_of_call(&self, space: u32, call: &Call) -> Option<Vec<u128>>
         ensures { IfSome result (λ places. places.items ≡ places_of_call self.now space call.now) }
     {
         match call {
             Call::Plain(call) => places_of_plain(self.alloc, &self.state, space, call),
-            // A numbered call waits nowhere.
+            // A numbered call never waits.
             Call::Numbered(_) | Call::Unnumberable => Some(Vec::new(self.alloc)),
         }
     }
@@ -67,7 +67,7 @@ fn places_of_send(alloc: Global, state: &IpcState, space: u32, message: &[u8]) -
     Some(places)
 }
 
-/// Appends the places of names.
+/// Appends the places of names in a space.
 fn push_names(space: u32, names: &[u32], places: &mut Vec<u128>) -> Result<(), AllocError>
     ensures { OnOk result (places.new.items ≡ places.old.items ++ map (place_of_name space) names.now) }
 {
@@ -77,7 +77,7 @@ fn push_names(space: u32, names: &[u32], places: &mut Vec<u128>) -> Result<(), A
     Ok(())
 }
 
-/// Returns the port that a name stands for a right to.
+/// Returns the port of the right under a name.
 fn port_at(state: &IpcState, space: u32, name: u32) -> Option<u64>
     ensures { result ≡ option_and_then port_of (entry_at state.now.current space name) }
 {

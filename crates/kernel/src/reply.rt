@@ -29,7 +29,7 @@ pub fn is_same_reply(one: &Reply, other: &Reply) -> bool
     }
 }
 
-/// Returns the reply to the call itself, where the call was numbered.
+/// Returns the reply to the call itself, also if the call was numbered.
 pub fn inner(reply: &Reply) -> &PlainReply
     ensures { result.now ≡ inner reply.now }
 {
@@ -39,7 +39,7 @@ pub fn inner(reply: &Reply) -> &PlainReply
     }
 }
 
-/// Returns the number of the call that a reply is to.
+/// Returns the number of the call that a reply answers.
 pub fn number_of(reply: &PlainReply) -> u32
     ensures { result ≡ number_of_reply reply.now }
 {

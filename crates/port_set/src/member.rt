@@ -26,7 +26,7 @@ pub fn members(
     Ok(members)
 }
 
-/// Returns the ports that are a set's members in a space, in the order of their names.
+/// Returns the ports of a set's members in a space, in the order of their names.
 #[tactic(auto, using(ipc_state::specs::SetNames::member_serials))]
 pub fn member_ports(
     alloc: Global,
