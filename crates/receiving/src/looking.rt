@@ -12,7 +12,7 @@ use ipc_model::{CarriedRight, Message};
 use rights::{IpcState, names_needed};
 use std::alloc::{AllocError, Global};
 
-/// How many bytes a message has, header and body.
+/// Returns the length of a message in bytes, header and body.
 pub(crate) fn size_of(message: &Message) -> usize
     ensures { result ≡ message_size message.now }
 {
@@ -26,7 +26,7 @@ pub(crate) fn is_too_large(limit: u32, message: &Message) -> bool
     (limit as usize) < size_of(message)
 }
 
-/// Returns the rights that arrive with a message, as they are now: its reply right, and those of its body.
+/// Returns the rights that arrive with a message, as they are now: its reply right, then those of its body.
 pub(crate) fn arriving(
     alloc: Global,
     state: &IpcState,
@@ -70,7 +70,7 @@ fn push_body(
     Ok(())
 }
 
-/// Whether the rights of a message need more new names than a space has left.
+/// Returns true if the rights of a message need more new names than a space has left.
 pub(crate) fn lacks_names(
     alloc: Global,
     state: &IpcState,

@@ -1,4 +1,4 @@
-//! From which port a message is received: the one whose receive right the name holds, or a member of the set.
+//! The port from which a message is received: the one whose receive right the name holds, or a member of the set.
 ghost use Rattle.std.specs.Prelude.{◌≡◌, None, Some, IfOk, IfErr, find, option_map, if◌then◌else◌};
 ghost use Rattle.std.specs.FinMap as map;
 ghost use Rattle.ipc_model.specs.calls.PortCalls.{names_in};
@@ -14,10 +14,10 @@ use ipc_model::Entry;
 use rights::IpcState;
 use std::alloc::{AllocError, Global};
 
-/// Where a name gets its messages from.
+/// The source of the messages that a name receives.
 #[derive(Clone, Copy)]
 pub(crate) enum Giver {
-    /// The name isn't in use, or holds no receive right and is no set.
+    /// None: the name isn't in use, or holds neither a receive right nor a set.
     Nothing,
     /// The port with this serial, whose receive right the name holds.
     Port(u64),
@@ -25,7 +25,7 @@ pub(crate) enum Giver {
     Set,
 }
 
-/// A port that has a message, and the name of its receive right.
+/// A port with a message, and the name of its receive right.
 #[derive(Clone, Copy)]
 pub(crate) struct Source {
     pub(crate) member: u32,
@@ -59,7 +59,7 @@ pub(crate) fn find_source(
     }
 }
 
-/// Where a name with this entry gets its messages from.
+/// Returns the source of the messages that a name with this entry receives.
 fn giver_by(entry: Option<Entry>) -> Giver
     ensures { result ≡ giver_of entry }
 {
@@ -70,7 +70,7 @@ fn giver_by(entry: Option<Entry>) -> Giver
     }
 }
 
-/// Returns the code if neither a receive right nor a set stands under the name. After a wait there was one.
+/// Returns the code for a name that holds neither a receive right nor a set. After a wait it held one before.
 fn not_there(waited: bool) -> KernReturn
     ensures { result ≡ (if waited then KernReturn.RcvPortDied else KernReturn.RcvInvalidName) }
 {
@@ -99,7 +99,7 @@ fn from_port(state: &IpcState, asked: Asked, port: u64) -> Result<Source, KernRe
     })
 }
 
-/// Returns the code if a port delivers its messages through a set. After a wait it has been put there since.
+/// Returns the code for a port in a set. After a wait it was moved there meanwhile.
 fn in_set(waited: bool) -> KernReturn
     ensures { result ≡ (if waited then KernReturn.RcvPortChanged else KernReturn.RcvInSet) }
 {
@@ -130,7 +130,7 @@ fn has_message(state: &IpcState, port: u64) -> bool
     }
 }
 
-/// Returns the member of a set that delivers a message: the preferred one, else the one with the least name.
+/// Returns the member of a set whose message is taken: the preferred one, otherwise the one with the least name.
 fn from_set(
     alloc: Global,
     state: &IpcState,
@@ -185,7 +185,7 @@ fn first(
     Ok(None)
 }
 
-/// Whether a member has a message and is preferred.
+/// Returns true if a member has a message and is preferred.
 fn gives(
     alloc: Global,
     state: &IpcState,
@@ -204,7 +204,7 @@ fn gives(
     is_preferred(alloc, state, space, asked, source, preference)
 }
 
-/// Whether a member is preferred.
+/// Returns true if a member is preferred.
 fn is_preferred(
     alloc: Global,
     state: &IpcState,
@@ -224,7 +224,7 @@ fn is_preferred(
     }
 }
 
-/// Whether a port's oldest message is not too large, but the space lacks names for its rights.
+/// Returns true if a port's oldest message isn't too large but the space lacks names for its rights.
 fn oldest_lacks(
     alloc: Global,
     state: &IpcState,

@@ -9,7 +9,7 @@ use ipc_model::{Call, Record, Reply};
 use std::alloc::AllocError;
 use words::{push_long_word, push_word};
 
-/// Appends the frame of a call as a record keeps it. If an allocation fails, some of its bytes may have been added. It
+/// Appends the frame of a call in canonical form. If an allocation fails, part of it may have been appended. It
 /// allocates nothing if there is room.
 fn push_call_frame(out: &mut Vec<u8>, call: &Call) -> Result<(), AllocError>
     requires { length (call_encoding call.now) < 2 ^ 32 }
@@ -24,7 +24,7 @@ fn push_call_frame(out: &mut Vec<u8>, call: &Call) -> Result<(), AllocError>
     Ok(())
 }
 
-/// Appends the frame of a reply. If an allocation fails, some of its bytes may have been added. It allocates nothing if
+/// Appends the frame of a reply. If an allocation fails, part of it may have been appended. It allocates nothing if
 /// there is room.
 fn push_reply_frame(out: &mut Vec<u8>, reply: &Reply) -> Result<(), AllocError>
     requires { length (reply_encoding reply.now) < 2 ^ 32 }
@@ -39,8 +39,8 @@ fn push_reply_frame(out: &mut Vec<u8>, reply: &Reply) -> Result<(), AllocError>
     Ok(())
 }
 
-/// Appends the record of a call of a task of this space with this reply, with its number: the call as a record keeps
-/// it. If an allocation fails, some of its bytes may have been added. It allocates nothing if there is room.
+/// Appends a record: its number, the space of the task, the call in canonical form and the reply. If an allocation
+/// fails, part of it may have been appended. It allocates nothing if there is room.
 #[tactic(auto, unfolding(ipc_model::specs::encodings::Encodings::record_encoding))]
 pub fn push_exchange(
     out: &mut Vec<u8>,
@@ -63,8 +63,8 @@ pub fn push_exchange(
     push_reply_frame(out, reply)
 }
 
-/// Appends a record with its number, and its call as a record keeps it. If an allocation fails, some of its bytes may
-/// have been added. It allocates nothing if there is room.
+/// Appends a record with this number, and its call in canonical form. If an allocation fails, part of it may have been
+/// appended. It allocates nothing if there is room.
 pub fn push_record(out: &mut Vec<u8>, number: u64, record: &Record) -> Result<(), AllocError>
     requires call { length (call_encoding «record».now.call) < 2 ^ 32 }
     requires reply { length (reply_encoding «record».now.reply) < 2 ^ 32 }
