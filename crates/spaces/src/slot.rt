@@ -10,7 +10,7 @@ use port_space::PortSpace;
 use std::alloc::{AllocError, Global};
 use std::marker::Model;
 
-/// A slot, which may hold a space or not, whose changes are committed or rolled back.
+/// A slot for a space, which may be empty. Changes are committed or rolled back.
 #[derive(Drop)]
 pub(crate) struct Space {
     names: PortSpace,
@@ -38,7 +38,7 @@ impl Model for Space {
 }
 
 impl Space {
-    /// Returns a slot without a space. It allocates nothing.
+    /// Creates an empty slot. It allocates nothing.
     pub(crate) fn new(alloc: Global) -> Self
         ensures { result ≡ slot_at_rest None }
     {
@@ -63,14 +63,14 @@ impl Space {
         self.is_there
     }
 
-    /// Returns true if the space existed before.
+    /// Returns true if the space existed at the last commit or rollback.
     pub(crate) fn was_there(&self) -> bool
         ensures { result ≡ is_some self.now.before }
     {
         self.was_there
     }
 
-    /// Makes a space without names, if there is none.
+    /// Adds a space without names to an empty slot.
     pub(crate) fn open(&mut self)
         requires { self.old.current ≡ None }
         ensures { self.new ≡ record self.old { current = Some map.empty } }
@@ -86,7 +86,7 @@ impl Space {
         self.is_there = false;
     }
 
-    /// Makes a name stand for this, if the space exists, and returns what it stood for. If an allocation fails, the
+    /// Replaces the entry of a name, if the space exists, and returns the former one. If an allocation fails, the
     /// changes are rolled back.
     pub(crate) fn put(&mut self, name: u32, entry: Entry) -> Result<Option<Entry>, AllocError>
         requires room { (names : Names) → self.old.current ≡ Some names → map.get names name ≡ None
@@ -110,7 +110,7 @@ impl Space {
         }
     }
 
-    /// Takes a name out of use, and returns what it stood for. If an allocation fails, the changes are rolled back.
+    /// Removes a name, and returns its entry. If an allocation fails, the changes are rolled back.
     pub(crate) fn remove(&mut self, name: u32) -> Result<Option<Entry>, AllocError>
         ensures former { IfOk result (λ former. former ≡ option_and_then
             (λ names. map.get names name) self.old.current) }
