@@ -33,7 +33,7 @@ pub fn message(alloc: Global, notice: Notice) -> Result<Message, AllocError>
     }
 }
 
-/// Returns a notice that reports one word.
+/// Returns a notice that contains one word.
 fn plain(alloc: Global, id: u32, descriptor: u32, number: u32) -> Result<Message, AllocError>
     ensures { IfOk result (λ message. message
         ≡ record {
@@ -69,7 +69,7 @@ fn without_rights(id: u32, alloc: Global, body: Vec<u8>) -> Message
     }
 }
 
-/// Returns the notice that the receive right of a port would have been destroyed, as a message that carries it
+/// Returns the notice that a port's receive right would have been destroyed, in a message that carries the right
 /// (`MACH_NOTIFY_PORT_DESTROYED`).
 pub fn port_destroyed(alloc: Global, serial: u64) -> Result<Message, AllocError>
     ensures { IfOk result (λ message. message ≡ notice_message (notice.PortDestroyed serial)) }

@@ -1,5 +1,5 @@
-//! Rows compared with the state that they are of: each right is to a live port, a port stands under one name of a
-//! space, and is in a set of the space that holds its receive right.
+//! Checks rows against the state that they describe: each right is to a live port, a port has one name in a space, and
+//! is in a set of the space that holds its receive right.
 ghost use Rattle.std.specs.Prelude.{◌≡◌};
 ghost use Rattle.snapshot_loading.specs.Linked.{has_set, is_in_no_set, is_linked, is_linked_message, is_linked_name, is_linked_row, is_linked_space, is_live_place, is_live_target, is_set, looks_of, replies_well, stands_well, travels_well};
 ghost use Rattle.std.specs.List.{list_all};
@@ -57,7 +57,7 @@ fn are_linked_ports(state: &IpcState, rows: &[LivePort]) -> bool
     true
 }
 
-/// Returns true if what stands under a name of a space is linked.
+/// Returns true if an entry of a space is linked.
 fn stands_well(state: &IpcState, space: u32, name: u32, entry: Entry) -> bool
     ensures { result ≡ stands_well (looks_of state.now.current) space name entry }
 {
@@ -102,7 +102,7 @@ fn set_of(state: &IpcState, serial: u64) -> Option<u32>
     }
 }
 
-/// Returns true if a set of this name, if one is named, is in the space.
+/// Returns true if the space contains the set with this name, or if no set is named.
 fn has_set(state: &IpcState, space: u32, set: Option<u32>) -> bool
     ensures { result ≡ has_set (looks_of state.now.current) space set }
 {
@@ -121,7 +121,7 @@ fn is_set(entry: Option<Entry>) -> bool
     }
 }
 
-/// Returns true if what a port has is linked.
+/// Returns true if the state of a port is linked.
 fn is_linked_port(state: &IpcState, row: &LivePort) -> bool
     ensures { result ≡ is_linked_row (looks_of state.now.current) row.now }
 {
