@@ -66,7 +66,7 @@ pub(crate) fn space_line(alloc: Global, space: u32) -> Result<String, AllocError
     format!(in alloc; "space {space}\n")
 }
 
-/// Where a port's receive right stands, with a space in front.
+/// Returns the place of a port's receive right, after a space.
 fn standing_text(alloc: Global, receive: Option<Standing>) -> Result<String, AllocError>
     ensures { IfOk result (λ text. string_bytes text ≡ standing_text receive) }
 {
@@ -80,7 +80,7 @@ fn standing_text(alloc: Global, receive: Option<Standing>) -> Result<String, All
     }
 }
 
-/// Returns the end of a port's line.
+/// Returns the end of a port's line, about its queue.
 #[tactic(auto, unfolding(crate::specs::Listing::queue_text))]
 fn queue_text(alloc: Global, port: &PortState) -> Result<String, AllocError>
     ensures { IfOk result (λ text. string_bytes text ≡ queue_text port.now) }
@@ -113,7 +113,7 @@ pub(crate) fn port_line(
     line
 }
 
-/// Returns the line of what a store counts.
+/// Returns the line with the numbers of a store.
 #[tactic(auto, unfolding(crate::specs::Listing::store_line))]
 pub(crate) fn store_line(alloc: Global, epoch: u64, records: u64) -> Result<String, AllocError>
     ensures { IfOk result (λ line. string_bytes line ≡ store_line epoch records) }

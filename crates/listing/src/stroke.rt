@@ -91,7 +91,7 @@ fn kind_word(kind: RightKind) -> &'static str
     }
 }
 
-/// What a right that a name holds is called.
+/// Returns the label of a right under a name.
 fn held_label(alloc: Global, references: u32, kind: RightKind) -> Result<String, AllocError>
     ensures { IfOk result (λ text. string_bytes text ≡ held_label references kind) }
 {
@@ -102,7 +102,7 @@ fn held_label(alloc: Global, references: u32, kind: RightKind) -> Result<String,
     }
 }
 
-/// Returns the node that a right goes out from.
+/// Returns the node from which a right's edge starts.
 fn source(alloc: Global, standing: Standing) -> Result<String, AllocError>
     ensures { IfOk result (λ text. string_bytes text ≡ source_of standing) }
 {

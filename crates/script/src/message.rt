@@ -22,7 +22,7 @@ pub(crate) struct Rights {
     pub(crate) local: u32,
 }
 
-/// Returns the bits of a header that stand for nothing, or 0.
+/// Reads the bits of a header that have no meaning, or returns 0.
 #[tactic(auto, unfolding(crate::specs::Messages::further_at))]
 fn read_further(text: &[u8]) -> Result<(u32, &[u8]), Fault>
     ensures read { Gives (λ r. (r.0, words_of r.1.now)) result (further_at (words_of text.now)) }
@@ -34,7 +34,7 @@ fn read_further(text: &[u8]) -> Result<(u32, &[u8]), Fault>
     }
 }
 
-/// Returns the right for the reply: its disposition and its name, or 0 and 0.
+/// Reads the disposition and the name of the reply right, or returns 0 and 0.
 #[tactic(auto, unfolding(crate::specs::Messages::local_at))]
 fn read_local(text: &[u8]) -> Result<(u32, u32, &[u8]), Fault>
     ensures read { Gives (λ r. (r.0, r.1, words_of r.2.now)) result (local_at (words_of text.now)) }
@@ -48,7 +48,7 @@ fn read_local(text: &[u8]) -> Result<(u32, u32, &[u8]), Fault>
     Ok((disposition, name, rest))
 }
 
-/// Returns the rights of a header.
+/// Reads the rights of a header.
 #[tactic(auto, unfolding(crate::specs::Messages::rights_at))]
 fn read_rights(text: &[u8]) -> Result<(Rights, &[u8]), Fault>
     ensures read { Gives (λ r. (r.0, words_of r.1.now)) result (rights_at (words_of text.now)) }
@@ -82,7 +82,7 @@ fn bits_of(rights: Rights, further: u32, complex: bool) -> u32
     if complex { bits + 0x8000_0000 } else { bits }
 }
 
-/// Returns the header of a message, and the text after its words.
+/// Reads the header of a message, and returns the text after it.
 #[tactic(auto, unfolding(crate::specs::Messages::header_at))]
 fn read_header(text: &[u8]) -> Result<(Header, &[u8]), Fault>
     ensures { Gives (λ r. (r.0, words_of r.1.now)) result (header_at (words_of text.now)) }
@@ -120,7 +120,7 @@ fn message_of(alloc: Global, header: &Header, body: &[u8]) -> Result<Vec<u8>, Al
     Ok(message)
 }
 
-/// Returns the message in front, and the text after its words.
+/// Reads a message, and returns the text after it.
 #[tactic(auto, unfolding(crate::specs::Messages::message_at))]
 pub(crate) fn read_message(alloc: Global, text: &[u8]) -> Result<(Vec<u8>, &[u8]), Fault>
     ensures { Gives (λ r. (r.0.items, words_of r.1.now)) result (message_at (words_of text.now)) }

@@ -59,7 +59,7 @@ fn push_receive(
     push_flag(line, b"waited", waited)
 }
 
-/// Appends the words of the arguments of a request for a notification.
+/// Appends the words of the arguments of a notification request.
 #[tactic(auto, using(script_words::proofs::WordsOf::spaced_laws))]
 fn push_notification(
     line: &mut Vec<u8>,
@@ -93,7 +93,7 @@ fn push_name_and(line: &mut Vec<u8>, name: u32, kind: Kind, number: u32) -> Resu
     push_two(line, (Kind::Hexadecimal, name), (kind, number))
 }
 
-/// Appends the words of the arguments of a call that has two, a name first.
+/// Appends the words of two arguments, of which the first is a name.
 #[tactic(auto, using(script_words::proofs::WordsOf::spaced_laws))]
 fn push_pair(line: &mut Vec<u8>, call: &PlainCall) -> Result<(), AllocError>
     ensures { OnOk result (line.new.items ≡ line.old.items ++ spaced (pair_words call.now)) }
@@ -174,7 +174,7 @@ fn push_arguments(line: &mut Vec<u8>, call: &PlainCall) -> Result<(), AllocError
     }
 }
 
-/// Appends the words of a call that isn't numbered, the first without a space in front.
+/// Appends the words of a call that isn't numbered. The first word has no space before it.
 #[tactic(auto, using(script_words::proofs::WordsOf::spaced_laws))]
 fn push_plain(line: &mut Vec<u8>, call: &PlainCall) -> Result<(), AllocError>
     ensures { OnOk result (line.new.items ≡ (line.old.items ++ verb_word (verb_of call.now))
@@ -184,7 +184,7 @@ fn push_plain(line: &mut Vec<u8>, call: &PlainCall) -> Result<(), AllocError>
     push_arguments(line, call)
 }
 
-/// Appends the words of a call that is numbered, the first without a space in front.
+/// Appends the words of a numbered call. The first word has no space before it.
 #[tactic(auto, using(script_words::proofs::WordsOf::spaced_laws))]
 fn push_numbered(line: &mut Vec<u8>, request: u32, call: &PlainCall) -> Result<(), AllocError>
     ensures { OnOk result (line.new.items ≡ (line.old.items ++ codes "numbered")
@@ -196,7 +196,7 @@ fn push_numbered(line: &mut Vec<u8>, request: u32, call: &PlainCall) -> Result<(
     push_arguments(line, call)
 }
 
-/// Appends the words of a call, the first without a space in front.
+/// Appends the words of a call. The first word has no space before it.
 #[tactic(auto, using(script_words::proofs::WordsOf::spaced_laws))]
 pub(crate) fn push_call_words(line: &mut Vec<u8>, call: &Call) -> Result<(), AllocError>
     ensures { OnOk result (line.new.items ≡ (line.old.items ++ first_word call.now)

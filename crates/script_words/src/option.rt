@@ -18,7 +18,7 @@ pub(crate) fn receive_word() -> &'static [u8]
     MessageOptions::RECEIVE.first_name().as_bytes()
 }
 
-/// Returns the word of a receive whose message stays queued if it is too large.
+/// Returns the word of a receive that leaves a message in the queue if it is too large.
 #[tactic(auto, unfolding(bitflags::specs::Sets::next_name))]
 pub fn large_word() -> &'static [u8]
     ensures { result.now ≡ codes "large" }

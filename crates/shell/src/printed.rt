@@ -45,7 +45,7 @@ fn push_parts(
     out.extend_from_slice(third)
 }
 
-/// What a line that can't be read was expected to have, in words.
+/// Returns a description of what was expected in a line that can't be read.
 fn expected_words(expected: Expected) -> &'static [u8]
     ensures { result.now ≡ expected_words expected }
 {
@@ -81,7 +81,7 @@ fn push_expected(out: &mut Vec<u8>, expected: Expected) -> Result<(), AllocError
     push_parts(out, b": expected ", expected_words(expected), b"\n")
 }
 
-/// Appends the comment on a line that can't be read. An `Err` may have added some of it.
+/// Appends the comment about a line that can't be read. If an allocation fails, part of it may have been appended.
 pub fn push_wrong(
     out: &mut Vec<u8>,
     number: u64,
@@ -95,21 +95,23 @@ pub fn push_wrong(
     push_expected(out, expected)
 }
 
-/// Appends the comment on a line whose call is too long for a frame. An `Err` may have added some of it.
+/// Appends the comment about a line whose call is too long for a frame. If an allocation fails, part of it may have
+/// been appended.
 pub fn push_long(out: &mut Vec<u8>, number: u64) -> Result<(), AllocError>
     ensures { OnOk result (out.new.items ≡ out.old.items ++ long_line number) }
 {
     push_comment(out, number, b": a message that is too long for a frame\n")
 }
 
-/// Appends the comment on a line whose call got an answer that isn't one to it. An `Err` may have added some of it.
+/// Appends the comment about a line whose call got a frame that isn't a reply to it. If an allocation fails, part of it
+/// may have been appended.
 pub fn push_strange(out: &mut Vec<u8>, number: u64) -> Result<(), AllocError>
     ensures { OnOk result (out.new.items ≡ out.old.items ++ strange_line number) }
 {
     push_comment(out, number, b": a reply that isn't one of this call\n")
 }
 
-/// Appends the line of a call and its answer. An `Err` may have added some of it.
+/// Appends the line of a call and its reply. If an allocation fails, part of it may have been appended.
 #[tactic(auto, unfolding(crate::specs::Telling::answered_line))]
 pub fn push_answered(out: &mut Vec<u8>, call: &Call, reply: &Reply) -> Result<(), AllocError>
     ensures { OnOk result (out.new.items ≡ out.old.items ++ answered_line call.now reply.now) }
@@ -119,7 +121,7 @@ pub fn push_answered(out: &mut Vec<u8>, call: &Call, reply: &Reply) -> Result<()
     out.extend_from_slice(b"\n")
 }
 
-/// Appends the beginning of the comment on a line that gives another answer.
+/// Appends the beginning of the comment about a line with another reply.
 #[tactic(auto, unfolding(crate::specs::Telling::expected_place))]
 fn push_expected_place(out: &mut Vec<u8>, number: u64) -> Result<(), AllocError>
     ensures { OnOk result (out.new.items ≡ out.old.items ++ expected_place number) }
@@ -127,7 +129,8 @@ fn push_expected_place(out: &mut Vec<u8>, number: u64) -> Result<(), AllocError>
     push_comment(out, number, b", expected: ")
 }
 
-/// Appends the comment on a line that gives another answer than its call got. An `Err` may have added some of it.
+/// Appends the comment about a line with another reply than its call got. If an allocation fails, part of it may have
+/// been appended.
 pub fn push_difference(
     out: &mut Vec<u8>,
     number: u64,
@@ -140,7 +143,7 @@ pub fn push_difference(
     push_answered(out, call, wanted)
 }
 
-/// Whether two replies are written as the same line.
+/// Returns true if two replies have the same line.
 pub fn is_same_reply(alloc: Global, reply: &Reply, wanted: &Reply) -> Result<bool, AllocError>
     ensures { IfOk result (λ same. same ≡ is_same_reply reply.now wanted.now) }
 {
