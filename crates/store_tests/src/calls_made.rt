@@ -70,7 +70,7 @@ fn answers_so<M: Machine>(machine: &mut M) -> bool {
     both_answers(machine, 1, Asked::Allocate(1)) == [Some(None); 2]
 }
 
-/// Whether they get these answers in a state with one port.
+/// Returns true if they get these answers in a state with one port.
 fn answers_alongside_one_port<M: Machine + Drop>(alloc: Global) -> Option<bool> {
     let mut machine: M = after_allocated(alloc, 1, 0x100)?;
     let answers = answers_so(&mut machine);

@@ -178,7 +178,7 @@ fn pieces_of_any_size(rt: HostRuntime) {
     }
 }
 
-// Whether a fault is reported in these words.
+// Returns true if a fault is reported in these words.
 fn is_reported(alloc: Global, fault: StoreFault, words: &str) -> Option<bool> {
     let reported = format!(in alloc; "{fault}").ok()?;
     Some(reported.as_str() == words)

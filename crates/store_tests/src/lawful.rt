@@ -131,12 +131,12 @@ fn snapshot(
     })
 }
 
-/// Whether a state is a lawful one. It has no clause, so that a test's proof carries nothing of it.
+/// Returns true if a state is a lawful one. It has no clause, so that a test's proof carries nothing of it.
 fn is_lawful(alloc: Global, snapshot: &Snapshot) -> Option<bool> {
     lawful(alloc, snapshot).ok()
 }
 
-/// Whether these rows are those of a lawful state.
+/// Returns true if these rows are those of a lawful state.
 fn verdict(
     alloc: Global,
     third: Option<Entry>,
@@ -152,7 +152,7 @@ fn verdict(
 /// Port 1 is in the set, and the receive right of port 2 is in its queue.
 static USUAL: [PortRow; 2] = [(1, Some(0x101), Some(2), false), (2, None, None, false)];
 
-/// Whether the usual ports are lawful together with what 0x102 stands for.
+/// Returns true if the usual ports are lawful together with what 0x102 stands for.
 fn usual(alloc: Global, third: Option<Entry>) -> Option<bool> {
     verdict(alloc, third, &USUAL, &[None])
 }
