@@ -33,8 +33,7 @@ passes_then old mid new P Q first second less = record {
   ];
 }
 
--- The contents that a crash after a call may leave: those that it might have left before, or those that the call makes
--- of them.
+-- The possible contents after a crash following a call: the former ones, or their changes by the call.
 pub left_after : (old new : View) (P : Slots → Type 0) → Passes old new P → (c : Slots) → MayLeave new c
     → MayLeave old c ⊎ P c
 left_after old new P time c left = elim (cases_lt old.moment new.moment) [

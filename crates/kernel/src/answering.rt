@@ -20,10 +20,10 @@ use number_table::NumberTable;
 use port_calls::IpcState;
 use std::alloc::{AllocError, Global};
 
-/// What a space keeps once its call is committed.
+/// The kept reply of a space once its call is committed.
 #[derive(Drop)]
 pub enum Keeping {
-    /// What it kept before the call.
+    /// The reply that the space kept before the call.
     Same,
     /// Nothing: the call removed the space.
     Nothing,

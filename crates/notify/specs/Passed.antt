@@ -1,2 +1,2 @@
--- Re-exports of what crates above use of the libraries below, so that they name only this one.
+-- Re-exports from libraries below, so that crates above name only this one.
 pub use Rattle.ipc_state.specs.Passed.{PortNumbers, numbers_of}

@@ -71,7 +71,7 @@ impl<V> NumberMap<V> {
         self.entries.get(&key)
     }
 
-    /// Returns the value of a key for changes in place. What the borrow leaves there becomes the key's value.
+    /// Returns the value of a key for changes in place. The value that the borrow leaves there becomes the key's value.
     pub fn get_mut(&mut self, key: u128) -> Option<&mut V>
         ensures* writes_back { sem 𝓛 (LendsIf (the_row V.row) V.row self.entry result
             (map.insert self.old key) self.old) }

@@ -52,7 +52,8 @@ impl<V> NumberTable<V> {
         }
     }
 
-    /// Returns the value of a number for changes in place. What the borrow leaves there becomes the number's value.
+    /// Returns the value of a number for changes in place. The value that the borrow leaves there becomes the number's
+    /// value.
     pub fn get_mut(&mut self, number: u32) -> Option<&mut V>
         ensures* writes_back { sem 𝓛 (LendsIf (the_row V.row) V.row self.entry result
             (map.insert self.old number) self.old) }

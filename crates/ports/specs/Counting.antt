@@ -117,7 +117,7 @@ back : (a b : Bool) → b ≡ true → (a || b) ≡ true
 back true b e = refl
 back false b e = e
 
--- The values that the counts stand for.
+-- The values that are counted.
 pub place_counted_more : (f : Weight → ℕ) (counts : Counts) (what : RightKind) (port : PortInMessage)
     → Fit (is_port port) → AreCounted f counts
     → AreCounted (λ w. f w + place_weigh w what port) (place_more counts what port)

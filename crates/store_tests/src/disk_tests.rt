@@ -519,8 +519,8 @@ static CUT: [DeviceStep; 2] = [
     DeviceStep::Sync(Slot::Image0),
 ];
 
-// Returns these numbers after each sync of a slot: one without a file, a new one, one that was written again, one that
-// wasn't, and another new one.
+// Returns these numbers after each sync of a slot: without a file, with a new file, after a rewrite, without a change,
+// and with another new file.
 fn count_syncs<F: Folder>(folder: &F, syncs: &Syncs) -> Option<[Option<(u32, u32)>; 5]> {
     let mut disk = folder.files().ok()?;
     Some([

@@ -96,8 +96,8 @@ full_port state serial other change keeps = go (finmap.get state.ports serial) r
         ∙ at_key port there (eq_by_cmp nat_cmp other serial) refl
         ∙ sym (as_fullness (finmap.get state.ports other))
 
--- The wanted names have the same entries in both states; the port of the name `remote` is wanted; and each wanted port
--- whose queue is full in the first state has a full queue in the second.
+-- The wanted names have the same entries in both states; the wanted ports include that of the name `remote`; and each
+-- wanted port whose queue is full in the first state has a full queue in the second.
 module _ (space remote : ℕ) (wanted wanted_port : ℕ → Type 0) where
   pub record Alike (one other : Ipc) : Type 0 where
     pub entries : (name : ℕ) → wanted name → entry_at other space name ≡ entry_at one space name
