@@ -1,3 +1,3 @@
--- Re-exports from `ipc_state` for crates above.
+-- Re-exports from `rights` for crates above.
 pub use Rattle.rights.specs.Passed.{Running}
 pub use Rattle.rights.specs.Passed.{IsNextEntry, entries_from, from_end, from_first, from_next}
