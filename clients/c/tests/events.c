@@ -90,7 +90,7 @@ static void refusals(void) {
     CHECK_OK(mach_port_destroy(SELF, other));
     CHECK(is_readable(LONG));
     kern_return_t code = receive(other, &note);
-    CHECK(code == MACH_RCV_PORT_DIED || code == MACH_RCV_INVALID_NAME); /* depending on whether the wait or the end comes first */
+    CHECK(code == MACH_RCV_PORT_DIED || code == MACH_RCV_INVALID_NAME); /* depending on which comes first */
     CHECK(!is_readable(0));
     CHECK_OK(send_to(port, 6));
     CHECK_CODE(machipc_receive(&note.head, MACH_RCV_LARGE, sizeof note.head, port), MACH_RCV_TOO_LARGE);
