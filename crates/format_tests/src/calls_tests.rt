@@ -80,7 +80,7 @@ fn record_encodings(alloc: Global, line: &str, encoding: &[u8]) -> Option<[Optio
     ])
 }
 
-// Returns true if one call is asked for, and this is its encoding.
+// Returns true if a request is for one call, and this is its encoding.
 fn is_asked_as(alloc: Global, request: &Request, encoding: &[u8]) -> Option<bool> {
     match request {
         Request::One(call) => is_encoded_as(alloc, call, encoding),

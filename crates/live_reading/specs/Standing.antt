@@ -1,4 +1,4 @@
--- The state that copies of a store represent which are made while its server runs.
+-- The state that is represented by copies of a store made while its server runs.
 use Rattle.disk.specs.Slots.{Slots}
 use Rattle.ipc_model.specs.store.Recovery.{Recovered}
 use Rattle.store_layout.specs.Standing.{as_written}

@@ -157,7 +157,7 @@ fn usual(alloc: Global, third: Option<Entry>) -> Option<bool> {
     verdict(alloc, third, &USUAL, &[None])
 }
 
-/// Refused are a second receive right to a port, a right to a dead port, and too few or too many references.
+/// A second receive right to a port, a right to a dead port, and too few or too many references are refused.
 #[test]
 fn names_are_looked_at(rt: HostRuntime) {
     for (third, wanted) in [

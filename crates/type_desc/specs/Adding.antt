@@ -14,7 +14,7 @@ keeps_added old new added is = record { front = ap (take (length old)) is ∙ ta
 abbrev pub descriptor_with : Item → ℕ → List ℕ
 descriptor_with item type_name = descriptor_encoding (record item { type_name = type_name }) item.is_long
 
--- a short descriptor has room for this type
+-- a descriptor, if it is short, has room for this type
 abbrev pub FitsShort : Bool → ℕ → Type 0
 FitsShort is_long type_name = is_long ≡ false → type_name < 2 ^ 8
 
