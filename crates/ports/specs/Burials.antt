@@ -345,7 +345,7 @@ target_buried look stays serial ports none q =
     by true same = sym (ap (target_at look ports) (key_is q serial same) ∙ none)
     by false apart = each (get ports q)
 
--- a port that a message names after the death, it named before
+-- a message that names a port after the death named it before
 place_mentions : (serial s : ℕ) (port : PortInMessage) → is_port (carried_after_death serial port) s ≡ true
     → is_port port s ≡ true
 place_mentions serial s in_message.Null to = to

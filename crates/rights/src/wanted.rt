@@ -7,8 +7,8 @@ ghost use Rattle.rights.specs.Wanting.{named_after, names_port};
 use ipc_model::{CarriedRight, PortInMessage, RightKind};
 use ipc_state::IpcState;
 
-/// Returns the number of new names that rights need which arrive in a space one after another: one for each send-once
-/// right to a port, and one for each port without a name there. It allocates nothing.
+/// Returns the number of new names for rights that arrive in a space one after another: one for each send-once right to
+/// a port, and one for each port without a name there. It allocates nothing.
 pub fn names_needed(state: &IpcState, space: u32, rights: &[CarriedRight]) -> usize
     ensures wanted { result ≡ names_needed (names_in state.now.current space) [] rights.now }
     ensures few { result ≤ length rights.now }
